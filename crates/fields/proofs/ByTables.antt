@@ -1,0 +1,138 @@
+-- Lent the tables of a field, the functions over tables give the field's powers, products and inverses; and a law for each way
+-- through those functions. Assumes nothing.
+use mathlib.Core.Path.{_≡_, refl, sym, ap, ap₂, _∙_}
+use mathlib.Core.List.{List}
+use Prim.Native.Nat.{ℕ, zero, suc, _+_, _-_, _*_, _/_, _%_, _^_, _≤_, _<_}
+use native.Mathlib.Nat.{add-assoc, add-zero, div-add-mod', add-comm, mod-eq-of-lt, mod-eq-sub-mod, mod-lt, suc-mul, zero-mul, zero-lt-suc, add-sub-of-le}
+use native.Mathlib.Decide.{ℕ-discrete}
+use native.Mathlib.Omega.{arith}
+use borrow.Author.Tests.{eq-eqb, ne-eqb}
+use lib.Bits.{bitAnd, and-le-r, and-mask, and-zero-r}
+use lib.ListN.{length, getD, List·getD-eq-default}
+use lib.Pow.{pow-mono, pow-pos}
+use Rattle.fields.specs.Elements.{times, power, exponent, inverse, powers, exponents}
+use Rattle.fields.specs.Field.{Field}
+use Rattle.fields.specs.ByTables.{placeIn, tablePower, productAt, tableProduct, inverseAt, tableInverse, Lent}
+use Rattle.fields.proofs.Lists.{tabulate-at, tabulate-length}
+
+-- places
+pub place-none : (n x : ℕ) → n ≡ 0 → 0 ≡ placeIn n x
+unfolding placeIn
+place-none n x e = rw e (sym (and-zero-r x))
+
+pub place-some : (n x w : ℕ) → w ≡ x → bitAnd w (n - 1) ≡ placeIn n x
+unfolding placeIn
+place-some n x w e = rw e
+
+pub place-lt : (n x a : ℕ) → a ≡ placeIn n x → (a ≡ 0 → ⊥) → a < n
+unfolding placeIn
+place-lt n x a e ne = go n a (rw (← e) at (and-le-r x (n - 1))) ne
+  where
+    go : (n a : ℕ) → a ≤ n - 1 → (a ≡ 0 → ⊥) → a < n
+    go n zero h ne = absurd (ne refl)
+    go n (suc a) h ne = omega arith
+
+-- a remainder by subtractions
+pub mod-less : (n k a : ℕ) → k % n ≡ a → n ≤ k → (k - n) % n ≡ a
+mod-less n k a e h = sym (mod-eq-sub-mod h) ∙ e
+
+pub mod-below : (n k a : ℕ) → k % n ≡ a → k < n → k ≡ a
+mod-below n k a e h = sym (mod-eq-of-lt h) ∙ e
+
+-- reading the table of powers
+pub power-none : (es : List ℕ) (i : ℕ) → length es ≡ 0 → 0 ≡ tablePower es i
+unfolding tablePower
+power-none es i e = sym (List·getD-eq-default es 0 {n = i % length es} (omega arith))
+
+pub power-read : (es : List ℕ) (i k : ℕ) → k ≡ i % length es → getD es k 0 ≡ tablePower es i
+unfolding tablePower
+power-read es i k e = rw e
+
+pub power-widened : (es : List ℕ) (i w r : ℕ) → w ≡ i → r ≡ tablePower es w → r ≡ tablePower es i
+power-widened es i w r e h = rw (← e) h
+
+-- the ways through a product
+module _ (es ls : List ℕ) (x y a : ℕ) (ea : a ≡ placeIn (length ls) x) where
+  pub product-left : a ≡ 0 → 0 ≡ tableProduct es ls x y
+  unfolding tableProduct productAt
+  product-left z = rw (← ea, eq-eqb a 0 z)
+
+  module _ (na : a ≡ 0 → ⊥) (b : ℕ) (eb : b ≡ placeIn (length ls) y) where
+    pub product-right : b ≡ 0 → 0 ≡ tableProduct es ls x y
+    unfolding tableProduct productAt
+    product-right z = rw (← ea, ← eb, ne-eqb a 0 na, eq-eqb b 0 z)
+
+    pub product-both : (b ≡ 0 → ⊥) → (i j r : ℕ) → i ≡ getD ls a 0 → j ≡ getD ls b 0 → r ≡ tablePower es (i + j) → r ≡ tableProduct es ls x y
+    unfolding tableProduct productAt
+    product-both nb i j r ei ej e = rw (← ea, ← eb, ne-eqb a 0 na, ne-eqb b 0 nb, ← ei, ← ej) e
+
+-- the ways through an inverse
+module _ (es ls : List ℕ) (x a : ℕ) (ea : a ≡ placeIn (length ls) x) where
+  pub inverse-none : a ≡ 0 → 0 ≡ tableInverse es ls x
+  unfolding tableInverse inverseAt
+  inverse-none z = rw (← ea, eq-eqb a 0 z)
+
+  pub inverse-some : (a ≡ 0 → ⊥) → (i k r : ℕ) → i ≡ getD ls a 0 → k ≡ length es - i → r ≡ tablePower es k → r ≡ tableInverse es ls x
+  unfolding tableInverse inverseAt
+  inverse-some na i k r ei ek e = rw (← ea, ne-eqb a 0 na, ← ei, ← ek) e
+
+-- the tables of a field
+module _ (m p : ℕ) (F : Field m p) where
+  some-powers : 0 < 2 ^ m - 1
+  some-powers = let two : 2 ^ 1 ≤ 2 ^ m = pow-mono (F .some) in omega arith
+
+  cycles : (c i : ℕ) → power m p (c * (2 ^ m - 1) + i) ≡ power m p i
+  cycles zero i = ap (power m p) (omega arith)
+  cycles (suc c) i =
+      ap (power m p) (ap (λ (k : ℕ). k + i) (suc-mul c (2 ^ m - 1)) ∙ omega arith) ∙ F .power-cycle (c * (2 ^ m - 1) + i) ∙ cycles c i
+
+  pub table-power : (i : ℕ) → tablePower (powers m p) i ≡ power m p i
+  unfolding tablePower powers
+  table-power i =
+      rw (tabulate-length (2 ^ m - 1) (power m p))
+      (tabulate-at (2 ^ m - 1) (power m p) (i % (2 ^ m - 1)) 0 (mod-lt i some-powers) ∙ sym (cycles (i / (2 ^ m - 1)) (i % (2 ^ m - 1)))
+      ∙ ap (power m p) (div-add-mod' i (2 ^ m - 1)))
+
+  powers-length : length (powers m p) ≡ 2 ^ m - 1
+  unfolding powers
+  powers-length = tabulate-length (2 ^ m - 1) (power m p)
+
+  place-is : (x : ℕ) → placeIn (length (exponents m p)) x ≡ x % 2 ^ m
+  unfolding placeIn exponents
+  place-is x = rw (tabulate-length (2 ^ m) (exponent m p)) (and-mask x m)
+
+  log-at : (a : ℕ) → a < 2 ^ m → getD (exponents m p) a 0 ≡ exponent m p a
+  unfolding exponents
+  log-at a h = tabulate-at (2 ^ m) (exponent m p) a 0 h
+
+  product-is : (a b : ℕ) → a < 2 ^ m → b < 2 ^ m → Dec (a ≡ 0) → Dec (b ≡ 0) → productAt (powers m p) (exponents m p) a b ≡ times m p a b
+  unfolding productAt
+  product-is a b ha hb (yes z) d = rw z (sym (F .times-comm 0 b (pow-pos m) hb ∙ F .times-zero b))
+  product-is a b ha hb (no n) (yes z) = rw (ne-eqb a 0 n, z) (sym (F .times-zero a))
+  product-is a b ha hb (no n) (no k) =
+      rw (ne-eqb a 0 n, ne-eqb b 0 k, log-at a ha, log-at b hb, table-power) (sym (F .times-exponents a b (omega arith) ha (omega arith) hb))
+
+  pub table-product : (x y : ℕ) → tableProduct (powers m p) (exponents m p) x y ≡ times m p (x % 2 ^ m) (y % 2 ^ m)
+  unfolding tableProduct
+  table-product x y =
+      rw (place-is x, place-is y)
+      (product-is (x % 2 ^ m) (y % 2 ^ m) (mod-lt x (pow-pos m)) (mod-lt y (pow-pos m)) (ℕ-discrete (x % 2 ^ m) 0) (ℕ-discrete (y % 2 ^ m) 0))
+
+  inverse-is : (a : ℕ) → a < 2 ^ m → Dec (a ≡ 0) → inverseAt (powers m p) (exponents m p) a ≡ inverse m p a
+  unfolding inverseAt
+  inverse-is a ha (yes z) = rw z (sym (F .inverse-zero))
+  inverse-is a ha (no n) = rw (ne-eqb a 0 n, log-at a ha, table-power, powers-length) (sym (F .inverse-exponent a (omega arith) ha))
+
+  pub table-inverse : (x : ℕ) → tableInverse (powers m p) (exponents m p) x ≡ inverse m p (x % 2 ^ m)
+  unfolding tableInverse
+  table-inverse x = rw (place-is x) (inverse-is (x % 2 ^ m) (mod-lt x (pow-pos m)) (ℕ-discrete (x % 2 ^ m) 0))
+
+-- what the tables give, lent those of a field
+pub power-lent : (es : List ℕ) (i r m p : ℕ) → r ≡ tablePower es i → Field m p → es ≡ powers m p → r ≡ power m p i
+power-lent es i r m p e F ee = e ∙ rw ee (table-power m p F i)
+
+pub product-lent : (es ls : List ℕ) (x y r m p : ℕ) → r ≡ tableProduct es ls x y → Lent m p es ls → r ≡ times m p (x % 2 ^ m) (y % 2 ^ m)
+product-lent es ls x y r m p e L = e ∙ rw (L .exp, L .log) (table-product m p (L .field) x y)
+
+pub inverse-lent : (es ls : List ℕ) (x r m p : ℕ) → r ≡ tableInverse es ls x → Lent m p es ls → r ≡ inverse m p (x % 2 ^ m)
+inverse-lent es ls x r m p e L = e ∙ rw (L .exp, L .log) (table-inverse m p (L .field) x)

@@ -1,0 +1,21 @@
+-- The two fields. Assumes nothing.
+use mathlib.Core.Path.{refl}
+use lib.Dec.{lit<}
+use Rattle.fields.specs.Elements.{xor, scale, doubled}
+use Rattle.fields.specs.Field.{Field}
+use Rattle.fields.proofs.Cycle.{Cyclic, cyclic}
+use Rattle.fields.proofs.Laws.{field}
+
+cyclic-a : Cyclic 10 1033
+unfolding doubled scale xor
+cyclic-a = cyclic 10 1033 (lit< tt) tt refl
+
+pub field-a : Field 10 1033
+field-a = field 10 1033 cyclic-a
+
+cyclic-b : Cyclic 11 2053
+unfolding doubled scale xor
+cyclic-b = cyclic 11 2053 (lit< tt) tt refl
+
+pub field-b : Field 11 2053
+field-b = field 11 2053 cyclic-b

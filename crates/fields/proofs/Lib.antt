@@ -1,0 +1,14 @@
+-- The laws of binary fields and of their tables, in the order in which they rest on each other.
+pub mod Xor
+pub mod Times
+pub mod Lists
+pub mod Onto
+pub mod Cycle
+pub mod Powers
+pub mod Laws
+pub mod Instances
+pub mod Rows
+pub mod TableTests
+pub mod ByTables
+
+-- pub mod Statements

@@ -1,0 +1,28 @@
+-- `fields::inverse` meets its contract. Assumes nothing.
+use borrow.Author.Needs.{needs}
+use Rattle.fields.proofs.ByTables.{inverse-none, inverse-lent, inverse-some, place-lt}
+use Rattle.fields.proofs.inverse.Statement.{statement}
+use Rattle.fields.proofs.inverse.Tie as tie
+
+place-requires : tie.Need-place-requires
+place-requires c κs = search needs
+
+returns : tie.Need-returns
+returns c = search (needs, inverse-none, inverse-lent)
+
+entry-requires : tie.Need-entry-requires
+entry-requires c κs = search (needs, place-lt)
+
+minus-requires : tie.Need-minus-requires
+minus-requires c κs = search needs
+
+power-at-requires : tie.Need-power-at-requires
+power-at-requires c κs = search needs
+
+returns-2 : tie.Need-returns-2
+returns-2 c = search (needs, inverse-some, inverse-lent)
+
+pub inverse-spec : {M : Type 1} → statement M
+inverse-spec =
+    tie.close
+    (tie.spec place-requires returns entry-requires minus-requires power-at-requires returns-2)

@@ -1,0 +1,14 @@
+-- `fields::log_a` meets its contract: the table gives at each power of 2 its exponent. Assumes nothing.
+use mathlib.Core.Path.{refl}
+use Rattle.fields.specs.Elements.{xor, scale, doubled}
+use Rattle.fields.proofs.Instances.{field-a}
+use Rattle.fields.proofs.TableTests.{exponents-are}
+use Rattle.fields.proofs.log_a.Statement.{statement}
+use Rattle.fields.proofs.log_a.Tie as tie
+
+returns : tie.Need-returns
+unfolding doubled scale xor
+returns c = exponents-are 10 1033 field-a _ refl refl tt
+
+pub log-a-spec : {M : Type 1} → statement M
+log-a-spec = tie.close (tie.spec returns)

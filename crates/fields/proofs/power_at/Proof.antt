@@ -1,0 +1,24 @@
+-- `fields::power_at` meets its contract. Assumes nothing.
+use borrow.Author.Needs.{needs}
+use Rattle.fields.proofs.ByTables.{power-none, power-read}
+use Rattle.fields.proofs.power_at.Statement.{statement}
+use Rattle.fields.proofs.power_at.Tie as tie
+
+returns : tie.Need-returns
+returns c = search (needs, power-none)
+
+reduced-requires : tie.Need-reduced-requires
+reduced-requires c κs = search needs
+
+mul-result : tie.Need-mul-result
+mul-result c = search needs
+
+shared-slice-read-result : tie.Need-shared-slice-read-result
+shared-slice-read-result c = search needs
+
+returns-2 : tie.Need-returns-2
+returns-2 c = search (needs, power-read)
+
+pub power-at-spec : {M : Type 1} → statement M
+power-at-spec =
+    tie.close (tie.spec returns reduced-requires mul-result shared-slice-read-result returns-2)

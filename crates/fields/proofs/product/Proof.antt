@@ -1,0 +1,46 @@
+-- `fields::product` meets its contract. Assumes nothing.
+use borrow.Author.Needs.{needs}
+use Rattle.fields.proofs.ByTables.{product-left, product-lent, product-right, product-both, place-lt}
+use Rattle.fields.proofs.product.Statement.{statement}
+use Rattle.fields.proofs.product.Tie as tie
+
+place-requires : tie.Need-place-requires
+place-requires c κs = search needs
+
+returns : tie.Need-returns
+returns c = search (needs, product-left, product-lent)
+
+place-requires-2 : tie.Need-place-requires-2
+place-requires-2 c κs = search needs
+
+returns-2 : tie.Need-returns-2
+returns-2 c = search (needs, product-right, product-lent)
+
+entry-requires : tie.Need-entry-requires
+entry-requires c κs = search (needs, place-lt)
+
+entry-requires-2 : tie.Need-entry-requires-2
+entry-requires-2 c κs = search (needs, place-lt)
+
+add-power-at : tie.Need-add-power-at
+add-power-at c = search needs
+
+power-at-requires : tie.Need-power-at-requires
+power-at-requires c κs = search needs
+
+returns-3 : tie.Need-returns-3
+returns-3 c = search (needs, product-both, product-lent)
+
+pub product-spec : {M : Type 1} → statement M
+product-spec =
+    tie.close
+    (tie.spec
+    place-requires
+    returns
+    place-requires-2
+    returns-2
+    entry-requires
+    entry-requires-2
+    add-power-at
+    power-at-requires
+    returns-3)

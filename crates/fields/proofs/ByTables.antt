@@ -1,18 +1,18 @@
 -- Lent the tables of a field, the functions over tables give the field's powers, products and inverses; and a law for each way
 -- through those functions. Assumes nothing.
-use mathlib.Core.Path.{_≡_, refl, sym, ap, ap₂, _∙_}
+use mathlib.Core.Path.{_≡_, refl, sym, ap, _∙_}
 use mathlib.Core.List.{List}
-use Prim.Native.Nat.{ℕ, zero, suc, _+_, _-_, _*_, _/_, _%_, _^_, _≤_, _<_}
-use native.Mathlib.Nat.{add-assoc, add-zero, div-add-mod', add-comm, mod-eq-of-lt, mod-eq-sub-mod, mod-lt, suc-mul, zero-mul, zero-lt-suc, add-sub-of-le}
-use native.Mathlib.Decide.{ℕ-discrete}
+use Prim.Native.Nat.{ℕ, zero, suc, _+_, _-_, _%_, _^_, _≤_, _<_}
+use native.Mathlib.Nat.{mod-eq-of-lt, mod-eq-sub-mod, mod-lt}
+use native.Mathlib.Decide.{ℕ-discrete, decLt}
 use native.Mathlib.Omega.{arith}
-use borrow.Author.Tests.{eq-eqb, ne-eqb}
+use borrow.Author.Tests.{eq-eqb, le-ltb, lt-ltb, ne-eqb}
 use lib.Bits.{bitAnd, and-le-r, and-mask, and-zero-r}
 use lib.ListN.{length, getD, List·getD-eq-default}
 use lib.Pow.{pow-mono, pow-pos}
 use Rattle.fields.specs.Elements.{times, power, exponent, inverse, powers, exponents}
 use Rattle.fields.specs.Field.{Field}
-use Rattle.fields.specs.ByTables.{placeIn, tablePower, productAt, tableProduct, inverseAt, tableInverse, Lent}
+use Rattle.fields.specs.ByTables.{placeIn, wrapped, powerNear, tablePower, productAt, tableProduct, inverseAt, tableInverse, Lent}
 use Rattle.fields.proofs.Lists.{tabulate-at, tabulate-length}
 
 -- places
@@ -32,6 +32,15 @@ place-lt n x a e ne = go n a (rw (← e) at (and-le-r x (n - 1))) ne
     go n zero h ne = absurd (ne refl)
     go n (suc a) h ne = omega arith
 
+-- one subtraction
+pub wrapped-below : (n i : ℕ) → i < n → i ≡ wrapped n i
+unfolding wrapped
+wrapped-below n i h = rw (lt-ltb i n h)
+
+pub wrapped-above : (n i : ℕ) → n ≤ i → i - n ≡ wrapped n i
+unfolding wrapped
+wrapped-above n i h = rw (le-ltb i n h)
+
 -- a remainder by subtractions
 pub mod-less : (n k a : ℕ) → k % n ≡ a → n ≤ k → (k - n) % n ≡ a
 mod-less n k a e h = sym (mod-eq-sub-mod h) ∙ e
@@ -39,17 +48,24 @@ mod-less n k a e h = sym (mod-eq-sub-mod h) ∙ e
 pub mod-below : (n k a : ℕ) → k % n ≡ a → k < n → k ≡ a
 mod-below n k a e h = sym (mod-eq-of-lt h) ∙ e
 
--- reading the table of powers
+-- the ways through the reading of a power
+past : (es : List ℕ) (k : ℕ) → length es ≤ k → 0 ≡ getD es k 0
+past es k h = sym (List·getD-eq-default es 0 {n = k} h)
+
+pub near-read : (es : List ℕ) (i k : ℕ) → k ≡ wrapped (length es) i → getD es k 0 ≡ powerNear es i
+unfolding powerNear
+near-read es i k e = rw e
+
+pub near-past : (es : List ℕ) (i k : ℕ) → k ≡ wrapped (length es) i → length es ≤ k → 0 ≡ powerNear es i
+near-past es i k e h = past es k h ∙ near-read es i k e
+
 pub power-none : (es : List ℕ) (i : ℕ) → length es ≡ 0 → 0 ≡ tablePower es i
 unfolding tablePower
-power-none es i e = sym (List·getD-eq-default es 0 {n = i % length es} (omega arith))
+power-none es i e = past es (i % length es) (omega arith)
 
-pub power-read : (es : List ℕ) (i k : ℕ) → k ≡ i % length es → getD es k 0 ≡ tablePower es i
+pub power-read : (es : List ℕ) (i w k : ℕ) → w ≡ i → k ≡ w % length es → getD es k 0 ≡ tablePower es i
 unfolding tablePower
-power-read es i k e = rw e
-
-pub power-widened : (es : List ℕ) (i w r : ℕ) → w ≡ i → r ≡ tablePower es w → r ≡ tablePower es i
-power-widened es i w r e h = rw (← e) h
+power-read es i w k e h = rw (← e, h)
 
 -- the ways through a product
 module _ (es ls : List ℕ) (x y a : ℕ) (ea : a ≡ placeIn (length ls) x) where
@@ -62,7 +78,7 @@ module _ (es ls : List ℕ) (x y a : ℕ) (ea : a ≡ placeIn (length ls) x) whe
     unfolding tableProduct productAt
     product-right z = rw (← ea, ← eb, ne-eqb a 0 na, eq-eqb b 0 z)
 
-    pub product-both : (b ≡ 0 → ⊥) → (i j r : ℕ) → i ≡ getD ls a 0 → j ≡ getD ls b 0 → r ≡ tablePower es (i + j) → r ≡ tableProduct es ls x y
+    pub product-both : (b ≡ 0 → ⊥) → (i j r : ℕ) → i ≡ getD ls a 0 → j ≡ getD ls b 0 → r ≡ powerNear es (i + j) → r ≡ tableProduct es ls x y
     unfolding tableProduct productAt
     product-both nb i j r ei ej e = rw (← ea, ← eb, ne-eqb a 0 na, ne-eqb b 0 nb, ← ei, ← ej) e
 
@@ -72,7 +88,7 @@ module _ (es ls : List ℕ) (x a : ℕ) (ea : a ≡ placeIn (length ls) x) where
   unfolding tableInverse inverseAt
   inverse-none z = rw (← ea, eq-eqb a 0 z)
 
-  pub inverse-some : (a ≡ 0 → ⊥) → (i k r : ℕ) → i ≡ getD ls a 0 → k ≡ length es - i → r ≡ tablePower es k → r ≡ tableInverse es ls x
+  pub inverse-some : (a ≡ 0 → ⊥) → (i k r : ℕ) → i ≡ getD ls a 0 → k ≡ length es - i → r ≡ powerNear es k → r ≡ tableInverse es ls x
   unfolding tableInverse inverseAt
   inverse-some na i k r ei ek e = rw (← ea, ne-eqb a 0 na, ← ei, ← ek) e
 
@@ -81,21 +97,28 @@ module _ (m p : ℕ) (F : Field m p) where
   some-powers : 0 < 2 ^ m - 1
   some-powers = let two : 2 ^ 1 ≤ 2 ^ m = pow-mono (F .some) in omega arith
 
-  cycles : (c i : ℕ) → power m p (c * (2 ^ m - 1) + i) ≡ power m p i
-  cycles zero i = ap (power m p) (omega arith)
-  cycles (suc c) i =
-      ap (power m p) (ap (λ (k : ℕ). k + i) (suc-mul c (2 ^ m - 1)) ∙ omega arith) ∙ F .power-cycle (c * (2 ^ m - 1) + i) ∙ cycles c i
-
-  pub table-power : (i : ℕ) → tablePower (powers m p) i ≡ power m p i
-  unfolding tablePower powers
-  table-power i =
-      rw (tabulate-length (2 ^ m - 1) (power m p))
-      (tabulate-at (2 ^ m - 1) (power m p) (i % (2 ^ m - 1)) 0 (mod-lt i some-powers) ∙ sym (cycles (i / (2 ^ m - 1)) (i % (2 ^ m - 1)))
-      ∙ ap (power m p) (div-add-mod' i (2 ^ m - 1)))
-
   powers-length : length (powers m p) ≡ 2 ^ m - 1
   unfolding powers
   powers-length = tabulate-length (2 ^ m - 1) (power m p)
+
+  exp-at : (i : ℕ) → i < 2 ^ m - 1 → getD (powers m p) i 0 ≡ power m p i
+  unfolding powers
+  exp-at i h = tabulate-at (2 ^ m - 1) (power m p) i 0 h
+
+  pub table-power : (i : ℕ) → tablePower (powers m p) i ≡ power m p i
+  unfolding tablePower
+  table-power i = rw powers-length (exp-at (i % (2 ^ m - 1)) (mod-lt i some-powers) ∙ F .power-mod i)
+
+  near-power : (i : ℕ) → i < 2 ^ m - 1 + (2 ^ m - 1) → powerNear (powers m p) i ≡ power m p i
+  unfolding powerNear
+  near-power i h = rw powers-length (go (decLt i (2 ^ m - 1)))
+    where
+      go : Dec (i < 2 ^ m - 1) → getD (powers m p) (wrapped (2 ^ m - 1) i) 0 ≡ power m p i
+      go (yes l) = rw (← wrapped-below (2 ^ m - 1) i l) (exp-at i l)
+      go (no l) =
+          let h′ : 2 ^ m - 1 ≤ i = omega arith in
+          rw (← wrapped-above (2 ^ m - 1) i h′)
+          (exp-at (i - (2 ^ m - 1)) (omega arith) ∙ sym (F .power-mod (i - (2 ^ m - 1))) ∙ ap (power m p) (sym (mod-eq-sub-mod h′)) ∙ F .power-mod i)
 
   place-is : (x : ℕ) → placeIn (length (exponents m p)) x ≡ x % 2 ^ m
   unfolding placeIn exponents
@@ -110,7 +133,9 @@ module _ (m p : ℕ) (F : Field m p) where
   product-is a b ha hb (yes z) d = rw z (sym (F .times-comm 0 b (pow-pos m) hb ∙ F .times-zero b))
   product-is a b ha hb (no n) (yes z) = rw (ne-eqb a 0 n, z) (sym (F .times-zero a))
   product-is a b ha hb (no n) (no k) =
-      rw (ne-eqb a 0 n, ne-eqb b 0 k, log-at a ha, log-at b hb, table-power) (sym (F .times-exponents a b (omega arith) ha (omega arith) hb))
+      let la = F .exponent-lt a in
+      let lb = F .exponent-lt b in
+      rw (ne-eqb a 0 n, ne-eqb b 0 k, log-at a ha, log-at b hb, near-power (exponent m p a + exponent m p b) (omega arith)) (sym (F .times-exponents a b (omega arith) ha (omega arith) hb))
 
   pub table-product : (x y : ℕ) → tableProduct (powers m p) (exponents m p) x y ≡ times m p (x % 2 ^ m) (y % 2 ^ m)
   unfolding tableProduct
@@ -121,7 +146,7 @@ module _ (m p : ℕ) (F : Field m p) where
   inverse-is : (a : ℕ) → a < 2 ^ m → Dec (a ≡ 0) → inverseAt (powers m p) (exponents m p) a ≡ inverse m p a
   unfolding inverseAt
   inverse-is a ha (yes z) = rw z (sym (F .inverse-zero))
-  inverse-is a ha (no n) = rw (ne-eqb a 0 n, log-at a ha, table-power, powers-length) (sym (F .inverse-exponent a (omega arith) ha))
+  inverse-is a ha (no n) = rw (ne-eqb a 0 n, log-at a ha, powers-length, near-power (2 ^ m - 1 - exponent m p a) (omega (arith, some-powers))) (sym (F .inverse-exponent a (omega arith) ha))
 
   pub table-inverse : (x : ℕ) → tableInverse (powers m p) (exponents m p) x ≡ inverse m p (x % 2 ^ m)
   unfolding tableInverse

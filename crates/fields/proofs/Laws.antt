@@ -39,14 +39,11 @@ module _ (m p : ℕ) (C : Cyclic m p) where
       ap (λ (z : ℕ). times m p z (opposite x)) (sym (power-exponent x x0 hx)) ∙ Powers.power-sum m p C _ _
       ∙ ap (power m p) (add-sub-of-le (omega arith)) ∙ C .cycle
 
-  one-lt : 1 < 2 ^ m
-  one-lt = omega (arith, Powers.two-le m p C)
-
   -- an element has one inverse at most
   same-inverse : (x y z : ℕ) → x < 2 ^ m → y < 2 ^ m → z < 2 ^ m → times m p x y ≡ 1 → times m p x z ≡ 1 → y ≡ z
   same-inverse x y z hx hy hz ey ez =
-      sym (Times.times-one-r m p y hy one-lt) ∙ ap (times m p y) (sym ez) ∙ sym (Times.times-assoc m p (C .whole) y x z hy hx hz)
-      ∙ ap (λ (w : ℕ). times m p w z) (Times.times-comm m p y x hy hx ∙ ey) ∙ Times.times-one-l m p z hz
+      sym (Times.times-one m p (C .whole) (C .some) y hy) ∙ ap (times m p y) (sym ez) ∙ sym (Times.times-assoc m p (C .whole) y x z hy hx hz)
+      ∙ ap (λ (w : ℕ). times m p w z) (Times.times-comm m p y x hy hx ∙ ey) ∙ Times.one-times m p z hz
 
   inverse-lt : (x : ℕ) → inverse m p x < 2 ^ m
   unfolding inverse
@@ -64,7 +61,7 @@ module _ (m p : ℕ) (C : Cyclic m p) where
 
   inverse-zero : inverse m p 0 ≡ 0
   unfolding inverse
-  inverse-zero = find-none (λ y. eqb (times m p 0 y) 1) (2 ^ m) (λ y h. rw (Times.times-zero-l m p y))
+  inverse-zero = find-none (λ y. eqb (times m p 0 y) 1) (2 ^ m) (λ y h. rw (Times.zero-times m p y))
 
   pub field : Field m p
   field =
@@ -81,8 +78,8 @@ module _ (m p : ℕ) (C : Cyclic m p) where
         sum-times = Times.sum-times m p;
         times-comm = Times.times-comm m p;
         times-assoc = Times.times-assoc m p (C .whole);
-        times-one = λ x h. Times.times-one-r m p x h one-lt;
-        times-zero = Times.times-zero-r m p;
+        times-one = Times.times-one m p (C .whole) (C .some);
+        times-zero = Times.times-zero m p;
         square-sum = Times.square-sum m p;
         zero-product = zero-product;
         inverse-lt = inverse-lt;
@@ -91,7 +88,7 @@ module _ (m p : ℕ) (C : Cyclic m p) where
         power-lt = Powers.power-lt m p C;
         power-pos = Powers.power-pos m p C;
         power-sum = Powers.power-sum m p C;
-        power-cycle = Powers.power-cycle m p C;
+        power-mod = Powers.power-mod m p C;
         exponent-lt = Powers.exponent-lt m p C;
         power-exponent = power-exponent;
         exponent-power = Powers.exponent-power m p C;

@@ -1,5 +1,6 @@
 -- The laws of binary fields and of their tables, in the order in which they rest on each other.
 pub mod Xor
+pub mod Doubling
 pub mod Times
 pub mod Lists
 pub mod Onto
@@ -10,5 +11,4 @@ pub mod Instances
 pub mod Rows
 pub mod TableTests
 pub mod ByTables
-
--- pub mod Statements
+pub mod Statements

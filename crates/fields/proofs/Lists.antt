@@ -1,7 +1,7 @@
 -- Laws of lists given place by place, and of a number found by a test. Assumes nothing.
 use mathlib.Core.Path.{_≡_, refl, sym, ap, _∙_}
 use mathlib.Core.Bool.{Bool, true, false}
-use mathlib.Core.List.{List, [], _∷_}
+use mathlib.Core.List.{List}
 use mathlib.Core.Logic.{_⊎_, inl, inr}
 use Prim.Native.Nat.{ℕ, zero, suc, _≤_, _<_}
 use native.Mathlib.Nat.{eq-or-lt-of-le, le-of-suc-le-suc, le-refl, not-suc-le-zero}
@@ -55,7 +55,7 @@ find-le : (b : Bool) (n k : ℕ) → k ≤ n → pick b n k ≤ n
 find-le true n k h = le-refl n
 find-le false n k h = h
 
-pub find-most : (f : ℕ → Bool) (n : ℕ) → find f n ≤ n
+find-most : (f : ℕ → Bool) (n : ℕ) → find f n ≤ n
 unfolding find
 find-most f zero = le-refl 0
 find-most f (suc n) = omega (arith, find-le (f n) n (find f n) (find-most f n))

@@ -1,7 +1,7 @@
 -- A field in which 2 has the order 2^m - 1: each element but 0 is a power of 2, once, and has an exponent. Assumes nothing.
 use mathlib.Core.Path.{_≡_, refl, sym, ap, _∙_}
-use Prim.Native.Nat.{ℕ, zero, suc, _+_, _-_, _*_, _^_, _≤_, _<_}
-use native.Mathlib.Nat.{add-sub-of-le, mul-le-mul-left, suc-mul, zero-lt-suc, zero-mul}
+use Prim.Native.Nat.{ℕ, zero, suc, _+_, _-_, _*_, _/_, _%_, _^_, _≤_, _<_}
+use native.Mathlib.Nat.{add-sub-of-le, div-add-mod', mul-le-mul-left, suc-mul}
 use native.Mathlib.Decide.{decLe}
 use native.Mathlib.Omega.{arith}
 use borrow.Author.Tests.{ne-eqb}
@@ -21,32 +21,33 @@ module _ (m p : ℕ) (C : Cyclic m p) where
   power-lt = Times.power-lt m p (C .whole) (C .some)
 
   pub power-sum : (i j : ℕ) → times m p (power m p i) (power m p j) ≡ power m p (i + j)
-  power-sum = Times.power-add m p (C .whole) (C .some)
+  power-sum = Times.power-sum m p (C .whole) (C .some)
 
-  pub power-cycle : (i : ℕ) → power m p (i + (2 ^ m - 1)) ≡ power m p i
-  power-cycle i = sym (power-sum i (2 ^ m - 1)) ∙ ap (times m p (power m p i)) (C .cycle) ∙ Times.times-one-r m p (power m p i) (power-lt i) (omega (arith, two-le))
+  power-cycle : (i : ℕ) → power m p (i + (2 ^ m - 1)) ≡ power m p i
+  power-cycle i = sym (power-sum i (2 ^ m - 1)) ∙ ap (times m p (power m p i)) (C .cycle) ∙ Times.times-one m p (C .whole) (C .some) (power m p i) (power-lt i)
 
-  cycles : (c : ℕ) → power m p (c * (2 ^ m - 1)) ≡ 1
-  unfolding power
-  cycles zero = ap (power m p) (zero-mul (2 ^ m - 1))
-  cycles (suc c) = ap (power m p) (suc-mul c (2 ^ m - 1)) ∙ power-cycle (c * (2 ^ m - 1)) ∙ cycles c
+  cycles : (c i : ℕ) → power m p (c * (2 ^ m - 1) + i) ≡ power m p i
+  cycles zero i = ap (power m p) (omega arith)
+  cycles (suc c) i = ap (power m p) (ap (λ (k : ℕ). k + i) (suc-mul c (2 ^ m - 1)) ∙ omega arith) ∙ power-cycle (c * (2 ^ m - 1) + i) ∙ cycles c i
+
+  -- exponents count modulo 2^m - 1
+  pub power-mod : (i : ℕ) → power m p (i % (2 ^ m - 1)) ≡ power m p i
+  power-mod i = sym (cycles (i / (2 ^ m - 1)) (i % (2 ^ m - 1))) ∙ ap (power m p) (div-add-mod' i (2 ^ m - 1))
 
   -- what is multiplied up to the end of a cycle is not 0
   pub power-not-zero : (i : ℕ) → power m p i ≡ 0 → ⊥
+  unfolding power
   power-not-zero i e =
+      let k = i * (2 ^ m - 1) - i in
       let h : i * 1 ≤ i * (2 ^ m - 1) = mul-le-mul-left i (omega (arith, two-le)) in
-      let one : times m p 0 (power m p (i * (2 ^ m - 1) - i)) ≡ 1 =
-      ap (λ (x : ℕ). times m p x (power m p (i * (2 ^ m - 1) - i))) (sym e) ∙ power-sum _ _
-      ∙ ap (power m p) (add-sub-of-le (omega arith)) ∙ cycles i in
-      let none : times m p 0 (power m p (i * (2 ^ m - 1) - i)) ≡ 0 = Times.times-zero-l m p _ in
+      let q : i + k ≡ i * (2 ^ m - 1) + 0 = omega arith in
+      let one : times m p 0 (power m p k) ≡ 1 =
+      ap (λ (x : ℕ). times m p x (power m p k)) (sym e) ∙ power-sum i k ∙ ap (power m p) q ∙ cycles i 0 in
+      let none : times m p 0 (power m p k) ≡ 0 = Times.zero-times m p (power m p k) in
       omega arith
 
   pub power-pos : (i : ℕ) → 0 < power m p i
-  power-pos i = let h : power m p i ≡ 0 → ⊥ = power-not-zero i in go (power m p i) h
-    where
-      go : (x : ℕ) → (x ≡ 0 → ⊥) → 0 < x
-      go zero h = absurd (h refl)
-      go (suc x) h = zero-lt-suc x
+  power-pos i = let h : power m p i ≡ 0 → ⊥ = power-not-zero i in omega arith
 
   once-from : (i j : ℕ) → i ≤ j → j < 2 ^ m - 1 → power m p i ≡ power m p j → i ≡ j
   once-from i j h hj e =
@@ -58,7 +59,7 @@ module _ (m p : ℕ) (C : Cyclic m p) where
       omega arith
 
   -- below 2^m - 1, no two powers are the same
-  pub once : (i j : ℕ) → i < 2 ^ m - 1 → j < 2 ^ m - 1 → power m p i ≡ power m p j → i ≡ j
+  once : (i j : ℕ) → i < 2 ^ m - 1 → j < 2 ^ m - 1 → power m p i ≡ power m p j → i ≡ j
   once i j hi hj e = go (decLe i j)
     where
       go : Dec (i ≤ j) → i ≡ j
@@ -66,7 +67,7 @@ module _ (m p : ℕ) (C : Cyclic m p) where
       go (no h) = sym (once-from j i (omega arith) hi (sym e))
 
   -- so they are all the elements but 0
-  pub all : (x : ℕ) → 0 < x → x < 2 ^ m → (i : ℕ) × (i < 2 ^ m - 1) × (power m p i ≡ x)
+  all : (x : ℕ) → 0 < x → x < 2 ^ m → (i : ℕ) × (i < 2 ^ m - 1) × (power m p i ≡ x)
   all x x0 hx =
       let r =
       onto (2 ^ m - 1) (λ i. power m p i - 1) (λ i h. omega (arith, power-lt i, power-pos i))

@@ -1,10 +1,10 @@
 -- A list cut into rows. To read an entry of a list is to walk to it; by rows it is to walk to a row and along it, some 64 steps in a
 -- list of 2,048 entries, so that a test may look up every entry. Assumes nothing.
-use mathlib.Core.Path.{_≡_, _∙_, sym, ap}
+use mathlib.Core.Path.{_≡_, _∙_, ap}
 use mathlib.Core.Bool.{Bool}
 use mathlib.Core.List.{List, [], _∷_}
 use Prim.Native.Nat.{ℕ, zero, suc, _+_, _*_, _/_, _%_, _<_}
-use native.Mathlib.Nat.{add-assoc, add-comm, div-add-mod', le-of-suc-le-suc, mod-lt, not-suc-le-zero, suc-mul, zero-add, zero-mul}
+use native.Mathlib.Nat.{div-add-mod', le-of-suc-le-suc, mod-lt, not-suc-le-zero}
 use native.Mathlib.Omega.{arith}
 use lib.Dec.{T, lit<}
 use lib.ListN.{length, getD, take, drop}

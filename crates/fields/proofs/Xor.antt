@@ -2,7 +2,6 @@
 -- Assumes nothing.
 use mathlib.Core.Path.{_≡_, refl, sym, ap, _∙_}
 use Prim.Native.Nat.{ℕ, zero, suc, _+_, _*_, _/_, _%_, _^_, _<_}
-use native.Mathlib.Nat.{mod-lt, not-suc-le-zero, le-of-suc-le-suc}
 use native.Mathlib.Omega.{arith}
 use lib.Arith.{bin-ind}
 use lib.Bits as Bits
@@ -74,9 +73,6 @@ pub ruleset xor-sort = (xor-assoc, xor-comm, xor-left-comm)
 -- a sum of sums, regrouped
 pub xor-four : (a b c d : ℕ) → xor (xor a b) (xor c d) ≡ xor (xor a c) (xor b d)
 xor-four a b c d = simp xor-sort
-
-pub xor-eq : (a b : ℕ) → xor a b ≡ 0 → a ≡ b
-xor-eq a b e = sym (xor-zero-r a) ∙ ap (xor a) (sym e) ∙ xor-cancel a b
 
 pub xor-double : (a b : ℕ) → 2 * xor a b ≡ xor (2 * a) (2 * b)
 xor-double a b =

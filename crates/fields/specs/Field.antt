@@ -1,7 +1,7 @@
 -- What is proved of a field, for any degree m and polynomial p.
 use mathlib.Core.Path.{_≡_}
 use mathlib.Core.Logic.{_⊎_}
-use Prim.Native.Nat.{ℕ, _+_, _-_, _/_, _^_, _<_}
+use Prim.Native.Nat.{ℕ, _+_, _-_, _/_, _%_, _^_, _<_}
 use Rattle.fields.specs.Elements.{xor, times, power, exponent, inverse}
 
 -- the numbers below 2^m are a field of characteristic two, in which every element but 0 is a power of 2, once
@@ -30,11 +30,11 @@ pub record Field (m p : ℕ) : Type 0 where
   pub inverse-lt : (x : ℕ) → inverse m p x < 2 ^ m
   pub times-inverse : (x : ℕ) → 0 < x → x < 2 ^ m → times m p x (inverse m p x) ≡ 1
   pub inverse-zero : inverse m p 0 ≡ 0
-  -- powers multiply by adding exponents, and come round after 2^m - 1
+  -- powers multiply by adding exponents, which count modulo 2^m - 1
   pub power-lt : (i : ℕ) → power m p i < 2 ^ m
   pub power-pos : (i : ℕ) → 0 < power m p i
   pub power-sum : (i j : ℕ) → times m p (power m p i) (power m p j) ≡ power m p (i + j)
-  pub power-cycle : (i : ℕ) → power m p (i + (2 ^ m - 1)) ≡ power m p i
+  pub power-mod : (i : ℕ) → power m p (i % (2 ^ m - 1)) ≡ power m p i
   -- exponents and powers are each other's inverse
   pub exponent-lt : (x : ℕ) → exponent m p x < 2 ^ m - 1
   pub power-exponent : (x : ℕ) → 0 < x → x < 2 ^ m → power m p (exponent m p x) ≡ x

@@ -4,7 +4,7 @@ ghost use Prim.Native.Nat.{ℕ, _-_, _%_, _^_, _<_};
 ghost use lib.ListN.{length, getD};
 ghost use Rattle.fields.specs.Elements.{times, power, inverse, powersA, exponentsA, powersB, exponentsB, powers};
 ghost use Rattle.fields.specs.Field.{Field};
-ghost use Rattle.fields.specs.ByTables.{placeIn, tablePower, tableProduct, tableInverse, Lent};
+ghost use Rattle.fields.specs.ByTables.{placeIn, wrapped, powerNear, tablePower, tableProduct, tableInverse, Lent};
 
 mod tables;
 
@@ -37,7 +37,11 @@ pub fn power(exp: &[u16], i: u16) -> u16
     ensures by_table { λ r. ⌜ r ≡ tablePower (now (exp .entry)) i ⌝ }
     ensures in_field { λ r. ⌜ ((m p : ℕ) → Field m p → now (exp .entry) ≡ powers m p → r ≡ power m p i) ⌝ }
 {
-    power_at(exp, wide(i))
+    let n = exp.len();
+    if n == 0 {
+        return 0;
+    }
+    exp[reduced(wide(i), n)]
 }
 
 // The product of the elements that the low m bits of x and y are.
@@ -56,7 +60,7 @@ pub fn product(exp: &[u16], log: &[u16], x: u16, y: u16) -> u16
     }
     let i = entry(log, a);
     let j = entry(log, b);
-    power_at(exp, i + j)
+    power_near(exp, i + j)
 }
 
 // The inverse of the element that the low m bits of x are, and 0 for 0.
@@ -69,7 +73,7 @@ pub fn inverse(exp: &[u16], log: &[u16], x: u16) -> u16
         return 0;
     }
     let i = entry(log, a);
-    power_at(exp, minus(exp.len(), i))
+    power_near(exp, minus(exp.len(), i))
 }
 
 fn wide(x: u16) -> usize
@@ -102,32 +106,32 @@ fn place(n: usize, x: u16) -> usize
     wide(x) & (n - 1)
 }
 
-// i less n where i is not below n.
+// i, less n where it is not below n.
 fn wrapped(i: usize, n: usize) -> usize
-    requires { ⌜ 0 < n ⌝ }
-    ensures { λ r. ⌜ r % n ≡ i % n ⌝ }
+    ensures { λ r. ⌜ r ≡ wrapped n i ⌝ }
 {
     if i < n { i } else { i - n }
 }
 
-// i modulo n, without division: a sum of two exponents takes one subtraction.
+// The power at a sum of two exponents, by one comparison and one subtraction.
+fn power_near(exp: &[u16], i: usize) -> u16
+    ensures { λ r. ⌜ r ≡ powerNear (now (exp .entry)) i ⌝ }
+{
+    let k = wrapped(i, exp.len());
+    if k < exp.len() {
+        return exp[k];
+    }
+    0
+}
+
+// i modulo n, without division.
 fn reduced(i: usize, n: usize) -> usize
     requires { ⌜ 0 < n ⌝ }
     ensures { λ r. ⌜ (r ≡ i % n) × (r < n) ⌝ }
 {
-    let mut k = wrapped(i, n);
+    let mut k = i;
     while n <= k {
         k -= n;
     }
     k
-}
-
-fn power_at(exp: &[u16], i: usize) -> u16
-    ensures { λ r. ⌜ r ≡ tablePower (now (exp .entry)) i ⌝ }
-{
-    let n = exp.len();
-    if n == 0 {
-        return 0;
-    }
-    exp[reduced(i, n)]
 }

@@ -16,8 +16,8 @@ entry-requires c κs = search (needs, place-lt)
 minus-requires : tie.Need-minus-requires
 minus-requires c κs = search needs
 
-power-at-requires : tie.Need-power-at-requires
-power-at-requires c κs = search needs
+power-near-requires : tie.Need-power-near-requires
+power-near-requires c κs = search needs
 
 returns-2 : tie.Need-returns-2
 returns-2 c = search (needs, inverse-some, inverse-lent)
@@ -25,4 +25,4 @@ returns-2 c = search (needs, inverse-some, inverse-lent)
 pub inverse-spec : {M : Type 1} → statement M
 inverse-spec =
     tie.close
-    (tie.spec place-requires returns entry-requires minus-requires power-at-requires returns-2)
+    (tie.spec place-requires returns entry-requires minus-requires power-near-requires returns-2)

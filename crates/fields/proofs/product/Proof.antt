@@ -22,11 +22,11 @@ entry-requires c κs = search (needs, place-lt)
 entry-requires-2 : tie.Need-entry-requires-2
 entry-requires-2 c κs = search (needs, place-lt)
 
-add-power-at : tie.Need-add-power-at
-add-power-at c = search needs
+add-power-near : tie.Need-add-power-near
+add-power-near c = search needs
 
-power-at-requires : tie.Need-power-at-requires
-power-at-requires c κs = search needs
+power-near-requires : tie.Need-power-near-requires
+power-near-requires c κs = search needs
 
 returns-3 : tie.Need-returns-3
 returns-3 c = search (needs, product-both, product-lent)
@@ -41,6 +41,6 @@ product-spec =
     returns-2
     entry-requires
     entry-requires-2
-    add-power-at
-    power-at-requires
+    add-power-near
+    power-near-requires
     returns-3)

@@ -12,9 +12,6 @@ Inv-loop i n k₀ k = k % n ≡ i % n
 abbrev μ-loop : tie.MeasureT-loop
 μ-loop i n k₀ k = k
 
-wrapped-requires : tie.Need-wrapped-requires Inv-loop μ-loop
-wrapped-requires c κs = search needs
-
 loop-holds : tie.Need-loop-holds Inv-loop μ-loop
 loop-holds c = search needs
 
@@ -28,4 +25,4 @@ returns : tie.Need-returns Inv-loop μ-loop
 returns c = search (needs, mod-below)
 
 pub reduced-spec : {M : Type 1} → statement M
-reduced-spec = tie.close (tie.spec Inv-loop μ-loop wrapped-requires loop-holds loop-less loop-again returns)
+reduced-spec = tie.close (tie.spec Inv-loop μ-loop loop-holds loop-less loop-again returns)

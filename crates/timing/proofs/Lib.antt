@@ -1,0 +1,2 @@
+-- The laws that the kernels' proofs cite.
+pub mod Chains

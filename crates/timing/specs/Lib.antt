@@ -1,0 +1,2 @@
+-- What the kernels of bench/ compute.
+pub mod Chains

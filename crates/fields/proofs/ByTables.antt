@@ -1,101 +1,24 @@
--- Lent the tables of a field, the functions over tables give the field's powers, products and inverses; and a law for each way
--- through those functions. Assumes nothing.
-use mathlib.Core.Path.{_≡_, refl, sym, ap, _∙_}
+-- Lent the tables of a field, the functions over tables give the field's powers, products and inverses. For any degree m and polynomial p.
+-- Assumes nothing.
+use mathlib.Core.Path.{_≡_, sym, ap, _∙_}
 use mathlib.Core.List.{List}
-use Prim.Native.Nat.{ℕ, zero, suc, _+_, _-_, _%_, _^_, _≤_, _<_}
-use native.Mathlib.Nat.{mod-eq-of-lt, mod-eq-sub-mod, mod-lt}
+use Prim.Native.Nat.{ℕ, _+_, _-_, _%_, _^_, _≤_, _<_}
+use native.Mathlib.Nat.{mod-eq-sub-mod, mod-lt}
 use native.Mathlib.Decide.{ℕ-discrete, decLt}
 use native.Mathlib.Omega.{arith}
-use borrow.Author.Tests.{eq-eqb, le-ltb, lt-ltb, ne-eqb}
-use lib.Bits.{bitAnd, and-le-r, and-mask, and-zero-r}
-use lib.ListN.{length, getD, List·getD-eq-default}
+use borrow.Author.Tests.{ne-eqb}
+use lib.Bits.{and-mask}
+use lib.ListN.{length, getD}
 use lib.Pow.{pow-mono, pow-pos}
 use Rattle.fields.specs.Elements.{times, power, exponent, inverse, powers, exponents}
 use Rattle.fields.specs.Field.{Field}
 use Rattle.fields.specs.ByTables.{placeIn, wrapped, powerNear, tablePower, productAt, tableProduct, inverseAt, tableInverse, Lent}
 use Rattle.fields.proofs.Lists.{tabulate-at, tabulate-length}
+use Rattle.fields.proofs.Ways.{wrapped-below, wrapped-above}
 
--- places
-pub place-none : (n x : ℕ) → n ≡ 0 → 0 ≡ placeIn n x
-unfolding placeIn
-place-none n x e = rw e (sym (and-zero-r x))
-
-pub place-some : (n x w : ℕ) → w ≡ x → bitAnd w (n - 1) ≡ placeIn n x
-unfolding placeIn
-place-some n x w e = rw e
-
-pub place-lt : (n x a : ℕ) → a ≡ placeIn n x → (a ≡ 0 → ⊥) → a < n
-unfolding placeIn
-place-lt n x a e ne = go n a (rw (← e) at (and-le-r x (n - 1))) ne
-  where
-    go : (n a : ℕ) → a ≤ n - 1 → (a ≡ 0 → ⊥) → a < n
-    go n zero h ne = absurd (ne refl)
-    go n (suc a) h ne = omega arith
-
--- one subtraction
-pub wrapped-below : (n i : ℕ) → i < n → i ≡ wrapped n i
-unfolding wrapped
-wrapped-below n i h = rw (lt-ltb i n h)
-
-pub wrapped-above : (n i : ℕ) → n ≤ i → i - n ≡ wrapped n i
-unfolding wrapped
-wrapped-above n i h = rw (le-ltb i n h)
-
--- a remainder by subtractions
-pub mod-less : (n k a : ℕ) → k % n ≡ a → n ≤ k → (k - n) % n ≡ a
-mod-less n k a e h = sym (mod-eq-sub-mod h) ∙ e
-
-pub mod-below : (n k a : ℕ) → k % n ≡ a → k < n → k ≡ a
-mod-below n k a e h = sym (mod-eq-of-lt h) ∙ e
-
--- the ways through the reading of a power
-past : (es : List ℕ) (k : ℕ) → length es ≤ k → 0 ≡ getD es k 0
-past es k h = sym (List·getD-eq-default es 0 {n = k} h)
-
-pub near-read : (es : List ℕ) (i k : ℕ) → k ≡ wrapped (length es) i → getD es k 0 ≡ powerNear es i
-unfolding powerNear
-near-read es i k e = rw e
-
-pub near-past : (es : List ℕ) (i k : ℕ) → k ≡ wrapped (length es) i → length es ≤ k → 0 ≡ powerNear es i
-near-past es i k e h = past es k h ∙ near-read es i k e
-
-pub power-none : (es : List ℕ) (i : ℕ) → length es ≡ 0 → 0 ≡ tablePower es i
-unfolding tablePower
-power-none es i e = past es (i % length es) (omega arith)
-
-pub power-read : (es : List ℕ) (i w k : ℕ) → w ≡ i → k ≡ w % length es → getD es k 0 ≡ tablePower es i
-unfolding tablePower
-power-read es i w k e h = rw (← e, h)
-
--- the ways through a product
-module _ (es ls : List ℕ) (x y a : ℕ) (ea : a ≡ placeIn (length ls) x) where
-  pub product-left : a ≡ 0 → 0 ≡ tableProduct es ls x y
-  unfolding tableProduct productAt
-  product-left z = rw (← ea, eq-eqb a 0 z)
-
-  module _ (na : a ≡ 0 → ⊥) (b : ℕ) (eb : b ≡ placeIn (length ls) y) where
-    pub product-right : b ≡ 0 → 0 ≡ tableProduct es ls x y
-    unfolding tableProduct productAt
-    product-right z = rw (← ea, ← eb, ne-eqb a 0 na, eq-eqb b 0 z)
-
-    pub product-both : (b ≡ 0 → ⊥) → (i j r : ℕ) → i ≡ getD ls a 0 → j ≡ getD ls b 0 → r ≡ powerNear es (i + j) → r ≡ tableProduct es ls x y
-    unfolding tableProduct productAt
-    product-both nb i j r ei ej e = rw (← ea, ← eb, ne-eqb a 0 na, ne-eqb b 0 nb, ← ei, ← ej) e
-
--- the ways through an inverse
-module _ (es ls : List ℕ) (x a : ℕ) (ea : a ≡ placeIn (length ls) x) where
-  pub inverse-none : a ≡ 0 → 0 ≡ tableInverse es ls x
-  unfolding tableInverse inverseAt
-  inverse-none z = rw (← ea, eq-eqb a 0 z)
-
-  pub inverse-some : (a ≡ 0 → ⊥) → (i k r : ℕ) → i ≡ getD ls a 0 → k ≡ length es - i → r ≡ powerNear es k → r ≡ tableInverse es ls x
-  unfolding tableInverse inverseAt
-  inverse-some na i k r ei ek e = rw (← ea, ne-eqb a 0 na, ← ei, ← ek) e
-
--- the tables of a field
 module _ (m p : ℕ) (F : Field m p) where
   some-powers : 0 < 2 ^ m - 1
-  some-powers = let two : 2 ^ 1 ≤ 2 ^ m = pow-mono (F .some) in omega arith
+  some-powers = let two : 2 ^ 1 ≤ 2 ^ m = pow-mono (F .positive) in omega arith
 
   powers-length : length (powers m p) ≡ 2 ^ m - 1
   unfolding powers

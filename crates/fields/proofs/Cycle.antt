@@ -12,8 +12,8 @@ use Rattle.fields.proofs.Lists.{both, both-left, both-right}
 
 -- p has degree m, which is not 0, and 2 has the order 2^m - 1
 pub record Cyclic (m p : ℕ) : Type 0 where
-  pub some : 0 < m
-  pub whole : p / 2 ^ m ≡ 1
+  pub positive : 0 < m
+  pub degree : p / 2 ^ m ≡ 1
   pub cycle : power m p (2 ^ m - 1) ≡ 1
   pub order : (d : ℕ) → d < 2 ^ m - 1 → power m p d ≡ 1 → d ≡ 0
 
@@ -45,11 +45,11 @@ module _ (m p : ℕ) where
       period-before n (suc k) (doubled m p (suc x)) (next k (suc x) e) (both-right (not (eqb (suc x) 1)) (period n (doubled m p (suc x))) t) d (le-of-suc-le-suc h)
       (ap (power m p) (suc-add k d ∙ sym (add-suc k d)) ∙ q)
 
-  module _ (some : 0 < m) (test : T (period (2 ^ m - 2) (doubled m p 1))) where
+  module _ (positive : 0 < m) (test : T (period (2 ^ m - 2) (doubled m p 1))) where
     cycle : power m p (2 ^ m - 1) ≡ 1
     unfolding power
     cycle =
-        let two : 2 ^ 1 ≤ 2 ^ m = pow-mono some in
+        let two : 2 ^ 1 ≤ 2 ^ m = pow-mono positive in
         let e : 2 ^ m - 1 ≡ 1 + (2 ^ m - 2) = omega arith in
         ap (power m p) e ∙ period-end (2 ^ m - 2) 1 (doubled m p 1) refl test
 
@@ -61,4 +61,4 @@ module _ (m p : ℕ) where
         absurd (period-before (2 ^ m - 2) 1 (doubled m p 1) refl test d (omega arith) (ap (power m p) (sym e) ∙ q))
 
     pub cyclic : p / 2 ^ m ≡ 1 → Cyclic m p
-    cyclic whole = record { some = some; whole = whole; cycle = cycle; order = order }
+    cyclic degree = record { positive = positive; degree = degree; cycle = cycle; order = order }

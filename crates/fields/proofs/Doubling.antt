@@ -1,4 +1,4 @@
--- Laws of `scale` and `doubled`, for any degree m and polynomial p: they respect sums, with no bounds. That p has degree m (`whole`) is
+-- Laws of `scale` and `doubled`, for any degree m and polynomial p: they respect sums, with no bounds. That p has degree m (`degree`) is
 -- needed only where a result is to stay below 2^m. Assumes nothing.
 use mathlib.Core.Path.{_≡_, refl, sym}
 use Prim.Native.Nat.{ℕ, zero, suc, _*_, _/_, _%_, _^_, _≤_, _<_}
@@ -48,11 +48,11 @@ module _ (m p : ℕ) where
       let e : 2 * x / 2 ^ m ≡ 1 = div-eq-of-lt-le (2 ^ m) (omega arith) (omega arith) in
       rw e (xor-comm p (2 * x))
 
-  module _ (whole : p / 2 ^ m ≡ 1) where
+  module _ (degree : p / 2 ^ m ≡ 1) where
     scale-high : (t : ℕ) → t < 2 → scale t p / 2 ^ m ≡ t
     unfolding scale
     scale-high zero h = div-eq-of-lt (pow-pos m)
-    scale-high (suc zero) h = whole
+    scale-high (suc zero) h = degree
     scale-high (suc (suc t)) h = absurd (omega arith)
 
     below : (x : ℕ) → x / 2 ^ m ≡ 0 → x < 2 ^ m

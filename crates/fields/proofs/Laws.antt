@@ -42,7 +42,7 @@ module _ (m p : ℕ) (C : Cyclic m p) where
   -- an element has one inverse at most
   same-inverse : (x y z : ℕ) → x < 2 ^ m → y < 2 ^ m → z < 2 ^ m → times m p x y ≡ 1 → times m p x z ≡ 1 → y ≡ z
   same-inverse x y z hx hy hz ey ez =
-      sym (Times.times-one m p (C .whole) (C .some) y hy) ∙ ap (times m p y) (sym ez) ∙ sym (Times.times-assoc m p (C .whole) y x z hy hx hz)
+      sym (Times.times-one m p (C .degree) (C .positive) y hy) ∙ ap (times m p y) (sym ez) ∙ sym (Times.times-assoc m p (C .degree) y x z hy hx hz)
       ∙ ap (λ (w : ℕ). times m p w z) (Times.times-comm m p y x hy hx ∙ ey) ∙ Times.one-times m p z hz
 
   inverse-lt : (x : ℕ) → inverse m p x < 2 ^ m
@@ -66,19 +66,19 @@ module _ (m p : ℕ) (C : Cyclic m p) where
   pub field : Field m p
   field =
       record {
-        some = C .some;
-        whole = C .whole;
+        positive = C .positive;
+        degree = C .degree;
         sum-lt = Xor.xor-lt m;
         sum-comm = Xor.xor-comm;
         sum-assoc = Xor.xor-assoc;
         sum-zero = Xor.xor-zero-r;
         sum-self = Xor.xor-self;
-        times-lt = Times.times-lt m p (C .whole);
+        times-lt = Times.times-lt m p (C .degree);
         times-sum = Times.times-sum m p;
         sum-times = Times.sum-times m p;
         times-comm = Times.times-comm m p;
-        times-assoc = Times.times-assoc m p (C .whole);
-        times-one = Times.times-one m p (C .whole) (C .some);
+        times-assoc = Times.times-assoc m p (C .degree);
+        times-one = Times.times-one m p (C .degree) (C .positive);
         times-zero = Times.times-zero m p;
         square-sum = Times.square-sum m p;
         zero-product = zero-product;

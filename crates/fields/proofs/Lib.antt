@@ -10,5 +10,6 @@ pub mod Laws
 pub mod Instances
 pub mod Rows
 pub mod TableTests
+pub mod Ways
 pub mod ByTables
 pub mod Statements

@@ -15,16 +15,16 @@ use Rattle.fields.proofs.Cycle.{Cyclic}
 
 module _ (m p : ℕ) (C : Cyclic m p) where
   pub two-le : 2 ^ 1 ≤ 2 ^ m
-  two-le = pow-mono (C .some)
+  two-le = pow-mono (C .positive)
 
   pub power-lt : (i : ℕ) → power m p i < 2 ^ m
-  power-lt = Times.power-lt m p (C .whole) (C .some)
+  power-lt = Times.power-lt m p (C .degree) (C .positive)
 
   pub power-sum : (i j : ℕ) → times m p (power m p i) (power m p j) ≡ power m p (i + j)
-  power-sum = Times.power-sum m p (C .whole) (C .some)
+  power-sum = Times.power-sum m p (C .degree) (C .positive)
 
   power-cycle : (i : ℕ) → power m p (i + (2 ^ m - 1)) ≡ power m p i
-  power-cycle i = sym (power-sum i (2 ^ m - 1)) ∙ ap (times m p (power m p i)) (C .cycle) ∙ Times.times-one m p (C .whole) (C .some) (power m p i) (power-lt i)
+  power-cycle i = sym (power-sum i (2 ^ m - 1)) ∙ ap (times m p (power m p i)) (C .cycle) ∙ Times.times-one m p (C .degree) (C .positive) (power m p i) (power-lt i)
 
   cycles : (c i : ℕ) → power m p (c * (2 ^ m - 1) + i) ≡ power m p i
   cycles zero i = ap (power m p) (omega arith)

@@ -121,7 +121,7 @@ module _ (m p : ℕ) (F : Field m p) (small : m < 12) (p-small : p < 4096) where
   times-case false n a b r h z e =
       let l : pick (eqb (b % 2) 1) a 0 ≡ scale (b % 2) a = pick-scale (b % 2) a (omega arith) in
       let u : scale (b % 2) a < 2 ^ m = scale-lt (b % 2) a (2 ^ m) (pow-pos m) h in
-      let v : E.timesFrom m p n (E.doubled m p a) (b / 2) < 2 ^ m = timesFrom-lt m p (F .whole) n _ _ (doubled-lt m p (F .whole) a h) in
+      let v : E.timesFrom m p n (E.doubled m p a) (b / 2) < 2 ^ m = timesFrom-lt m p (F .degree) n _ _ (doubled-lt m p (F .degree) a h) in
       ap₂ xor l e ∙ xor-agrees _ _ (omega (arith, q-small)) (omega (arith, q-small))
 
   pub timesFrom-agrees : (n a b : ℕ) → a < 2 ^ m → timesFrom n (2 ^ m) p a b ≡ E.timesFrom m p n a b
@@ -129,7 +129,7 @@ module _ (m p : ℕ) (F : Field m p) (small : m < 12) (p-small : p < 4096) where
   timesFrom-agrees zero a b h = refl
   timesFrom-agrees (suc n) a b h =
       times-case (eqb b 0) n a b _ h (eqb→eq b 0)
-      (timesFrom-agrees n _ _ (rw (doubled-agrees a h) (doubled-lt m p (F .whole) a h)) ∙ ap (λ (x : ℕ). E.timesFrom m p n x (b / 2)) (doubled-agrees a h))
+      (timesFrom-agrees n _ _ (rw (doubled-agrees a h) (doubled-lt m p (F .degree) a h)) ∙ ap (λ (x : ℕ). E.timesFrom m p n x (b / 2)) (doubled-agrees a h))
 
   powers-length : (n x : ℕ) → length (powersFrom n (2 ^ m) p x) ≡ n
   unfolding powersFrom
@@ -162,11 +162,11 @@ pub timesB-agrees : (a b : ℕ) → a < 2048 → timesB a b ≡ E.timesB a b
 unfolding E.times
 timesB-agrees a b h = timesFrom-agrees 11 2053 field-b (lit< tt) (lit< tt) 11 a b h
 
-pub powA-agrees : (i : ℕ) → i < 1023 → powA i ≡ E.powerA i
+pub powA-agrees : (i : ℕ) → i < 1023 → powA i ≡ power 10 1033 i
 unfolding powersA
 powA-agrees i h = powers-agree 10 1033 field-a (lit< tt) (lit< tt) i h
 
-pub powB-agrees : (i : ℕ) → i < 2047 → powB i ≡ E.powerB i
+pub powB-agrees : (i : ℕ) → i < 2047 → powB i ≡ power 11 2053 i
 unfolding powersB
 powB-agrees i h = powers-agree 11 2053 field-b (lit< tt) (lit< tt) i h
 

@@ -92,11 +92,11 @@ module _ (m p : ℕ) where
       sum-times x y _ ∙ ap₂ xor (times-sum x x y) (times-sum y x y ∙ ap (λ (z : ℕ). xor z (times m p y y)) (times-comm y x hy hx))
       ∙ xor-assoc _ _ _ ∙ ap (xor (times m p x x)) (xor-cancel (times m p x y) (times m p y y))
 
-  module _ (whole : p / 2 ^ m ≡ 1) where
+  module _ (degree : p / 2 ^ m ≡ 1) where
     pub timesFrom-lt : (n x y : ℕ) → x < 2 ^ m → timesFrom m p n x y < 2 ^ m
     unfolding timesFrom
     timesFrom-lt zero x y h = pow-pos m
-    timesFrom-lt (suc n) x y h = xor-lt m _ _ (scale-lt (y % 2) x (2 ^ m) (pow-pos m) h) (timesFrom-lt n _ _ (doubled-lt m p whole x h))
+    timesFrom-lt (suc n) x y h = xor-lt m _ _ (scale-lt (y % 2) x (2 ^ m) (pow-pos m) h) (timesFrom-lt n _ _ (doubled-lt m p degree x h))
 
     pub times-lt : (x y : ℕ) → x < 2 ^ m → times m p x y < 2 ^ m
     unfolding times
@@ -106,14 +106,14 @@ module _ (m p : ℕ) where
     times-assoc x y z hx hy hz =
         ap (λ (w : ℕ). times m p w z) (times-comm x y hx hy) ∙ exchange y x z ∙ times-comm (times m p y z) x (times-lt y z hy) hx
 
-    module _ (some : 0 < m) where
+    module _ (positive : 0 < m) where
       pub times-one : (x : ℕ) → x < 2 ^ m → times m p x 1 ≡ x
-      times-one x hx = times-comm x 1 hx (lt-of-lt-of-le (lit< tt) (pow-mono some)) ∙ one-times x hx
+      times-one x hx = times-comm x 1 hx (lt-of-lt-of-le (lit< tt) (pow-mono positive)) ∙ one-times x hx
 
       pub power-lt : (i : ℕ) → power m p i < 2 ^ m
       unfolding power
-      power-lt zero = lt-of-lt-of-le (lit< tt) (pow-mono some)
-      power-lt (suc i) = doubled-lt m p whole _ (power-lt i)
+      power-lt zero = lt-of-lt-of-le (lit< tt) (pow-mono positive)
+      power-lt (suc i) = doubled-lt m p degree _ (power-lt i)
 
       pub power-sum : (i j : ℕ) → times m p (power m p i) (power m p j) ≡ power m p (i + j)
       unfolding power times

@@ -52,9 +52,6 @@ exponents m p = tabulate (2 ^ m) (exponent m p)
 abbrev pub timesA : ℕ → ℕ → ℕ
 timesA = times 10 1033
 
-abbrev pub powerA : ℕ → ℕ
-powerA = power 10 1033
-
 abbrev pub powersA : List ℕ
 powersA = powers 10 1033
 
@@ -64,9 +61,6 @@ exponentsA = exponents 10 1033
 -- field B: 2,048 elements, from z^11 + z^2 + 1
 abbrev pub timesB : ℕ → ℕ → ℕ
 timesB = times 11 2053
-
-abbrev pub powerB : ℕ → ℕ
-powerB = power 11 2053
 
 abbrev pub powersB : List ℕ
 powersB = powers 11 2053

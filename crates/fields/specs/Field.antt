@@ -7,8 +7,8 @@ use Rattle.fields.specs.Elements.{xor, times, power, exponent, inverse}
 -- the numbers below 2^m are a field of characteristic two, in which every element but 0 is a power of 2, once
 pub record Field (m p : ℕ) : Type 0 where
   -- p has degree m, which is not 0
-  pub some : 0 < m
-  pub whole : p / 2 ^ m ≡ 1
+  pub positive : 0 < m
+  pub degree : p / 2 ^ m ≡ 1
   -- sums are a group in which every element is its own opposite
   pub sum-lt : (x y : ℕ) → x < 2 ^ m → y < 2 ^ m → xor x y < 2 ^ m
   pub sum-comm : (x y : ℕ) → xor x y ≡ xor y x

@@ -7,7 +7,7 @@ use Rattle.fields.proofs.exp_a.Tie as tie
 
 returns : tie.Need-returns
 unfolding doubled scale xor
-returns c = powers-are 10 1033 _ refl tt
+returns c = powers-are _ _ _ refl tt
 
 pub exp-a-spec : {M : Type 1} → statement M
 exp-a-spec = tie.close (tie.spec returns)

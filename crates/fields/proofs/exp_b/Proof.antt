@@ -7,7 +7,7 @@ use Rattle.fields.proofs.exp_b.Tie as tie
 
 returns : tie.Need-returns
 unfolding doubled scale xor
-returns c = powers-are 11 2053 _ refl tt
+returns c = powers-are _ _ _ refl tt
 
 pub exp-b-spec : {M : Type 1} → statement M
 exp-b-spec = tie.close (tie.spec returns)

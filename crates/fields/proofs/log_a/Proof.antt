@@ -8,7 +8,7 @@ use Rattle.fields.proofs.log_a.Tie as tie
 
 returns : tie.Need-returns
 unfolding doubled scale xor
-returns c = exponents-are 10 1033 field-a _ refl refl tt
+returns c = exponents-are _ _ field-a _ refl refl tt
 
 pub log-a-spec : {M : Type 1} → statement M
 log-a-spec = tie.close (tie.spec returns)

@@ -8,7 +8,7 @@ use Rattle.fields.proofs.log_b.Tie as tie
 
 returns : tie.Need-returns
 unfolding doubled scale xor
-returns c = exponents-are 11 2053 field-b _ refl refl tt
+returns c = exponents-are _ _ field-b _ refl refl tt
 
 pub log-b-spec : {M : Type 1} → statement M
 log-b-spec = tie.close (tie.spec returns)

@@ -1,6 +1,7 @@
 -- `fields::power` meets its contract. Assumes nothing.
 use borrow.Author.Needs.{needs}
-use Rattle.fields.proofs.ByTables.{power-none, power-lent, power-read}
+use Rattle.fields.proofs.Ways.{power-none, power-read}
+use Rattle.fields.proofs.ByTables.{power-lent}
 use Rattle.fields.proofs.power.Statement.{statement}
 use Rattle.fields.proofs.power.Tie as tie
 

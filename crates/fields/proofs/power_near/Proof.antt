@@ -1,6 +1,6 @@
 -- `fields::power_near` meets its contract. Assumes nothing.
 use borrow.Author.Needs.{needs}
-use Rattle.fields.proofs.ByTables.{near-read, near-past}
+use Rattle.fields.proofs.Ways.{near-read, near-past}
 use Rattle.fields.proofs.power_near.Statement.{statement}
 use Rattle.fields.proofs.power_near.Tie as tie
 

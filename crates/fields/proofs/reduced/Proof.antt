@@ -2,7 +2,7 @@
 use mathlib.Core.Path.{_≡_}
 use Prim.Native.Nat.{_%_}
 use borrow.Author.Needs.{needs}
-use Rattle.fields.proofs.ByTables.{mod-less, mod-below}
+use Rattle.fields.proofs.Ways.{mod-less, mod-below}
 use Rattle.fields.proofs.reduced.Statement.{statement}
 use Rattle.fields.proofs.reduced.Tie as tie
 

@@ -1,6 +1,6 @@
 -- `fields::wrapped` meets its contract. Assumes nothing.
 use borrow.Author.Needs.{needs}
-use Rattle.fields.proofs.ByTables.{wrapped-below, wrapped-above}
+use Rattle.fields.proofs.Ways.{wrapped-below, wrapped-above}
 use Rattle.fields.proofs.wrapped.Statement.{statement}
 use Rattle.fields.proofs.wrapped.Tie as tie
 

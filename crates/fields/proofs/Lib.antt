@@ -4,6 +4,7 @@ pub mod Doubling
 pub mod Times
 pub mod Lists
 pub mod Onto
+pub mod Walk
 pub mod Cycle
 pub mod Powers
 pub mod Laws

@@ -11,18 +11,6 @@ use lib.ListN.{length, getD}
 use lib.Seq.{ext-getD}
 use Rattle.fields.specs.Lists.{pick, tabulate, find}
 
-abbrev pub both : Bool → Bool → Bool
-both true b = b
-both false b = false
-
-pub both-left : (a b : Bool) → T (both a b) → T a
-both-left true b t = tt
-both-left false b t = t
-
-pub both-right : (a b : Bool) → T (both a b) → T b
-both-right true b t = t
-both-right false b t = absurd t
-
 pub tabulate-length : {A : Type 0} (n : ℕ) (f : ℕ → A) → length (tabulate n f) ≡ n
 unfolding tabulate
 tabulate-length zero f = refl

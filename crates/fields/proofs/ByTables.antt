@@ -9,16 +9,17 @@ use native.Mathlib.Omega.{arith}
 use borrow.Author.Tests.{ne-eqb}
 use lib.Bits.{and-mask}
 use lib.ListN.{length, getD}
-use lib.Pow.{pow-mono, pow-pos}
+use lib.Pow.{pow-pos}
 use Rattle.fields.specs.Elements.{times, power, exponent, inverse, powers, exponents}
 use Rattle.fields.specs.Field.{Field}
 use Rattle.fields.specs.ByTables.{placeIn, wrapped, powerNear, tablePower, productAt, tableProduct, inverseAt, tableInverse, Lent}
+use Rattle.fields.proofs.Doubling.{two-le}
 use Rattle.fields.proofs.Lists.{tabulate-at, tabulate-length}
 use Rattle.fields.proofs.Ways.{wrapped-below, wrapped-above}
 
 module _ (m p : ℕ) (F : Field m p) where
   some-powers : 0 < 2 ^ m - 1
-  some-powers = let two : 2 ^ 1 ≤ 2 ^ m = pow-mono (F .positive) in omega arith
+  some-powers = omega (arith, two-le m (F .positive))
 
   powers-length : length (powers m p) ≡ 2 ^ m - 1
   unfolding powers

@@ -2,12 +2,12 @@
 -- polynomial p. Assumes nothing.
 use mathlib.Core.Path.{_≡_, refl, sym, ap, _∙_}
 use mathlib.Core.Bool.{Bool, true, false, not}
-use Prim.Native.Nat.{ℕ, zero, suc, _+_, _-_, _/_, _^_, _≤_, _<_}
+use Prim.Native.Nat.{ℕ, zero, suc, _+_, _-_, _/_, _^_, _<_}
 use native.Mathlib.Omega.{arith}
 use borrow.Author.Tests.{eq-eqb}
 use lib.Dec.{T, eqb, eqb→eq}
-use lib.Pow.{pow-mono}
 use Rattle.fields.specs.Elements.{doubled, power}
+use Rattle.fields.proofs.Doubling.{two-le}
 use Rattle.fields.proofs.Walk.{walk, walk-at}
 
 -- p has degree m, which is not 0, and 2 has the order 2^m - 1
@@ -30,18 +30,22 @@ alike-right : (a b : Bool) → T (alike a b) → a ≡ true → T b
 alike-right a b t e = rw e at t
 
 module _ (m p : ℕ) where
-  -- the powers of 2 from the first on: the i-th is 1 just where i is 2^m - 1
+  -- x is 1 just where i is 2^m - 1
+  abbrev pub one-at-end : ℕ → ℕ → Bool
+  one-at-end i x = alike (eqb x 1) (eqb i (2 ^ m - 1))
+
+  -- the powers of 2 from the first to the last: only the last is 1
   abbrev pub round : Bool
-  round = walk m p (λ i x. alike (eqb x 1) (eqb i (2 ^ m - 1))) (2 ^ m - 1) 1 (doubled m p 1)
+  round = walk m p one-at-end (2 ^ m - 1) 1 (doubled m p 1)
 
   module _ (positive : 0 < m) (test : T round) where
-    at : (j : ℕ) → j < 2 ^ m - 1 → T (alike (eqb (power m p (1 + j)) 1) (eqb (1 + j) (2 ^ m - 1)))
+    at : (j : ℕ) → j < 2 ^ m - 1 → T (one-at-end (1 + j) (power m p (1 + j)))
     unfolding power
-    at = walk-at m p (λ i x. alike (eqb x 1) (eqb i (2 ^ m - 1))) (2 ^ m - 1) 1 (doubled m p 1) refl test
+    at = walk-at m p one-at-end (2 ^ m - 1) 1 (doubled m p 1) refl test
 
     cycle : power m p (2 ^ m - 1) ≡ 1
     cycle =
-        let two : 2 ^ 1 ≤ 2 ^ m = pow-mono positive in
+        let two = two-le m positive in
         let i = 1 + (2 ^ m - 2) in
         let e : i ≡ 2 ^ m - 1 = omega arith in
         ap (power m p) (sym e)

@@ -4,9 +4,13 @@ use mathlib.Core.Path.{_≡_, refl, sym}
 use Prim.Native.Nat.{ℕ, zero, suc, _*_, _/_, _%_, _^_, _≤_, _<_}
 use native.Mathlib.Nat.{div-eq-of-lt, div-eq-of-lt-le, div-lt-iff-lt-mul, mod-eq-of-lt}
 use native.Mathlib.Omega.{arith}
-use lib.Pow.{pow-pos}
+use lib.Pow.{pow-mono, pow-pos}
 use Rattle.fields.specs.Elements.{xor, scale, doubled}
 use Rattle.fields.proofs.Xor.{xor-zero-l, xor-zero-r, xor-self, xor-comm, xor-four, xor-high, xor-bit, xor-double}
+
+-- a field has two elements at least
+pub two-le : (m : ℕ) → 0 < m → 2 ≤ 2 ^ m
+two-le m h = pow-mono h
 
 pub scale-sum : (t x y : ℕ) → scale t (xor x y) ≡ xor (scale t x) (scale t y)
 unfolding scale

@@ -1,6 +1,6 @@
 -- Laws of lists given place by place, and of a number found by a test. Assumes nothing.
 use mathlib.Core.Path.{_≡_, refl, sym, ap, _∙_}
-use mathlib.Core.Bool.{Bool, true, false}
+use mathlib.Core.Bool.{Bool, true, false, cond}
 use mathlib.Core.List.{List}
 use mathlib.Core.Logic.{_⊎_, inl, inr}
 use Prim.Native.Nat.{ℕ, zero, suc, _≤_, _<_}
@@ -9,7 +9,7 @@ use native.Mathlib.Omega.{arith}
 use lib.Dec.{T}
 use lib.ListN.{length, getD}
 use lib.Seq.{ext-getD}
-use Rattle.fields.specs.Lists.{pick, tabulate, find}
+use Rattle.fields.specs.Lists.{tabulate, find}
 
 pub tabulate-length : {A : Type 0} (n : ℕ) (f : ℕ → A) → length (tabulate n f) ≡ n
 unfolding tabulate
@@ -28,7 +28,7 @@ tabulate-is n f l d e h =
     ext-getD d l (tabulate n f) (e ∙ sym (tabulate-length n f)) (λ i lt. let lt′ : i < n = rw e at lt in h i lt′ ∙ sym (tabulate-at n f i d lt′))
 
 -- what passes a test is found
-found : (f : ℕ → Bool) (n i : ℕ) (b : Bool) → f n ≡ b → T (f i) → (i ≡ n) ⊎ (i < n) → (i < n → (find f n < n) × T (f (find f n))) → (pick b n (find f n) < suc n) × T (f (pick b n (find f n)))
+found : (f : ℕ → Bool) (n i : ℕ) (b : Bool) → f n ≡ b → T (f i) → (i ≡ n) ⊎ (i < n) → (i < n → (find f n < n) × T (f (find f n))) → (cond b n (find f n) < suc n) × T (f (cond b n (find f n)))
 found f n i true e t c rest = (le-refl (suc n), rw e tt)
 found f n i false e t (inl q) rest = absurd (rw (q, e) at t)
 found f n i false e t (inr l) rest = let r = rest l in (omega (arith, r .0), r .1)
@@ -39,7 +39,7 @@ find-found f zero i h t = absurd (not-suc-le-zero h)
 find-found f (suc n) i h t = found f n i (f n) refl t (eq-or-lt-of-le (le-of-suc-le-suc h)) (λ l. find-found f n i l t)
 
 -- what is found is below the bound
-find-le : (b : Bool) (n k : ℕ) → k ≤ n → pick b n k ≤ n
+find-le : (b : Bool) (n k : ℕ) → k ≤ n → cond b n k ≤ n
 find-le true n k h = le-refl n
 find-le false n k h = h
 

@@ -1,16 +1,16 @@
 -- A map of the numbers below n to themselves that takes no value twice takes every value. Assumes nothing.
 use mathlib.Core.Path.{_≡_, sym}
+use mathlib.Core.Bool.{cond}
 use Prim.Native.Nat.{ℕ, zero, suc, _-_, _<_}
 use native.Mathlib.Nat.{le-refl, not-suc-le-zero}
 use native.Mathlib.Decide.{ℕ-discrete, decLt}
 use native.Mathlib.Omega.{arith}
 use borrow.Author.Tests.{lt-ltb, le-ltb}
 use lib.Dec.{ltb}
-use Rattle.fields.specs.Lists.{pick}
 
 -- the numbers but v, closed up
 close : ℕ → ℕ → ℕ
-close v y = pick (ltb v y) (y - 1) y
+close v y = cond (ltb v y) (y - 1) y
 
 -- a number but v is above v and goes down by one, or is below v and stays
 data Closed (v y : ℕ) : Type 0 where
@@ -37,15 +37,21 @@ close-once v x y (stays hx ex) (stays hy ey) q = omega arith
 
 pub onto : (n : ℕ) (f : ℕ → ℕ) → ((i : ℕ) → i < n → f i < n) → ((i j : ℕ) → i < n → j < n → f i ≡ f j → i ≡ j) → (y : ℕ) → y < n → (i : ℕ) × (i < n) × (f i ≡ y)
 onto zero f into once y h = absurd (not-suc-le-zero h)
-onto (suc n) f into once y h =
-    onto-by (onto n (λ i. close (f n) (f i)) (λ i l. close-lt n (f n) (f i) (into n (le-refl (suc n))) (into i (omega arith)) (other i l)) (λ i j li lj q. once i j (omega arith) (omega arith) (close-once (f n) (f i) (f j) (other i li) (other j lj) q))) (ℕ-discrete y (f n))
+onto (suc n) f into once y h = reached (onto n (λ i. close (f n) (f i)) below apart) (ℕ-discrete y (f n))
   where
     other : (i : ℕ) → i < n → Closed (f n) (f i)
     other i l = closed (f n) (f i) (λ q. let z : i ≡ n = once i n (omega arith) (le-refl (suc n)) q in omega arith)
 
-    onto-by : ((z : ℕ) → z < n → (i : ℕ) × (i < n) × (close (f n) (f i) ≡ z)) → Dec (y ≡ f n) → (i : ℕ) × (i < suc n) × (f i ≡ y)
-    onto-by rest (yes e) = (n, le-refl (suc n), sym e)
-    onto-by rest (no ne) =
+    below : (i : ℕ) → i < n → close (f n) (f i) < n
+    below i l = close-lt n (f n) (f i) (into n (le-refl (suc n))) (into i (omega arith)) (other i l)
+
+    apart : (i j : ℕ) → i < n → j < n → close (f n) (f i) ≡ close (f n) (f j) → i ≡ j
+    apart i j li lj q = once i j (omega arith) (omega arith) (close-once (f n) (f i) (f j) (other i li) (other j lj) q)
+
+    -- y is the value at n, or a value below n with the value at n closed up
+    reached : ((z : ℕ) → z < n → (i : ℕ) × (i < n) × (close (f n) (f i) ≡ z)) → Dec (y ≡ f n) → (i : ℕ) × (i < suc n) × (f i ≡ y)
+    reached rest (yes e) = (n, le-refl (suc n), sym e)
+    reached rest (no ne) =
         let c : Closed (f n) y = closed (f n) y ne in
         let r = rest (close (f n) y) (close-lt n (f n) y (into n (le-refl (suc n))) h c) in
         (r .0, omega (arith, r .1), close-once (f n) (f (r .0)) y (other (r .0) (r .1)) c (r .2))

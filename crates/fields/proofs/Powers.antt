@@ -6,17 +6,14 @@ use native.Mathlib.Decide.{decLe}
 use native.Mathlib.Omega.{arith}
 use borrow.Author.Tests.{ne-eqb}
 use lib.Dec.{eqb, eqb→eq, eqb-refl}
-use lib.Pow.{pow-mono}
 use Rattle.fields.specs.Elements.{times, power, exponent}
 use Rattle.fields.proofs.Lists.{find-found, find-lt, find-none}
 use Rattle.fields.proofs.Onto.{onto}
+use Rattle.fields.proofs.Doubling.{two-le}
 use Rattle.fields.proofs.Times as Times
 use Rattle.fields.proofs.Cycle.{Cyclic}
 
 module _ (m p : ℕ) (C : Cyclic m p) where
-  pub two-le : 2 ^ 1 ≤ 2 ^ m
-  two-le = pow-mono (C .positive)
-
   pub power-lt : (i : ℕ) → power m p i < 2 ^ m
   power-lt = Times.power-lt m p (C .degree) (C .positive)
 
@@ -39,7 +36,7 @@ module _ (m p : ℕ) (C : Cyclic m p) where
   unfolding power
   power-not-zero i e =
       let k = i * (2 ^ m - 1) - i in
-      let h : i * 1 ≤ i * (2 ^ m - 1) = mul-le-mul-left i (omega (arith, two-le)) in
+      let h : i * 1 ≤ i * (2 ^ m - 1) = mul-le-mul-left i (omega (arith, two-le m (C .positive))) in
       let q : i + k ≡ i * (2 ^ m - 1) + 0 = omega arith in
       let one : times m p 0 (power m p k) ≡ 1 =
       ap (λ (x : ℕ). times m p x (power m p k)) (sym e) ∙ power-sum i k ∙ ap (power m p) q ∙ cycles i 0 in
@@ -77,7 +74,7 @@ module _ (m p : ℕ) (C : Cyclic m p) where
   -- exponents
   pub exponent-lt : (x : ℕ) → exponent m p x < 2 ^ m - 1
   unfolding exponent
-  exponent-lt x = find-lt (λ i. eqb (power m p i) x) (2 ^ m - 1) (omega (arith, two-le))
+  exponent-lt x = find-lt (λ i. eqb (power m p i) x) (2 ^ m - 1) (omega (arith, two-le m (C .positive)))
 
   has-exponent : (x i : ℕ) → i < 2 ^ m - 1 → power m p i ≡ x → power m p (exponent m p x) ≡ x
   unfolding exponent

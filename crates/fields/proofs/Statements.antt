@@ -12,7 +12,6 @@ use lib.Bits as Bits
 use lib.Dec.{T, eqb, ltb, eqb→eq, ltb→lt, nltb→le, lit<}
 use lib.ListN.{length, getD}
 use lib.Pow.{pow-pos, pow-mono}
-use Rattle.fields.specs.Lists.{pick}
 use Rattle.fields.specs.Elements.{scale, power, exponent}
 use Rattle.fields.specs.Elements as E
 use Rattle.fields.specs.Field.{Field}
@@ -20,6 +19,10 @@ use Rattle.fields.proofs.Xor.{xor-zero-l, xor-half, additive-zero}
 use Rattle.fields.proofs.Doubling.{scale-lt, doubled-lt, doubled-below, doubled-above}
 use Rattle.fields.proofs.Times.{timesFrom-sum, timesFrom-lt}
 use Rattle.fields.proofs.Instances.{field-a, field-b}
+
+abbrev pub pick : {A : Type 0} → Bool → A → A → A
+pick true a b = a
+pick false a b = b
 
 abbrev pub xorFrom : ℕ → ℕ → ℕ → ℕ
 xorFrom zero a b = 0

@@ -13,32 +13,35 @@ use Rattle.fields.proofs.Lists.{tabulate-is}
 use Rattle.fields.proofs.Rows.{rows, look, look-is, once, once-is}
 use Rattle.fields.proofs.Walk.{walk, walk-at}
 
+-- the i-th entry is x; the entry at x is i
+abbrev pub entry-is : List (List ℕ) → ℕ → ℕ → Bool
+entry-is rs i x = eqb (look rs i) x
+
+abbrev pub entry-gives : List (List ℕ) → ℕ → ℕ → Bool
+entry-gives rs i x = eqb (look rs x) i
+
 module _ (m p : ℕ) where
   -- a walk over all the powers, with the rows of a table at hand
+  abbrev over : (List (List ℕ) → ℕ → ℕ → Bool) → List (List ℕ) → Bool
+  over f rs = walk m p (f rs) (2 ^ m - 1) 0 1
+
   abbrev pub whole : (List (List ℕ) → ℕ → ℕ → Bool) → List ℕ → Bool
-  whole f xs = once (λ rs. walk m p (f rs) (2 ^ m - 1) 0 1) (rows xs)
+  whole f xs = once (over f) (rows xs)
 
   whole-at : (f : List (List ℕ) → ℕ → ℕ → Bool) (xs : List ℕ) → T (whole f xs) → (i : ℕ) → i < 2 ^ m - 1 → T (f (rows xs) i (power m p i))
   unfolding power
-  whole-at f xs t i h =
-      rw zero-add at (walk-at m p (f (rows xs)) (2 ^ m - 1) 0 1 refl (once-is (λ rs. walk m p (f rs) (2 ^ m - 1) 0 1) (rows xs) t) i h)
+  whole-at f xs t i h = rw zero-add at (walk-at m p (f (rows xs)) (2 ^ m - 1) 0 1 refl (once-is (over f) (rows xs) t) i h)
 
   -- a table of powers has at each exponent its power
-  abbrev pub doubles : List ℕ → Bool
-  doubles es = whole (λ rs i x. eqb (look rs i) x) es
-
-  pub powers-are : (es : List ℕ) → length es ≡ 2 ^ m - 1 → T (doubles es) → es ≡ powers m p
+  pub powers-are : (es : List ℕ) → length es ≡ 2 ^ m - 1 → T (whole entry-is es) → es ≡ powers m p
   unfolding powers
   powers-are es e t = tabulate-is (2 ^ m - 1) (power m p) es 0 e entry
     where
       entry : (i : ℕ) → i < 2 ^ m - 1 → getD es i 0 ≡ power m p i
-      entry i h = sym (look-is es i (rw e h)) ∙ eqb→eq (look (rows es) i) (power m p i) (whole-at (λ rs i x. eqb (look rs i) x) es t i h)
+      entry i h = sym (look-is es i (rw e h)) ∙ eqb→eq (look (rows es) i) (power m p i) (whole-at entry-is es t i h)
 
-  -- a table of exponents has at each power its exponent
-  abbrev pub inverts : List ℕ → Bool
-  inverts ls = whole (λ rs i x. eqb (look rs x) i) ls
-
-  pub exponents-are : Field m p → (ls : List ℕ) → length ls ≡ 2 ^ m → getD ls 0 0 ≡ 0 → T (inverts ls) → ls ≡ exponents m p
+  -- a table of exponents has at each power its exponent, and 0 at 0
+  pub exponents-are : Field m p → (ls : List ℕ) → length ls ≡ 2 ^ m → getD ls 0 0 ≡ 0 → T (whole entry-gives ls) → ls ≡ exponents m p
   unfolding exponents
   exponents-are F ls e z t = tabulate-is (2 ^ m) (exponent m p) ls 0 e entry
     where
@@ -47,4 +50,4 @@ module _ (m p : ℕ) where
       entry (suc x) h =
           let i = exponent m p (suc x) in
           sym (look-is ls (suc x) (rw e h)) ∙ ap (look (rows ls)) (sym (F .power-exponent (suc x) (zero-lt-suc x) h))
-          ∙ eqb→eq (look (rows ls) (power m p i)) i (whole-at (λ rs i x. eqb (look rs x) i) ls t i (F .exponent-lt (suc x)))
+          ∙ eqb→eq (look (rows ls) (power m p i)) i (whole-at entry-gives ls t i (F .exponent-lt (suc x)))

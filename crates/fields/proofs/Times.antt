@@ -4,14 +4,13 @@
 -- such a map, (x y) z = (x z) y, and with 1 y = y the rest follows. Assumes nothing.
 use mathlib.Core.Path.{_≡_, refl, sym, ap, ap₂, _∙_}
 use Prim.Native.Nat.{ℕ, zero, suc, _+_, _*_, _/_, _%_, _^_, _≤_, _<_}
-use native.Mathlib.Nat.{le-refl, lt-of-lt-of-le, zero-add, suc-add, pow-suc, div-eq-of-lt, div-add-mod'}
+use native.Mathlib.Nat.{le-refl, zero-add, suc-add, pow-suc, div-eq-of-lt, div-add-mod'}
 use native.Mathlib.Omega.{arith}
 use lib.Arith.{lt-one}
-use lib.Dec.{lit<}
-use lib.Pow.{pow-pos, pow-lt, pow-mono}
+use lib.Pow.{pow-pos, pow-lt}
 use Rattle.fields.specs.Elements.{xor, scale, doubled, timesFrom, times, power}
 use Rattle.fields.proofs.Xor.{xor-self, xor-comm, xor-assoc, xor-four, xor-lt, xor-shifted, xor-half, xor-bit, xor-cancel, additive-zero}
-use Rattle.fields.proofs.Doubling.{scale-sum, bits-scale, scale-lt, doubled-sum, doubled-lt, doubled-below}
+use Rattle.fields.proofs.Doubling.{two-le, scale-sum, bits-scale, scale-lt, doubled-sum, doubled-lt, doubled-below}
 
 module _ (m p : ℕ) where
   sum-timesFrom : (n x y z : ℕ) → timesFrom m p n (xor x y) z ≡ xor (timesFrom m p n x z) (timesFrom m p n y z)
@@ -108,11 +107,11 @@ module _ (m p : ℕ) where
 
     module _ (positive : 0 < m) where
       pub times-one : (x : ℕ) → x < 2 ^ m → times m p x 1 ≡ x
-      times-one x hx = times-comm x 1 hx (lt-of-lt-of-le (lit< tt) (pow-mono positive)) ∙ one-times x hx
+      times-one x hx = times-comm x 1 hx (two-le m positive) ∙ one-times x hx
 
       pub power-lt : (i : ℕ) → power m p i < 2 ^ m
       unfolding power
-      power-lt zero = lt-of-lt-of-le (lit< tt) (pow-mono positive)
+      power-lt zero = two-le m positive
       power-lt (suc i) = doubled-lt m p degree _ (power-lt i)
 
       pub power-sum : (i j : ℕ) → times m p (power m p i) (power m p j) ≡ power m p (i + j)

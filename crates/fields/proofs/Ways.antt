@@ -81,9 +81,9 @@ unfolding tableInverse inverseAt
 inverse-none es ls x e = rw (none-place (length ls) x e)
 
 module _ (es ls : List ℕ) (x a : ℕ) (ea : a ≡ placeIn (length ls) x) where
-  pub inverse-zero : a ≡ 0 → 0 ≡ tableInverse es ls x
+  pub inverse-of-zero : a ≡ 0 → 0 ≡ tableInverse es ls x
   unfolding tableInverse inverseAt
-  inverse-zero z = rw (← ea, eq-eqb a 0 z)
+  inverse-of-zero z = rw (← ea, eq-eqb a 0 z)
 
   pub inverse-some : (a ≡ 0 → ⊥) → (i k r : ℕ) → i ≡ getD ls a 0 → k ≡ length es - i → r ≡ powerNear es k → r ≡ tableInverse es ls x
   unfolding tableInverse inverseAt

@@ -43,7 +43,7 @@ unfolding xor
 xor-bit a b = Bits.xor-mod a b 1
 
 -- two numbers are equal when their halves and their low bits are
-pub by-half : (a b : ℕ) → a / 2 ≡ b / 2 → a % 2 ≡ b % 2 → a ≡ b
+by-half : (a b : ℕ) → a / 2 ≡ b / 2 → a % 2 ≡ b % 2 → a ≡ b
 by-half a b h l = omega arith
 
 bit-assoc : (x y z : ℕ) → x < 2 → y < 2 → z < 2 → xor (xor x y) z ≡ xor x (xor y z)
@@ -62,13 +62,13 @@ xor-assoc a =
     (λ n ih b c. by-half _ _ (simp xor-half (ih (b / 2) (c / 2)))
     (simp xor-bit (bit-assoc (n % 2) (b % 2) (c % 2) (omega arith) (omega arith) (omega arith)))) a
 
-pub xor-left-comm : (a b c : ℕ) → xor a (xor b c) ≡ xor b (xor a c)
+xor-left-comm : (a b c : ℕ) → xor a (xor b c) ≡ xor b (xor a c)
 xor-left-comm a b c = sym (xor-assoc a b c) ∙ ap (λ (x : ℕ). xor x c) (xor-comm a b) ∙ xor-assoc b a c
 
 pub xor-cancel : (a b : ℕ) → xor a (xor a b) ≡ b
 xor-cancel a b = sym (xor-assoc a a b) ∙ ap (λ (x : ℕ). xor x b) (xor-self a) ∙ xor-zero-l b
 
-pub ruleset xor-sort = (xor-assoc, xor-comm, xor-left-comm)
+ruleset xor-sort = (xor-assoc, xor-comm, xor-left-comm)
 
 -- a sum of sums, regrouped
 pub xor-four : (a b c d : ℕ) → xor (xor a b) (xor c d) ≡ xor (xor a c) (xor b d)

@@ -1,11 +1,11 @@
 -- What the functions over lent tables give: es is lent for the powers of 2, ls for the exponents.
 use mathlib.Core.Path.{_≡_}
+use mathlib.Core.Bool.{cond}
 use mathlib.Core.List.{List}
 use Prim.Native.Nat.{ℕ, _+_, _-_, _%_}
 use lib.Bits.{bitAnd}
 use lib.Dec.{eqb, ltb}
 use lib.ListN.{length, getD}
-use Rattle.fields.specs.Lists.{pick}
 use Rattle.fields.specs.Elements.{powers, exponents}
 use Rattle.fields.specs.Field.{Field}
 
@@ -19,22 +19,22 @@ tablePower es i = getD es (i % length es) 0
 
 -- i, less n where it is not below n: a number below twice n comes below n
 unfoldable pub wrapped : ℕ → ℕ → ℕ
-wrapped n i = pick (ltb i n) i (i - n)
+wrapped n i = cond (ltb i n) i (i - n)
 
--- the entry at the exponent i, less the table's length where it is past the end
+-- the entry at the exponent i, less the table's length where it is past the end; 0 from twice the length on
 unfoldable pub powerNear : List ℕ → ℕ → ℕ
 powerNear es i = getD es (wrapped (length es) i) 0
 
 -- 0 if a factor's place is 0; else the power whose exponent is the sum of the two
 unfoldable pub productAt : List ℕ → List ℕ → ℕ → ℕ → ℕ
-productAt es ls a b = pick (eqb a 0) 0 (pick (eqb b 0) 0 (powerNear es (getD ls a 0 + getD ls b 0)))
+productAt es ls a b = cond (eqb a 0) 0 (cond (eqb b 0) 0 (powerNear es (getD ls a 0 + getD ls b 0)))
 
 unfoldable pub tableProduct : List ℕ → List ℕ → ℕ → ℕ → ℕ
 tableProduct es ls x y = productAt es ls (placeIn (length ls) x) (placeIn (length ls) y)
 
 -- 0 if the place is 0; else the power whose exponent fills up to the table's length
 unfoldable pub inverseAt : List ℕ → List ℕ → ℕ → ℕ
-inverseAt es ls a = pick (eqb a 0) 0 (powerNear es (length es - getD ls a 0))
+inverseAt es ls a = cond (eqb a 0) 0 (powerNear es (length es - getD ls a 0))
 
 unfoldable pub tableInverse : List ℕ → List ℕ → ℕ → ℕ
 tableInverse es ls x = inverseAt es ls (placeIn (length ls) x)

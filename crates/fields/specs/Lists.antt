@@ -1,11 +1,7 @@
 -- Lists given place by place, and a number found by a test.
-use mathlib.Core.Bool.{Bool, true, false}
+use mathlib.Core.Bool.{Bool, cond}
 use mathlib.Core.List.{List, [], _∷_}
 use Prim.Native.Nat.{ℕ, zero, suc}
-
-abbrev pub pick : {A : Type 0} → Bool → A → A → A
-pick true a b = a
-pick false a b = b
 
 -- the list f 0, f 1, .. f (n - 1)
 unfoldable pub tabulate : {A : Type 0} → ℕ → (ℕ → A) → List A
@@ -15,4 +11,4 @@ tabulate (suc n) f = f 0 ∷ tabulate n (λ i. f (suc i))
 -- the number below n that passes the test f: the largest, if several do; 0, if none does
 unfoldable pub find : (ℕ → Bool) → ℕ → ℕ
 find f zero = 0
-find f (suc n) = pick (f n) n (find f n)
+find f (suc n) = cond (f n) n (find f n)

@@ -128,7 +128,7 @@ fn wrapped(i: usize, n: usize) -> usize
     if i < n { i } else { i - n }
 }
 
-// The power whose exponent is i, a sum of two exponents.
+// The power whose exponent is i, below twice the table's length; 0 from there on.
 fn power_near(exp: &[u16], i: usize) -> u16
     ensures { λ r. ⌜ r ≡ powerNear (now (exp .entry)) i ⌝ }
 {

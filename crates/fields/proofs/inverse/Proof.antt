@@ -1,6 +1,6 @@
 -- `fields::inverse` meets its contract. Assumes nothing.
 use borrow.Author.Needs.{needs}
-use Rattle.fields.proofs.Ways.{inverse-none, inverse-zero, inverse-some}
+use Rattle.fields.proofs.Ways.{inverse-none, inverse-of-zero, inverse-some}
 use Rattle.fields.proofs.ByTables.{inverse-lent}
 use Rattle.fields.proofs.inverse.Statement.{statement}
 use Rattle.fields.proofs.inverse.Tie as tie
@@ -12,7 +12,7 @@ place-requires : tie.Need-place-requires
 place-requires c κs = search needs
 
 returns-2 : tie.Need-returns-2
-returns-2 c = search (needs, inverse-zero, inverse-lent)
+returns-2 c = search (needs, inverse-of-zero, inverse-lent)
 
 entry-requires : tie.Need-entry-requires
 entry-requires c κs = search needs

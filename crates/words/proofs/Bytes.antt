@@ -1,0 +1,72 @@
+-- Bits of numbers and of bytes, and the numbers that bits make. Assumes nothing.
+use mathlib.Core.Path.{_≡_, refl, sym, ap, ap₂, _∙_}
+use mathlib.Core.List.{List}
+use Prim.Native.Nat.{ℕ, zero, suc, _+_, _-_, _*_, _/_, _%_, _^_, _≤_, _<_}
+use native.Mathlib.Decide.{decLt}
+use native.Mathlib.Nat.{div-eq-of-lt, le-refl, mod-lt}
+use native.Mathlib.Numerals.{add-one}
+use native.Mathlib.Omega.{arith}
+use lib.Bits.{bitAnd, and-mask}
+use lib.ListN.{length, getD, List·getD-eq-default}
+use lib.Pow.{field, mod-mod-pow, pow-pos, shr-shr}
+use Rattle.fields.specs.Lists.{tabulate}
+use Rattle.fields.proofs.Lists.{tabulate-at, tabulate-length}
+use Rattle.words.specs.Places.{at, bitOf, numberOf, bitAt, bitsOf, bytesOf}
+use Rattle.words.proofs.Numbers.{bitOf-lt}
+use Rattle.words.proofs.Filling.{Filled, filled-end}
+
+pub bitAt-lt : (bytes : List ℕ) (i : ℕ) → bitAt bytes i < 2
+unfolding bitAt
+bitAt-lt bytes i = bitOf-lt 8 (at bytes (i / 8)) (i % 8)
+
+-- n of the bits of a number, from place s on, make a part of it
+pub number-of-bits : (m x s n : ℕ) → s + n ≤ m → numberOf n (λ j. bitOf m x (s + j)) ≡ x / 2 ^ (m - (s + n)) % 2 ^ n
+unfolding numberOf bitOf
+number-of-bits m x s zero h = omega arith
+number-of-bits m x s (suc n) h =
+    let k = m - (s + suc n) in
+    let y = x / 2 ^ k in
+    let e : m - (s + n) ≡ k + 1 = omega arith in
+    let f : m - suc (s + n) ≡ k = omega arith in
+    let up : y / 2 % 2 ^ n ≡ x / 2 ^ (m - (s + n)) % 2 ^ n = ap (λ (z : ℕ). z % 2 ^ n) (shr-shr x k 1 ∙ ap (λ (z : ℕ). x / 2 ^ z) (sym e)) in
+    let low : y % 2 ≡ x / 2 ^ (m - suc (s + n)) % 2 = ap (λ (z : ℕ). x / 2 ^ z % 2) (sym f) in
+    let high : y % 2 ^ (n + 1) / 2 ≡ y / 2 % 2 ^ n = field y n 1 in
+    let last : y % 2 ^ (n + 1) % 2 ≡ y % 2 = mod-mod-pow y n 1 in
+    let all : y % 2 ^ (n + 1) ≡ y % 2 ^ suc n = ap (λ (z : ℕ). y % 2 ^ z) (add-one n) in
+    omega (arith, number-of-bits m x s n (omega arith))
+
+-- past the end of the bytes a bit is 0
+bit-past : (bytes : List ℕ) (i : ℕ) → length bytes ≤ i / 8 → bitAt bytes i ≡ 0
+unfolding bitAt bitOf
+bit-past bytes i h = rw (List·getD-eq-default bytes 0 {n = i / 8} h) (ap (λ (z : ℕ). z % 2) (div-eq-of-lt (pow-pos (8 - suc (i % 8)))))
+
+-- the places of the bits of bytes
+pub bits-length : (bytes : List ℕ) → length (bitsOf bytes) ≡ 8 * length bytes
+unfolding bitsOf
+bits-length bytes = tabulate-length (8 * length bytes) (bitAt bytes)
+
+pub bits-at : (bytes : List ℕ) (i : ℕ) → at (bitsOf bytes) i ≡ bitAt bytes i
+unfolding bitsOf
+bits-at bytes i = go (decLt i (8 * length bytes))
+  where
+    go : Dec (i < 8 * length bytes) → getD (tabulate (8 * length bytes) (bitAt bytes)) i 0 ≡ bitAt bytes i
+    go (yes h) = tabulate-at (8 * length bytes) (bitAt bytes) i 0 h
+    go (no h) =
+        List·getD-eq-default (tabulate (8 * length bytes) (bitAt bytes)) 0 {n = i} (rw (tabulate-length (8 * length bytes) (bitAt bytes)) (omega arith))
+        ∙ sym (bit-past bytes i (omega arith))
+
+-- the two ways through reading a place
+pub place-read : (bytes : List ℕ) (i : ℕ) → bitAnd (getD bytes (i / 8) 0 / 2 ^ (7 - i % 8)) 1 ≡ bitAt bytes i
+unfolding bitAt bitOf
+place-read bytes i = let e : 7 - i % 8 ≡ 8 - suc (i % 8) = omega arith in rw e (and-mask (getD bytes (i / 8) 0 / 2 ^ (8 - suc (i % 8))) 1)
+
+pub place-lt : (bytes : List ℕ) (i : ℕ) → bitAnd (getD bytes (i / 8) 0 / 2 ^ (7 - i % 8)) 1 < 2
+place-lt bytes i = rw (place-read bytes i) (bitAt-lt bytes i)
+
+pub place-past : (bytes : List ℕ) (i : ℕ) → length bytes ≤ i / 8 → 0 ≡ bitAt bytes i
+place-past bytes i h = sym (bit-past bytes i h)
+
+-- bytes stored one after the other
+pub bytes-end : (n : ℕ) (b : ℕ → ℕ) (k : ℕ) (out : List ℕ) → Filled n (λ i. numberOf 8 (λ j. b (8 * i + j))) k out → n ≤ k → out ≡ bytesOf n b
+unfolding bytesOf
+bytes-end n b k out h l = filled-end h l

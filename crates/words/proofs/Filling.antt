@@ -1,0 +1,35 @@
+-- Loops that store the places of a list one after the other. Assumes nothing.
+use mathlib.Core.Path.{_≡_, sym, _∙_}
+use mathlib.Core.List.{List}
+use Prim.Native.Nat.{ℕ, _+_, _≤_, _<_, zero-le}
+use native.Mathlib.Decide.{ℕ-discrete}
+use native.Mathlib.Nat.{not-suc-le-zero}
+use native.Mathlib.Omega.{arith}
+use lib.ListN.{length, getD, set, length-set}
+use lib.Seq.{ext-getD, getD-set-same, getD-set-other}
+use Rattle.fields.specs.Lists.{tabulate}
+use Rattle.fields.proofs.Lists.{tabulate-is}
+
+-- the invariant: the first k of n places hold f 0, f 1, .. f (k - 1)
+pub record Filled (n : ℕ) (f : ℕ → ℕ) (k : ℕ) (out : List ℕ) : Type 0 where
+  pub long : length out ≡ n
+  pub within : k ≤ n
+  pub done : (i : ℕ) → i < k → getD out i 0 ≡ f i
+
+pub filled-start : {n : ℕ} {f : ℕ → ℕ} {out : List ℕ} → length out ≡ n → Filled n f 0 out
+filled-start e = record { long = e; within = zero-le; done = λ i h. absurd (not-suc-le-zero h) }
+
+pub filled-next : {n k v : ℕ} {f : ℕ → ℕ} {out : List ℕ} → Filled n f k out → k < n → v ≡ f k → Filled n f (k + 1) (set out k v)
+filled-next {n} {k} {v} {f} {out} h l e =
+    record { long = length-set out k v ∙ h .long; within = omega arith; done = λ i b. go i b (ℕ-discrete i k) }
+  where
+    go : (i : ℕ) → i < k + 1 → Dec (i ≡ k) → getD (set out k v) i 0 ≡ f i
+    go i b (yes q) = rw q (getD-set-same out k v 0 (omega (arith, h .long)) ∙ e)
+    go i b (no q) = getD-set-other out k i v 0 q ∙ h .done i (omega arith)
+
+pub filled-end : {n k : ℕ} {f : ℕ → ℕ} {out : List ℕ} → Filled n f k out → n ≤ k → out ≡ tabulate n f
+filled-end {n} {k} {f} {out} h l = tabulate-is n f out 0 (h .long) (λ i b. h .done i (omega arith))
+
+-- where the places are those of a list
+pub filled-list : {n k : ℕ} {cells out : List ℕ} → length cells ≡ n → Filled n (λ i. getD cells i 0) k out → n ≤ k → out ≡ cells
+filled-list {n} {k} {cells} {out} e h l = ext-getD 0 out cells (h .long ∙ sym e) (λ i b. h .done i (omega (arith, h .long)))

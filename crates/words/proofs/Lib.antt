@@ -1,0 +1,23 @@
+-- Laws of this crate that belong to no one function.
+pub mod Tests
+pub mod Numbers
+pub mod Filling
+pub mod Bytes
+pub mod Horner
+pub mod Algebra
+pub mod PowerSums
+pub mod Vandermonde
+pub mod Support
+pub mod FieldLaws
+pub mod Values
+pub mod Distance
+pub mod MinimumDistance
+pub mod Squares
+pub mod LeastPolynomials
+pub mod InnerWords
+pub mod InnerParity
+pub mod Loops
+pub mod Shifting
+pub mod Limbs
+pub mod LimbDivision
+pub mod Refusals

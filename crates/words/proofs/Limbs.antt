@@ -1,0 +1,147 @@
+-- Binary polynomials kept in two numbers: sums, products, doubling and their bytes. Assumes nothing.
+use mathlib.Core.Path.{_≡_, refl, sym, ap, ap₂, _∙_}
+use Prim.Native.Nat.{ℕ, zero, suc, _+_, _-_, _*_, _/_, _%_, _^_, _≤_, _<_}
+use mathlib.Core.Bool.{false}
+use native.Mathlib.Nat.{add-suc, pow-suc}
+use native.Mathlib.Numerals.{add-one}
+use native.Mathlib.Omega.{arith}
+use lib.Bits.{bitXor, xor-block, xor-lt}
+use lib.Dec.{eqb}
+use lib.Pow.{field, mod-mod-pow, pow-mono, pow-pos, shr-shr}
+use borrow.Author.Tests.{ne-eqb}
+use Rattle.fields.specs.Elements.{xor, scale, doubled}
+use Rattle.fields.proofs.Doubling.{scale-lt}
+use Rattle.fields.proofs.Xor.{xor-comm, xor-zero-l, xor-lt as field-xor-lt}
+use Rattle.words.specs.InnerCode.{valueOf}
+use Rattle.words.specs.Limbs.{number, Holds}
+use Rattle.words.specs.Places.{bitOf, numberOf}
+use Rattle.words.proofs.Bytes.{number-of-bits}
+
+pub constant-made : (b : ℕ) → b < 256 → Holds 0 b b
+unfolding number
+constant-made b h = record { value = omega arith; split = omega arith }
+
+pub plus-made : (a b c d : ℕ) → b < 2 ^ 48 → d < 2 ^ 48 → Holds (bitXor a c) (bitXor b d) (xor (number a b) (number c d))
+unfolding number xor
+plus-made a b c d hb hd = record { value = sym (xor-block 48 a c b d hb hd); split = xor-lt 48 b d hb hd }
+
+pub shifted-made : (h l : ℕ) → l < 2 ^ 48 → Holds (2 * h + l / 2 ^ 47) (2 * l % 281474976710656) (2 * number h l)
+unfolding number
+shifted-made h l b = record { value = omega arith; split = omega arith }
+
+-- times a bit
+pub scaled-none : (b h l x : ℕ) → b ≡ 0 → Holds h l 0 → Holds h l (scale b x)
+unfolding scale
+scaled-none b h l x e z = rw e z
+
+pub scaled-one : (b h l : ℕ) → (b ≡ 0 → ⊥) → l < 2 ^ 48 → Holds h l (scale b (number h l))
+unfolding scale
+scaled-one zero h l n s = absurd (n refl)
+scaled-one (suc b) h l n s = record { value = refl; split = s }
+
+-- the term z^88 is bit 40 of the upper number
+top : (h l : ℕ) → l < 2 ^ 48 → number h l / 2 ^ 88 ≡ h / 2 ^ 40
+unfolding number
+top h l s =
+    let e : (h * 2 ^ 48 + l) / 2 ^ 48 ≡ h = omega arith in
+    sym (shr-shr (h * 2 ^ 48 + l) 48 40) ∙ ap (λ (x : ℕ). x / 2 ^ 40) e
+
+module _ (h l x : ℕ) (twice : Holds h l (2 * x)) (d : ℕ) where
+  top-bit : 2 * x / 2 ^ 88 % 2 ≡ h / 2 ^ 40 % 2
+  top-bit = ap (λ (y : ℕ). y / 2 ^ 88 % 2) (sym (twice .value)) ∙ ap (λ (y : ℕ). y % 2) (top h l (twice .split))
+
+  pub doubled-below : h / 2 ^ 40 % 2 ≡ 0 → Holds h l (doubled 88 d x)
+  unfolding doubled scale
+  doubled-below e =
+      record { value = twice .value ∙ sym (ap (λ (t : ℕ). xor (scale t d) (2 * x)) (top-bit ∙ e) ∙ xor-zero-l (2 * x)); split = twice .split }
+
+  pub doubled-above : (h / 2 ^ 40 % 2 ≡ 0 → ⊥) → (a b : ℕ) → Holds a b (xor (number h l) d) → Holds a b (doubled 88 d x)
+  unfolding doubled scale
+  doubled-above n a b s =
+      let e : h / 2 ^ 40 % 2 ≡ 1 = omega arith in
+      record {
+        value = s .value ∙ ap (λ (y : ℕ). xor y d) (twice .value) ∙ xor-comm (2 * x) d ∙ sym (ap (λ (t : ℕ). xor (scale t d) (2 * x)) (top-bit ∙ e));
+        split = s .split;
+      }
+
+-- a product by a polynomial of twelve coefficients, the highest first
+product-lt : (y n r : ℕ) → y < 2 ^ 88 → valueOf (λ u. 2 * u) y n r < 2 ^ (88 + n)
+unfolding valueOf
+product-lt y zero r h = pow-pos 88
+product-lt y (suc n) r h =
+    let b : valueOf (λ u. 2 * u) y n (r / 2) < 2 ^ (88 + n) = product-lt y n (r / 2) h in
+    let m : 2 ^ 88 ≤ 2 ^ (88 + n) = pow-mono {i = 88} {j = 88 + n} (omega arith) in
+    let e : 2 ^ (88 + suc n) ≡ 2 * 2 ^ (88 + n) = ap (λ (k : ℕ). 2 ^ k) (add-suc 88 n) ∙ pow-suc 2 (88 + n) ∙ omega arith in
+    field-xor-lt (88 + suc n) _ _ (omega arith) (scale-lt (r % 2) y _ (pow-pos (88 + suc n)) (omega arith))
+
+-- the product by the first k of the twelve coefficients of f
+abbrev pub productSoFar : ℕ → ℕ → ℕ → ℕ
+productSoFar f y k = valueOf (λ u. 2 * u) y k (f / 2 ^ (12 - k))
+
+module _ (f h l a b k : ℕ) where
+  pub product-none : Holds a b 0 → Holds a b (productSoFar f (number h l) 0)
+  unfolding valueOf
+  product-none z = z
+
+  module _ (so-far : Holds a b (productSoFar f (number h l) k)) where
+    pub product-room : h < 2 ^ 40 → l < 2 ^ 48 → k < 12 → a < 2 ^ 60
+    unfolding number
+    product-room hh hl hk =
+        let y = number h l in
+        let b′ : productSoFar f y k < 2 ^ (88 + k) = product-lt y k (f / 2 ^ (12 - k)) (omega arith) in
+        let m : 2 ^ (88 + k) ≤ 2 ^ 100 = pow-mono {i = 88 + k} {j = 100} (omega arith) in
+        let v : a * 2 ^ 48 + b ≡ productSoFar f y k = so-far .value in
+        let t : a * 2 ^ 48 + b < 2 ^ 100 = omega arith in
+        omega arith
+
+    pub product-next : k < 12 → (c d p q i j : ℕ) → Holds c d (2 * number a b) → Holds p q (scale (f / 2 ^ (11 - k) % 2) (number h l)) →
+        Holds i j (xor (number c d) (number p q)) → Holds i j (productSoFar f (number h l) (k + 1))
+    unfolding valueOf
+    product-next hk c d p q i j t u r =
+        let y = number h l in
+        let e : 12 - (k + 1) ≡ 11 - k = omega arith in
+        let n : 11 - k + 1 ≡ 12 - k = omega arith in
+        let half : f / 2 ^ (11 - k) / 2 ≡ f / 2 ^ (12 - k) = shr-shr f (11 - k) 1 ∙ ap (λ (s : ℕ). f / 2 ^ s) n in
+        record {
+          value = r .value ∙ ap₂ xor (t .value ∙ ap (λ (s : ℕ). 2 * s) (so-far .value)) (u .value)
+              ∙ sym (ap₂ (λ (m s : ℕ). valueOf (λ u. 2 * u) y m (f / 2 ^ s)) (add-one k) e ∙ ap (λ (s : ℕ). xor (2 * valueOf (λ u. 2 * u) y k s) (scale (f / 2 ^ (11 - k) % 2) y)) half);
+          split = r .split;
+        }
+
+    pub product-end : 12 ≤ k → k ≤ 12 → Holds a b (valueOf (λ u. 2 * u) (number h l) 12 f)
+    product-end lo hi =
+        let e : k ≡ 12 = omega arith in
+        let z : f / 2 ^ 0 ≡ f = omega arith in
+        rw (e, z) at so-far
+
+pub zero-high : (h l : ℕ) → h ≡ 0 → eqb l 0 ≡ eqb (number h l) 0
+unfolding number
+zero-high h l e = let q : h * 2 ^ 48 + l ≡ l = omega arith in rw q
+
+pub zero-not : (h l : ℕ) → (h ≡ 0 → ⊥) → false ≡ eqb (number h l) 0
+unfolding number
+zero-not h l n = sym (ne-eqb (h * 2 ^ 48 + l) 0 (λ e. n (omega arith)))
+
+-- byte k of eleven, the highest first
+module _ (h l k : ℕ) where
+  pub byte-high : k < 5 → l < 2 ^ 48 → h / 2 ^ (32 - 8 * k) % 256 ≡ numberOf 8 (λ j. bitOf 88 (number h l) (8 * k + j))
+  unfolding number
+  byte-high hk s =
+      let x = h * 2 ^ 48 + l in
+      let e : 48 + (32 - 8 * k) ≡ 88 - (8 * k + 8) = omega arith in
+      let u : x / 2 ^ 48 ≡ h = omega arith in
+      ap (λ (z : ℕ). z / 2 ^ (32 - 8 * k) % 256) (sym u) ∙ ap (λ (z : ℕ). z % 256) (shr-shr x 48 (32 - 8 * k) ∙ ap (λ (z : ℕ). x / 2 ^ z) e)
+      ∙ sym (number-of-bits 88 x (8 * k) 8 (omega arith))
+
+  pub byte-low : 5 ≤ k → k < 11 → l < 2 ^ 48 → l / 2 ^ (80 - 8 * k) % 256 ≡ numberOf 8 (λ j. bitOf 88 (number h l) (8 * k + j))
+  unfolding number
+  byte-low lo hi s =
+      let x = h * 2 ^ 48 + l in
+      let e = 80 - 8 * k in
+      let n = 40 - e in
+      let sum : n + 8 + e ≡ 48 = omega arith in
+      let u : x % 2 ^ 48 ≡ l = omega arith in
+      let part : x % 2 ^ (n + 8 + e) / 2 ^ e ≡ x / 2 ^ e % 2 ^ (n + 8) = field x (n + 8) e in
+      let same : e ≡ 88 - (8 * k + 8) = omega arith in
+      ap (λ (z : ℕ). z / 2 ^ e % 256) (sym u ∙ ap (λ (z : ℕ). x % 2 ^ z) (sym sum)) ∙ ap (λ (z : ℕ). z % 256) part
+      ∙ mod-mod-pow (x / 2 ^ e) n 8 ∙ ap (λ (z : ℕ). x / 2 ^ z % 256) same ∙ sym (number-of-bits 88 x (8 * k) 8 (omega arith))

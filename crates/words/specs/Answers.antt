@@ -1,0 +1,43 @@
+-- What the entries answer: a refusal's number, or 0, and the output buffer ("lent space").
+use mathlib.Core.Bool.{Bool, true, _&&_, cond}
+use mathlib.Core.List.{List}
+use Prim.Native.Nat.{ℕ}
+use lib.Dec.{eqb, leb}
+use lib.ListN.{length}
+use Rattle.words.specs.Places.{at, allBelow, bitsOf, bytesOf}
+use Rattle.words.specs.OuterCode.{isOuter, outerParity}
+use Rattle.words.specs.InnerCode.{isInner, innerParity}
+
+-- the number n unless the test holds; else what follows
+abbrev pub unless : Bool → ℕ → ℕ → ℕ
+unless test n next = cond test next n
+
+-- refusals of a single word, in their order: 6, its length; 3, the size of the buffer; 7, its symbols
+unfoldable pub refusal : Bool → Bool → Bool → ℕ
+refusal long fits symbols = unless long 6 (unless fits 3 (unless symbols 7 0))
+
+-- n is at least low and at most high
+unfoldable pub within : ℕ → ℕ → ℕ → Bool
+within low high n = leb low n && leb n high
+
+-- a refusal leaves the buffer as it was; else the answer is in it
+unfoldable pub answered : ℕ → List ℕ → List ℕ → ℕ × List ℕ
+answered n answer buffer = (n, cond (eqb n 0) answer buffer)
+
+-- the first of two numbers that is not 0
+unfoldable pub firstOf : ℕ → ℕ → ℕ
+firstOf n next = cond (eqb n 0) next n
+
+-- outer words have 17 to 1,023 symbols, their data 1 to 1,007; 4: no code word
+unfoldable pub outerChecked : List ℕ → ℕ
+outerChecked w = firstOf (refusal (within 17 1023 (length w)) true (allBelow 1024 w)) (unless (isOuter w) 4 0)
+
+unfoldable pub outerEncoded : List ℕ → List ℕ → ℕ × List ℕ
+outerEncoded d buffer = answered (refusal (within 1 1007 (length d)) (eqb (length buffer) 16) (allBelow 1024 d)) (outerParity d) buffer
+
+-- inner words have 255 bytes, their data 244, their parity 11
+unfoldable pub innerChecked : List ℕ → ℕ
+innerChecked w = firstOf (refusal (eqb (length w) 255) true true) (unless (isInner (bitsOf w)) 4 0)
+
+unfoldable pub innerEncoded : List ℕ → List ℕ → ℕ × List ℕ
+innerEncoded d buffer = answered (refusal (eqb (length d) 244) (eqb (length buffer) 11) true) (bytesOf 11 (at (innerParity (bitsOf d)))) buffer

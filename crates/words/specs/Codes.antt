@@ -1,0 +1,26 @@
+-- What is proved of the two codes.
+use mathlib.Core.Path.{_≡_}
+use mathlib.Core.Bool.{true}
+use mathlib.Core.List.{List, _++_}
+use Prim.Native.Nat.{ℕ, _+_, _*_, _≤_, _<_}
+use lib.ListN.{length}
+use Rattle.words.specs.Places.{at, allBelow, apart}
+use Rattle.words.specs.OuterCode.{isOuter, outerParity}
+use Rattle.words.specs.InnerCode.{valueB, factors, isInner, innerParity}
+
+pub record Codes : Type 0 where
+  -- data with its parity symbols is an outer code word, and no other sixteen symbols make one of it
+  pub outer-length : (d : List ℕ) → length (outerParity d) ≡ 16
+  pub outer-made : (d : List ℕ) → allBelow 1024 d ≡ true → isOuter (d ++ outerParity d) ≡ true
+  pub outer-only : (d q : List ℕ) → length d ≤ 1007 → length q ≡ 16 → isOuter (d ++ q) ≡ true → q ≡ outerParity d
+  -- outer code words of one length that differ in at most 16 symbols are the same
+  pub outer-far : (c d : List ℕ) → isOuter c ≡ true → isOuter d ≡ true → length c ≡ length d → length c ≤ 1023 → apart c d ≤ 16 → c ≡ d
+  -- each factor vanishes at its power of a, and no other polynomial below degree 11 does but 0
+  pub factor-vanishes : (j : ℕ) → j < 8 → valueB (2 * j + 1) 12 (at factors j) ≡ 0
+  pub none-lower : (j r : ℕ) → j < 8 → r < 2048 → valueB (2 * j + 1) 12 r ≡ 0 → r ≡ 0
+  -- data with its parity bits is an inner code word, and no other 88 bits make one of it
+  pub inner-length : (d : List ℕ) → length (innerParity d) ≡ 88
+  pub inner-made : (d : List ℕ) → length d ≡ 1952 → allBelow 2 d ≡ true → isInner (d ++ innerParity d) ≡ true
+  pub inner-only : (d q : List ℕ) → length d ≡ 1952 → isInner (d ++ q) ≡ true → q ≡ innerParity d
+  -- inner code words that differ in at most 16 places are the same
+  pub inner-far : (c d : List ℕ) → isInner c ≡ true → isInner d ≡ true → apart c d ≤ 16 → c ≡ d

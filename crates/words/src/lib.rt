@@ -1,0 +1,116 @@
+// Single words of the two codes of an I.4 frame: whether a word is a code word, and the parity that completes data to one.
+//
+// Outer words (module reed_solomon), Reed-Solomon over field A, lent as 16-bit symbols:
+//     check    length and symbols, then the word's values at the sixteen roots, all zero for a code word
+//     encode   the data goes symbol by symbol through the division register; what the register then holds is the parity
+// Inner words (module bch), binary BCH over field B, lent as bytes, place 0 the highest bit of the first:
+//     check    the remainder of the 2,040 places after division by the divisor, zero for a code word
+//     encode   the same remainder of the data followed by 88 zeros is the parity
+//
+// Every input is answered: an entry returns 0, or the number of the refusal; a refusal leaves the output buffer as it was. Where a word has more
+// than one fault, the order is 6 (its length), 3 (the size of the output buffer), 7 (a symbol above 1,023), 4 (no code word).
+ghost use mathlib.Core.Path.{_≡_};
+ghost use Rattle.words.specs.Answers.{outerChecked, outerEncoded, innerChecked, innerEncoded};
+
+mod bch;
+mod reed_solomon;
+
+// The outer code. Lengths are counted in symbols.
+pub struct Outer;
+
+impl Outer {
+    pub const PARITY: usize = 16;
+
+    pub const SHORTEST: usize = Outer::PARITY + 1;
+
+    pub const LONGEST: usize = 1023;
+
+    pub const LONGEST_DATA: usize = Outer::LONGEST - Outer::PARITY;
+
+    // A word within so many symbols of a code word can be corrected ("reach").
+    pub const RADIUS: usize = 8;
+
+    pub const SYMBOLS: u16 = 1024;
+}
+
+// The inner code. A word is lent as bytes of eight places each.
+pub struct Inner;
+
+impl Inner {
+    pub const PLACES: usize = 2040;
+
+    pub const PARITY: usize = 88;
+
+    pub const BYTES: usize = Inner::PLACES / 8;
+
+    pub const PARITY_BYTES: usize = Inner::PARITY / 8;
+
+    pub const DATA_BYTES: usize = Inner::BYTES - Inner::PARITY_BYTES;
+
+    // A word within so many places of a code word can be corrected.
+    pub const RADIUS: usize = 8;
+}
+
+// 0 for an outer code word; 6, 7 or 4.
+pub fn check_outer(word: &[u16]) -> u8
+    ensures { λ r. ⌜ r ≡ outerChecked (now (word .entry)) ⌝ }
+{
+    let refusal = reed_solomon::refusal(word, Outer::SHORTEST, Outer::LONGEST, true);
+    if refusal != 0 {
+        return refusal;
+    }
+    let exp = fields::exp_a();
+    let log = fields::log_a();
+    let values = reed_solomon::root_values(&exp, &log, word);
+    if reed_solomon::all_below(&values, 1) {
+        0
+    } else {
+        4
+    }
+}
+
+// Writes the parity symbols of data and returns 0; 6, 3 or 7.
+pub fn encode_outer(data: &[u16], out: &mut [u16]) -> u8
+    ensures { λ r. ⌜ (r, now (out .exit)) ≡ outerEncoded (now («data» .entry)) (now (out .entry)) ⌝ }
+{
+    let fits = out.len() == Outer::PARITY;
+    let refusal = reed_solomon::refusal(data, 1, Outer::LONGEST_DATA, fits);
+    if refusal != 0 {
+        return refusal;
+    }
+    let exp = fields::exp_a();
+    let log = fields::log_a();
+    let generator = reed_solomon::generator();
+    let register = reed_solomon::divide(&exp, &log, &generator, data);
+    let cells = register.cells;
+    reed_solomon::store(cells, out);
+    0
+}
+
+// 0 for an inner code word; 6 or 4.
+pub fn check_inner(word: &[u8]) -> u8
+    ensures { λ r. ⌜ r ≡ innerChecked (now (word .entry)) ⌝ }
+{
+    if word.len() != Inner::BYTES {
+        return 6;
+    }
+    if bch::is_zero(bch::remainder(bch::divisor(), word)) {
+        0
+    } else {
+        4
+    }
+}
+
+// Writes the parity bytes of data and returns 0; 6 or 3.
+pub fn encode_inner(data: &[u8], out: &mut [u8]) -> u8
+    ensures { λ r. ⌜ (r, now (out .exit)) ≡ innerEncoded (now («data» .entry)) (now (out .entry)) ⌝ }
+{
+    if data.len() != Inner::DATA_BYTES {
+        return 6;
+    }
+    if out.len() != Inner::PARITY_BYTES {
+        return 3;
+    }
+    bch::store(bch::remainder(bch::divisor(), data), out);
+    0
+}

@@ -1,0 +1,168 @@
+// Outer words over a field that is lent as its two tables: refusals, values at the roots, and division by the generator.
+use crate::Outer;
+ghost use mathlib.Core.Path.{_≡_};
+ghost use Prim.Native.Nat.{ℕ};
+ghost use lib.ListN.{length};
+ghost use Rattle.fields.specs.Lists.{tabulate};
+ghost use Rattle.fields.specs.Elements.{xor};
+ghost use Rattle.fields.specs.ByTables.{tableProduct};
+ghost use Rattle.words.specs.Places.{at, allBelow};
+ghost use Rattle.words.specs.OuterCode.{generator, shiftedIn, divided};
+ghost use Rattle.words.specs.Answers.{refusal, within};
+ghost use Rattle.words.specs.ByTables.{lentValue, rootValues};
+
+// Each symbol of the word is below q.
+pub fn all_below(word: &[u16], q: u16) -> bool
+    ensures { λ r. ⌜ r ≡ allBelow q (now (word .entry)) ⌝ }
+{
+    let mut i = 0;
+    while i < word.len() {
+        if word[i] >= q {
+            return false;
+        }
+        i += 1;
+    }
+    true
+}
+
+// The refusal of a word, or of data, with that many symbols; `fits` says that the output buffer has the answer's size.
+pub fn refusal(word: &[u16], shortest: usize, longest: usize, fits: bool) -> u8
+    ensures { λ r. ⌜ r ≡ refusal (within shortest longest (length (now (word .entry)))) fits (allBelow 1024 (now (word .entry))) ⌝ }
+{
+    if word.len() < shortest {
+        return 6;
+    }
+    if longest < word.len() {
+        return 6;
+    }
+    if !fits {
+        return 3;
+    }
+    if all_below(word, Outer::SYMBOLS) {
+        0
+    } else {
+        7
+    }
+}
+
+fn sum(x: u16, y: u16) -> u16
+    ensures { λ r. ⌜ r ≡ xor x y ⌝ }
+{
+    x ^ y
+}
+
+// The value of the word at x, by Horner's rule.
+pub fn value(exp: &[u16], log: &[u16], word: &[u16], x: u16) -> u16
+    ensures { λ r. ⌜ r ≡ lentValue (now (exp .entry)) (now (log .entry)) (now (word .entry)) x ⌝ }
+{
+    let mut v = 0;
+    let mut i = 0;
+    while i < word.len() {
+        v = sum(fields::product(exp, log, v, x), word[i]);
+        i += 1;
+    }
+    v
+}
+
+// The word's values at the sixteen roots a^0 to a^15.
+pub fn root_values(exp: &[u16], log: &[u16], word: &[u16]) -> [u16; Outer::PARITY]
+    ensures { λ r. ⌜ r ≡ rootValues (now (exp .entry)) (now (log .entry)) (now (word .entry)) ⌝ }
+{
+    let mut values = [0u16; Outer::PARITY];
+    let mut j: u16 = 0;
+    while j < 16 {
+        values[j as usize] = value(exp, log, word, fields::power(exp, j));
+        j += 1;
+    }
+    values
+}
+
+// The coefficients of the generator, the product of x + a^j over the sixteen roots, highest power first.
+const GENERATOR: [u16; Outer::PARITY + 1] = [
+    1,
+    568,
+    550,
+    748,
+    724,
+    650,
+    1005,
+    744,
+    27,
+    204,
+    617,
+    218,
+    595,
+    461,
+    746,
+    960,
+    888,
+];
+
+pub fn generator() -> [u16; Outer::PARITY + 1]
+    ensures { λ r. ⌜ r ≡ generator ⌝ }
+{
+    GENERATOR
+}
+
+// The division register: the remainder so far, highest power first.
+pub struct Register {
+    pub cells: [u16; Outer::PARITY],
+}
+
+// The symbol at place i; 0 past the end.
+fn symbol(word: &[u16], i: usize) -> u16
+    ensures { λ r. ⌜ r ≡ at (now (word .entry)) i ⌝ }
+{
+    if i < word.len() { word[i] } else { 0 }
+}
+
+impl Register {
+    pub fn empty() -> Self
+        ensures { λ r. ⌜ r .cells ≡ tabulate 16 (λ i. 0) ⌝ }
+    {
+        Register {
+            cells: [0; Outer::PARITY],
+        }
+    }
+
+    // The register after one more symbol.
+    pub fn next(mut self, exp: &[u16], log: &[u16], generator: &[u16], s: u16) -> Self
+        ensures { λ r. ⌜ r .cells ≡ shiftedIn (tableProduct (now (exp .entry)) (now (log .entry))) 16 (at (now (generator .entry))) (self .cells) s ⌝ }
+    {
+        let f = sum(self.cells[0], s);
+        let mut i: usize = 0;
+        while i < 15 {
+            self.cells[i] = sum(
+                self.cells[i + 1],
+                fields::product(exp, log, f, symbol(generator, i + 1)),
+            );
+            i += 1;
+        }
+        self.cells[15] = sum(0, fields::product(exp, log, f, symbol(generator, 16)));
+        self
+    }
+}
+
+// The register after all symbols of data.
+pub fn divide(exp: &[u16], log: &[u16], generator: &[u16], data: &[u16]) -> Register
+    ensures { λ r. ⌜ r .cells ≡ divided (tableProduct (now (exp .entry)) (now (log .entry))) 16 (at (now (generator .entry))) (at (now («data» .entry))) (length (now («data» .entry))) ⌝ }
+{
+    let mut register = Register::empty();
+    let mut i = 0;
+    while i < data.len() {
+        register = register.next(exp, log, generator, data[i]);
+        i += 1;
+    }
+    register
+}
+
+pub fn store(cells: [u16; Outer::PARITY], out: &mut [u16])
+    requires { ⌜ length (now out) ≡ 16 ⌝ }
+    ensures { λ _. ⌜ now (out .exit) ≡ cells ⌝ }
+{
+    let mut i: usize = 0;
+    while i < Outer::PARITY {
+        out[i] = cells[i];
+        i += 1;
+    }
+}

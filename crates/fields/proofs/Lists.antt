@@ -1,7 +1,7 @@
 -- Laws of lists given place by place, and of a number found by a test. Assumes nothing.
-use mathlib.Core.Path.{_≡_, refl, sym, ap, _∙_}
+use mathlib.Core.Path.{_≡_, refl, sym, ap, ap₂, _∙_}
 use mathlib.Core.Bool.{Bool, true, false, cond}
-use mathlib.Core.List.{List}
+use mathlib.Core.List.{List, _∷_}
 use mathlib.Core.Logic.{_⊎_, inl, inr}
 use Prim.Native.Nat.{ℕ, zero, suc, _≤_, _<_}
 use native.Mathlib.Nat.{eq-or-lt-of-le, le-of-suc-le-suc, le-refl, not-suc-le-zero}
@@ -26,6 +26,18 @@ tabulate-at (suc n) f (suc i) d h = tabulate-at n (λ i. f (suc i)) i d (le-of-s
 pub tabulate-is : {A : Type 0} (n : ℕ) (f : ℕ → A) (l : List A) (d : A) → length l ≡ n → ((i : ℕ) → i < n → getD l i d ≡ f i) → l ≡ tabulate n f
 tabulate-is n f l d e h =
     ext-getD d l (tabulate n f) (e ∙ sym (tabulate-length n f)) (λ i lt. let lt′ : i < n = rw e at lt in h i lt′ ∙ sym (tabulate-at n f i d lt′))
+
+pub tabulate-same : {A : Type 0} (n : ℕ) (f g : ℕ → A) → ((i : ℕ) → i < n → f i ≡ g i) → tabulate n f ≡ tabulate n g
+unfolding tabulate
+tabulate-same zero f g h = refl
+tabulate-same {A} (suc n) f g h = ap₂ {C = List A} (λ x r. x ∷ r) (h 0 (omega arith)) (tabulate-same n (λ i. f (suc i)) (λ i. g (suc i)) (λ i l. h (suc i) (omega arith)))
+
+-- a bound on the entries holds past the end too
+pub tabulate-lt : (q n : ℕ) (f : ℕ → ℕ) → 0 < q → ((i : ℕ) → f i < q) → (i : ℕ) → getD (tabulate n f) i 0 < q
+unfolding tabulate
+tabulate-lt q zero f z h i = z
+tabulate-lt q (suc n) f z h zero = h 0
+tabulate-lt q (suc n) f z h (suc i) = tabulate-lt q n (λ j. f (suc j)) z (λ j. h (suc j)) i
 
 -- what passes a test is found
 found : (f : ℕ → Bool) (n i : ℕ) (b : Bool) → f n ≡ b → T (f i) → (i ≡ n) ⊎ (i < n) → (i < n → (find f n < n) × T (f (find f n))) → (cond b n (find f n) < suc n) × T (f (cond b n (find f n)))

@@ -10,7 +10,7 @@ use lib.ListN.{length, List·getD-append, List·getD-eq-default}
 use lib.Pow.{pow-pos}
 use lib.Seq.{getD-append-add}
 use Rattle.fields.specs.Elements.{xor, scale, doubled}
-use Rattle.fields.proofs.Xor.{xor-zero-l, xor-zero-r, xor-self, xor-assoc, xor-four, xor-half, xor-bit, xor-lt, additive-zero}
+use Rattle.fields.proofs.Xor.{xor-zero-l, xor-zero-r, xor-comm, xor-self, xor-assoc, xor-four, xor-half, xor-bit, xor-lt, additive-zero}
 use Rattle.fields.proofs.Doubling.{two-le, bits-scale, doubled-lt}
 use Rattle.words.specs.Places.{at, horner}
 use Rattle.words.specs.InnerCode.{valueOf, remainder}
@@ -46,6 +46,11 @@ remainder-lt m p positive degree b bits zero = pow-pos m
 remainder-lt m p positive degree b bits (suc n) =
     xor-lt m _ _ (doubled-lt m p degree _ (remainder-lt m p positive degree b bits n)) (omega (arith, bits n, two-le m positive))
 
+pub iter-in : (f : ℕ → ℕ) (n v : ℕ) → iter f n (f v) ≡ f (iter f n v)
+unfolding iter
+iter-in f zero v = refl
+iter-in f (suc n) v = ap f (iter-in f n v)
+
 module _ (f : ℕ → ℕ) (f-sum : Additive f) where
   f-zero : f 0 ≡ 0
   f-zero = additive-zero f f-sum
@@ -55,10 +60,15 @@ module _ (f : ℕ → ℕ) (f-sum : Additive f) where
   horner-sum b c zero = sym (xor-self 0)
   horner-sum b c (suc n) = rw (horner-sum b c n, f-sum) (xor-four _ _ _ _)
 
-  horner-zero : (b : ℕ → ℕ) → ((i : ℕ) → b i ≡ 0) → (n : ℕ) → horner f b n ≡ 0
+  pub horner-zero : (b : ℕ → ℕ) → ((i : ℕ) → b i ≡ 0) → (n : ℕ) → horner f b n ≡ 0
   unfolding horner
   horner-zero b h zero = refl
   horner-zero b h (suc n) = rw (horner-zero b h n, h n, f-zero) (xor-self 0)
+
+  pub iter-sum : (n : ℕ) → Additive (iter f n)
+  unfolding iter
+  iter-sum zero x y = refl
+  iter-sum (suc n) x y = ap f (iter-sum n x y) ∙ f-sum _ _
 
   -- a word in two parts, of m and of n symbols
   pub horner-parts : (b : ℕ → ℕ) (m n : ℕ) → horner f b (m + n) ≡ xor (iter f n (horner f b m)) (horner f (λ i. b (m + i)) n)
@@ -66,8 +76,13 @@ module _ (f : ℕ → ℕ) (f-sum : Additive f) where
   horner-parts b m zero = rw add-zero (sym (xor-zero-r _))
   horner-parts b m (suc n) = rw (add-suc, horner, horner-parts b m n, f-sum) (xor-assoc _ _ _)
 
+  pub horner-front : (b : ℕ → ℕ) (n : ℕ) → horner f b (suc n) ≡ xor (iter f n (b 0)) (horner f (λ i. b (suc i)) n)
+  unfolding horner iter
+  horner-front b zero = rw f-zero (xor-comm 0 (b 0))
+  horner-front b (suc n) = rw (horner-front b n, f-sum) (xor-assoc _ _ _)
+
   -- a word with n zeros after it
-  horner-zeros : (c : List ℕ) (n : ℕ) → horner f (at c) (length c + n) ≡ iter f n (horner f (at c) (length c))
+  pub horner-zeros : (c : List ℕ) (n : ℕ) → horner f (at c) (length c + n) ≡ iter f n (horner f (at c) (length c))
   horner-zeros c n =
       horner-parts (at c) (length c) n
       ∙ ap (xor (iter f n (horner f (at c) (length c)))) (horner-zero _ (λ i. List·getD-eq-default c 0 {n = length c + i} (le-add-right (length c) i)) n)

@@ -1,6 +1,7 @@
--- Laws of this crate that belong to no one function.
+-- Laws of this crate that belong to no one function, in the order in which they rest on each other.
 pub mod Tests
 pub mod Numbers
+pub mod Counting
 pub mod Filling
 pub mod Bytes
 pub mod Horner
@@ -12,12 +13,24 @@ pub mod FieldLaws
 pub mod Values
 pub mod Distance
 pub mod MinimumDistance
+pub mod Lent
+pub mod Division
+pub mod OuterWords
 pub mod Squares
 pub mod LeastPolynomials
 pub mod InnerWords
 pub mod InnerParity
+pub mod Codes
 pub mod Loops
 pub mod Shifting
 pub mod Limbs
 pub mod LimbDivision
 pub mod Refusals
+pub mod Entries
+pub mod ShiftedBits
+pub mod Statements
+pub mod WordsAgree
+pub mod OuterAgrees
+pub mod BitRegister
+pub mod InnerAgrees
+pub mod StatementsHold

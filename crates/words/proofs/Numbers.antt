@@ -13,17 +13,17 @@ unfolding bitOf
 bitOf-lt n x i = omega arith
 
 -- all bits but the last are those of the half
-bitOf-half : (n x i : ℕ) → i < n → bitOf (suc n) x i ≡ bitOf n (x / 2) i
+pub bitOf-half : (n x i : ℕ) → i < n → bitOf (suc n) x i ≡ bitOf n (x / 2) i
 unfolding bitOf
 bitOf-half n x i h =
     let e : suc n - suc i ≡ 1 + (n - suc i) = omega arith in
     ap (λ (x : ℕ). x % 2) (ap (λ (k : ℕ). x / 2 ^ k) e ∙ sym (shr-shr x 1 (n - suc i)))
 
-bitOf-last : (n x : ℕ) → bitOf (suc n) x n ≡ x % 2
+pub bitOf-last : (n x : ℕ) → bitOf (suc n) x n ≡ x % 2
 unfolding bitOf
 bitOf-last n x = let e : suc n - suc n ≡ 0 = omega arith in rw e (omega arith)
 
-numberOf-same : (n : ℕ) (b c : ℕ → ℕ) → ((i : ℕ) → i < n → b i ≡ c i) → numberOf n b ≡ numberOf n c
+pub numberOf-same : (n : ℕ) (b c : ℕ → ℕ) → ((i : ℕ) → i < n → b i ≡ c i) → numberOf n b ≡ numberOf n c
 unfolding numberOf
 numberOf-same zero b c h = refl
 numberOf-same (suc n) b c h = ap₂ (λ (x y : ℕ). 2 * x + y) (numberOf-same n b c (λ i l. h i (omega arith))) (h n (le-refl (suc n)))

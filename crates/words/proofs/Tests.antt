@@ -37,6 +37,11 @@ unfolding every
 every-false zero f i h e = absurd (not-suc-le-zero h)
 every-false (suc n) f i h e = failed n f i e (eq-or-lt-of-le (le-of-suc-le-suc h)) (λ l. every-false n f i l e)
 
+pub every-same : (n : ℕ) (f g : ℕ → Bool) → ((i : ℕ) → i < n → f i ≡ g i) → every n f ≡ every n g
+unfolding every
+every-same zero f g h = refl
+every-same (suc n) f g h = rw (every-same n f g (λ i l. h i (omega arith)), h n (le-refl (suc n)))
+
 below-lt : (q : ℕ) (w : List ℕ) → allBelow q w ≡ true → (i : ℕ) → i < length w → at w i < q
 unfolding allBelow
 below-lt q w t i h = ltb-true (at w i) q (every-at (length w) (λ j. ltb (at w j) q) t i h)

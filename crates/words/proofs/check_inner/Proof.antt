@@ -1,30 +1,26 @@
+-- `words::check_inner` meets its contract. Assumes nothing.
 use borrow.Author.Needs.{needs}
+use Rattle.words.proofs.Entries.{inner-refused, inner-accepted, inner-no-code}
 use Rattle.words.proofs.check_inner.Statement.{statement}
 use Rattle.words.proofs.check_inner.Tie as tie
 
--- src/lib.rt:95:9
 returns : tie.Need-returns
-returns c = search needs
+returns c = search (needs, inner-refused)
 
--- src/lib.rt:97:36
 divisor-requires : tie.Need-divisor-requires
 divisor-requires c κs = search needs
 
--- src/lib.rt:97:21
 remainder-requires : tie.Need-remainder-requires
 remainder-requires c κs = search needs
 
--- src/lib.rt:97:8
 is-zero-requires : tie.Need-is-zero-requires
 is-zero-requires c κs = search needs
 
--- src/lib.rt:91:1
 returns-2 : tie.Need-returns-2
-returns-2 c = search needs
+returns-2 c = search (needs, inner-accepted)
 
--- src/lib.rt:91:1
 returns-3 : tie.Need-returns-3
-returns-3 c = search needs
+returns-3 c = search (needs, inner-no-code)
 
 pub check-inner-spec : {M : Type 1} → statement M
 check-inner-spec =

@@ -1,0 +1,145 @@
+-- What each entry answers, on each way through it. Assumes nothing.
+use mathlib.Core.Path.{_≡_, refl, sym, ap, ap₂, _∙_}
+use mathlib.Core.Bool.{Bool, true, false, _&&_}
+use mathlib.Core.List.{List}
+use Prim.Native.Nat.{ℕ, zero, suc, _+_, _*_, _<_}
+use native.Mathlib.Omega.{arith}
+use borrow.Author.Tests.{eq-eqb, eqb-true, le-ltb, ne-eqb}
+use lib.Dec.{eqb, ltb, lit<, eqb·suc-zero}
+use lib.ListN.{length}
+use Rattle.fields.specs.Elements.{doubled, powersA, exponentsA, timesA}
+use Rattle.fields.specs.ByTables.{tableProduct, tablePower}
+use Rattle.fields.specs.Lists.{tabulate}
+use Rattle.fields.proofs.ByTables.{table-power}
+use Rattle.fields.proofs.Instances.{field-a}
+use Rattle.fields.proofs.Lists.{tabulate-at, tabulate-length, tabulate-same}
+use Rattle.words.specs.Places.{at, every, allBelow, bitOf, numberOf, bitAt, bitsOf, bytesOf}
+use Rattle.words.specs.OuterCode.{powerA, outerValue, isOuter, generator, divided, outerParity}
+use Rattle.words.specs.InnerCode.{divisor, remainder, isInner, innerRemainder, innerParity}
+use Rattle.words.specs.Answers.{refusal, within, answered, firstOf, outerChecked, outerEncoded, innerChecked, innerEncoded}
+use Rattle.words.specs.ByTables.{lentValue, rootValue, rootValues}
+use Rattle.words.specs.Limbs.{number, Holds}
+use Rattle.words.proofs.Tests.{every-same, below-at, below-all}
+use Rattle.words.proofs.Numbers.{numberOf-same}
+use Rattle.words.proofs.Bytes.{bitAt-lt, bits-at, bits-length}
+use Rattle.words.proofs.Horner.{horner-same}
+use Rattle.words.proofs.Lent.{value-lent, divided-lent}
+use Rattle.words.proofs.OuterWords.{generator-lt}
+
+-- what no refusal tells: the buffer fits, and the symbols are below 1,024
+passed : (long fits symbols : Bool) → refusal long fits symbols ≡ 0 → (fits ≡ true) × (symbols ≡ true)
+unfolding refusal
+passed true true true e = (refl, refl)
+passed true true false e = absurd (omega arith)
+passed true false symbols e = absurd (omega arith)
+passed false fits symbols e = absurd (omega arith)
+
+-- a number is the answer that a refusal leaves
+pub refused : (n : ℕ) (answer buffer : List ℕ) → (n ≡ 0 → ⊥) → _≡_ {A = ℕ × List ℕ} (n, buffer) (answered n answer buffer)
+unfolding answered
+refused n answer buffer h = rw (ne-eqb n 0 h)
+
+-- ---- outer words
+
+-- the values at the roots over the lent tables of field A
+root-is : (w : List ℕ) → allBelow 1024 w ≡ true → (j : ℕ) → rootValue powersA exponentsA w j ≡ outerValue w j
+unfolding rootValue outerValue
+root-is w h j =
+    ap (lentValue powersA exponentsA w) (table-power 10 1033 field-a j)
+    ∙ value-lent 10 1033 field-a (powerA j) (field-a .power-lt j) w (below-at 1024 w (lit< tt) h)
+
+below-one : (x : ℕ) → ltb x 1 ≡ eqb x 0
+below-one zero = refl
+below-one (suc x) = le-ltb (suc x) 1 (omega arith) ∙ sym (eqb·suc-zero x)
+
+roots-tested : (w : List ℕ) → allBelow 1024 w ≡ true → allBelow 1 (rootValues powersA exponentsA w) ≡ every 16 (λ j. eqb (outerValue w j) 0)
+unfolding allBelow rootValues
+roots-tested w h =
+    let f = rootValue powersA exponentsA w in
+    rw (tabulate-length 16 f) (every-same 16 _ _ (λ j l. below-one (at (tabulate 16 f) j) ∙ ap (λ (v : ℕ). eqb v 0) (tabulate-at 16 f j 0 l ∙ root-is w h j)))
+
+module _ (w : List ℕ) (r : ℕ) (told : r ≡ refusal (within 17 1023 (length w)) true (allBelow 1024 w)) where
+  pub outer-refused : (r ≡ 0 → ⊥) → r ≡ outerChecked w
+  unfolding outerChecked firstOf
+  outer-refused n = rw (← told, ne-eqb r 0 n)
+
+  module _ (none : r ≡ 0) (es ls values : List ℕ) (exp : es ≡ powersA) (log : ls ≡ exponentsA) (v : values ≡ rootValues es ls w) (b : Bool) (test : b ≡ allBelow 1 values) where
+    code-tested : b ≡ isOuter w
+    unfolding isOuter
+    code-tested =
+        let symbols : allBelow 1024 w ≡ true = passed _ _ _ (sym told ∙ none) .1 in
+        test ∙ ap (allBelow 1) (v ∙ ap₂ (λ (e l : List ℕ). rootValues e l w) exp log) ∙ roots-tested w symbols ∙ rw symbols
+
+    pub outer-accepted : b ≡ true → 0 ≡ outerChecked w
+    unfolding outerChecked firstOf
+    outer-accepted t = rw (← told, none, ← code-tested, t)
+
+    pub outer-no-code : b ≡ false → 4 ≡ outerChecked w
+    unfolding outerChecked firstOf
+    outer-no-code t = rw (← told, none, ← code-tested, t)
+
+module _ (d o : List ℕ) (r : ℕ) (told : r ≡ refusal (within 1 1007 (length d)) (eqb (length o) 16) (allBelow 1024 d)) where
+  pub encode-outer-refused : (r ≡ 0 → ⊥) → _≡_ {A = ℕ × List ℕ} (r, o) (outerEncoded d o)
+  unfolding outerEncoded
+  encode-outer-refused n = rw (← told) (refused r (outerParity d) o n)
+
+  module _ (none : r ≡ 0) where
+    pub outer-fits : length o ≡ 16
+    outer-fits = eqb-true _ _ (passed _ _ _ (sym told ∙ none) .0)
+
+    pub outer-encoded : (es ls g cells out : List ℕ) → es ≡ powersA → ls ≡ exponentsA → g ≡ generator → cells ≡ divided (tableProduct es ls) 16 (at g) (at d) (length d) → out ≡ cells →
+        _≡_ {A = ℕ × List ℕ} (0, out) (outerEncoded d o)
+    unfolding outerEncoded answered outerParity
+    outer-encoded es ls g cells out exp log gen e s =
+        let symbols : allBelow 1024 d ≡ true = passed _ _ _ (sym told ∙ none) .1 in
+        let parity : out ≡ outerParity d = s ∙ e ∙ rw (exp, log, gen) (divided-lent 10 1033 field-a 16 (at generator) (at d) generator-lt (below-at 1024 d (lit< tt) symbols) (length d)) in
+        rw (← told, none, parity)
+
+-- ---- inner words
+
+-- the bits of 255 bytes are a code word just where their remainder is zero
+inner-tested : (w : List ℕ) → length w ≡ 255 → isInner (bitsOf w) ≡ eqb (remainder 88 divisor (bitAt w) 2040) 0
+unfolding isInner
+inner-tested w e =
+    let long : length (bitsOf w) ≡ 2040 = bits-length w ∙ omega arith in
+    let bits : allBelow 2 (bitsOf w) ≡ true = below-all 2 (bitsOf w) (λ i l. rw (bits-at w i) (bitAt-lt w i)) in
+    rw (long, bits, horner-same (doubled 88 divisor) (at (bitsOf w)) (bitAt w) 2040 (λ i l. bits-at w i))
+
+module _ (w : List ℕ) where
+  pub inner-refused : (length w ≡ 255 → ⊥) → 6 ≡ innerChecked w
+  unfolding innerChecked firstOf refusal
+  inner-refused n = rw (ne-eqb (length w) 255 n)
+
+  module _ (e : length w ≡ 255) (h l : ℕ) (r : Holds h l (remainder 88 divisor (bitAt w) 2040)) (b : Bool) (test : b ≡ eqb (number h l) 0) where
+    pub inner-accepted : b ≡ true → 0 ≡ innerChecked w
+    unfolding innerChecked firstOf refusal
+    inner-accepted t = rw (eq-eqb (length w) 255 e, inner-tested w e, ← r .value, ← test, t)
+
+    pub inner-no-code : b ≡ false → 4 ≡ innerChecked w
+    unfolding innerChecked firstOf refusal
+    inner-no-code t = rw (eq-eqb (length w) 255 e, inner-tested w e, ← r .value, ← test, t)
+
+-- the parity bits of data lent as bytes, in bytes
+parity-bytes : (d : List ℕ) → bytesOf 11 (bitOf 88 (remainder 88 divisor (bitAt d) 2040)) ≡ bytesOf 11 (at (innerParity (bitsOf d)))
+unfolding bytesOf innerParity innerRemainder
+parity-bytes d =
+    let r = remainder 88 divisor (at (bitsOf d)) 2040 in
+    ap (λ (x : ℕ). tabulate 11 (λ k. numberOf 8 (λ j. bitOf 88 x (8 * k + j)))) (horner-same (doubled 88 divisor) (bitAt d) (at (bitsOf d)) 2040 (λ i l. sym (bits-at d i)))
+    ∙ tabulate-same 11 _ _ (λ k l. numberOf-same 8 _ _ (λ j b. sym (tabulate-at 88 (bitOf 88 r) (8 * k + j) 0 (omega arith))))
+
+module _ (d o : List ℕ) where
+  pub encode-inner-length : (length d ≡ 244 → ⊥) → _≡_ {A = ℕ × List ℕ} (6, o) (innerEncoded d o)
+  unfolding innerEncoded refusal answered
+  encode-inner-length n = rw (ne-eqb (length d) 244 n)
+
+  module _ (e : length d ≡ 244) where
+    pub encode-inner-space : (length o ≡ 11 → ⊥) → _≡_ {A = ℕ × List ℕ} (3, o) (innerEncoded d o)
+    unfolding innerEncoded refusal answered
+    encode-inner-space n = rw (eq-eqb (length d) 244 e, ne-eqb (length o) 11 n)
+
+    pub inner-encoded : length o ≡ 11 → (h l : ℕ) (out : List ℕ) → Holds h l (remainder 88 divisor (bitAt d) 2040) → out ≡ bytesOf 11 (bitOf 88 (number h l)) →
+        _≡_ {A = ℕ × List ℕ} (0, out) (innerEncoded d o)
+    unfolding innerEncoded refusal answered
+    inner-encoded f h l out r s =
+        let parity : out ≡ bytesOf 11 (at (innerParity (bitsOf d))) = s ∙ ap (λ (x : ℕ). bytesOf 11 (bitOf 88 x)) (r .value) ∙ parity-bytes d in
+        rw (eq-eqb (length d) 244 e, eq-eqb (length o) 11 f, parity)

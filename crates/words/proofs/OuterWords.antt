@@ -1,0 +1,93 @@
+-- The outer code: what the test tells, parity symbols, and the minimum distance of 17. Assumes nothing.
+use mathlib.Core.Path.{_≡_, refl, sym, ap, ap₂, _∙_, subst}
+use mathlib.Core.Bool.{true, _&&_, and-eq-true-iff}
+use mathlib.Core.List.{List, _++_}
+use Prim.Native.Nat.{ℕ, zero, suc, _+_, _≤_, _<_}
+use native.Mathlib.Nat.{zero-add}
+use native.Mathlib.Omega.{arith}
+use borrow.Author.Tests.{eq-eqb, eqb-true}
+use lib.Dec.{eqb, lit<}
+use lib.ListN.{length, drop, length-append, List·getD-append}
+use lib.Seq.{drop-append-seam}
+use Rattle.fields.specs.Elements.{xor, scale, doubled, timesFrom, times, power, timesA}
+use Rattle.fields.specs.Lists.{tabulate}
+use Rattle.fields.proofs.Instances.{field-a}
+use Rattle.words.specs.Places.{at, every, allBelow, horner, value, apart}
+use Rattle.words.specs.OuterCode.{powerA, outerValue, isOuter, withRoot, withRoots, generator, outerParity}
+use Rattle.words.proofs.Tests.{every-at, every-true, below-at, below-all, below-append}
+use Rattle.words.proofs.Lent.{divided-lt}
+use Rattle.words.proofs.Division.{divided-length, completed-value}
+use Rattle.words.proofs.Counting.{apart-append}
+use Rattle.words.proofs.MinimumDistance.{far-lists}
+
+pub record Outer (w : List ℕ) : Type 0 where
+  pub symbols : (i : ℕ) → at w i < 1024
+  pub roots : (j : ℕ) → j < 16 → outerValue w j ≡ 0
+
+pub outer-is : (w : List ℕ) → isOuter w ≡ true → Outer w
+unfolding isOuter
+outer-is w h =
+    let a = and-eq-true-iff (allBelow 1024 w) (every 16 (λ j. eqb (outerValue w j) 0)) .0 h in
+    record { symbols = below-at 1024 w (lit< tt) (a .0); roots = λ j l. eqb-true _ _ (every-at 16 (λ j. eqb (outerValue w j) 0) (a .1) j l) }
+
+-- code words of one length that differ in at most 16 symbols are the same: sixteen roots from a^0 on
+pub outer-far : (c d : List ℕ) → isOuter c ≡ true → isOuter d ≡ true → length c ≡ length d → length c ≤ 1023 → apart c d ≤ 16 → c ≡ d
+unfolding outerValue
+outer-far c d hc hd same long =
+    let oc = outer-is c hc in
+    let od = outer-is d hd in
+    far-lists 10 1033 field-a 0 16 c d same long (oc .symbols) (od .symbols) (λ j l. rw zero-add (oc .roots j l ∙ sym (od .roots j l)))
+
+-- the generator: elements, the leading coefficient 1, and zero at the sixteen roots; by computed tests
+generator-below : allBelow 1024 generator ≡ true
+unfolding allBelow every generator withRoots withRoot tabulate xor scale doubled times timesFrom power
+generator-below = refl
+
+pub generator-lt : (i : ℕ) → at generator i < 1024
+generator-lt = below-at 1024 generator (lit< tt) generator-below
+
+generator-monic : at generator 0 ≡ 1
+unfolding generator withRoots withRoot tabulate xor scale doubled times timesFrom power
+generator-monic = refl
+
+generator-vanishes : every 16 (λ j. eqb (value 10 1033 (powerA j) (at generator) 17) 0) ≡ true
+unfolding every horner generator withRoots withRoot tabulate xor scale doubled times timesFrom power
+generator-vanishes = refl
+
+generator-root : (j : ℕ) → j < 16 → value 10 1033 (powerA j) (at generator) 17 ≡ 0
+generator-root j l = eqb-true _ _ (every-at 16 (λ j. eqb (value 10 1033 (powerA j) (at generator) 17) 0) generator-vanishes j l)
+
+pub outer-length : (d : List ℕ) → length (outerParity d) ≡ 16
+unfolding outerParity
+outer-length d = divided-length timesA 16 (at generator) (at d) (length d)
+
+-- data with its parity symbols is a code word
+module _ (d : List ℕ) (h : allBelow 1024 d ≡ true) where
+  data-lt : (i : ℕ) → at d i < 1024
+  data-lt = below-at 1024 d (lit< tt) h
+
+  parity-below : allBelow 1024 (outerParity d) ≡ true
+  unfolding outerParity
+  parity-below = below-all 1024 _ (λ i l. divided-lt 10 1033 field-a 16 (at generator) (at d) generator-lt data-lt (length d) i)
+
+  completed-root : (j : ℕ) → j < 16 → outerValue (d ++ outerParity d) j ≡ 0
+  unfolding outerValue outerParity
+  completed-root j l =
+      let e : length (d ++ outerParity d) ≡ length d + 16 = rw (length-append, outer-length d) in
+      ap (value 10 1033 (powerA j) (at (d ++ outerParity d))) e
+      ∙ completed-value 10 1033 field-a (powerA j) (field-a .power-lt j) 16 (at generator) generator-lt generator-monic (generator-root j l) d data-lt
+
+  pub outer-made : isOuter (d ++ outerParity d) ≡ true
+  unfolding isOuter
+  outer-made =
+      rw (below-append 1024 d (outerParity d) h parity-below) (every-true 16 _ (λ j l. eq-eqb (outerValue (d ++ outerParity d) j) 0 (completed-root j l)))
+
+-- no other sixteen symbols make a code word of the data: they would differ from it in at most 16
+pub outer-only : (d q : List ℕ) → length d ≤ 1007 → length q ≡ 16 → isOuter (d ++ q) ≡ true → q ≡ outerParity d
+outer-only d q short long h =
+    let o = outer-is (d ++ q) h in
+    let symbols : allBelow 1024 d ≡ true = below-all 1024 d (λ i l. rw (List·getD-append d q 0 i l) at (o .symbols i)) in
+    let lq : length (d ++ q) ≡ length d + 16 = rw (length-append, long) in
+    let lp : length (d ++ outerParity d) ≡ length d + 16 = rw (length-append, outer-length d) in
+    let same : d ++ q ≡ d ++ outerParity d = outer-far (d ++ q) (d ++ outerParity d) h (outer-made d symbols) (lq ∙ sym lp) (omega arith) (omega (arith, apart-append d q (outerParity d))) in
+    sym (drop-append-seam d q) ∙ ap (drop (length d)) same ∙ drop-append-seam d (outerParity d)

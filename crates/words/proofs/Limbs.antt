@@ -122,22 +122,13 @@ pub zero-not : (h l : ℕ) → (h ≡ 0 → ⊥) → false ≡ eqb (number h l) 
 unfolding number
 zero-not h l n = sym (ne-eqb (h * 2 ^ 48 + l) 0 (λ e. n (omega arith)))
 
--- byte k of eleven, the highest first
-module _ (h l k : ℕ) where
-  pub byte-high : k < 5 → l < 2 ^ 48 → h / 2 ^ (32 - 8 * k) % 256 ≡ numberOf 8 (λ j. bitOf 88 (number h l) (8 * k + j))
+-- byte k of eleven, the highest first: where its lowest bit is one of the 48 low ones, and where it is not
+module _ (h l k : ℕ) (split : l < 2 ^ 48) (bound : k < 11) where
+  pub byte-low : 88 - 8 * (k + 1) < 48 → l / 2 ^ (88 - 8 * (k + 1)) % 256 ≡ numberOf 8 (λ j. bitOf 88 (number h l) (8 * k + j))
   unfolding number
-  byte-high hk s =
+  byte-low low =
       let x = h * 2 ^ 48 + l in
-      let e : 48 + (32 - 8 * k) ≡ 88 - (8 * k + 8) = omega arith in
-      let u : x / 2 ^ 48 ≡ h = omega arith in
-      ap (λ (z : ℕ). z / 2 ^ (32 - 8 * k) % 256) (sym u) ∙ ap (λ (z : ℕ). z % 256) (shr-shr x 48 (32 - 8 * k) ∙ ap (λ (z : ℕ). x / 2 ^ z) e)
-      ∙ sym (number-of-bits 88 x (8 * k) 8 (omega arith))
-
-  pub byte-low : 5 ≤ k → k < 11 → l < 2 ^ 48 → l / 2 ^ (80 - 8 * k) % 256 ≡ numberOf 8 (λ j. bitOf 88 (number h l) (8 * k + j))
-  unfolding number
-  byte-low lo hi s =
-      let x = h * 2 ^ 48 + l in
-      let e = 80 - 8 * k in
+      let e = 88 - 8 * (k + 1) in
       let n = 40 - e in
       let sum : n + 8 + e ≡ 48 = omega arith in
       let u : x % 2 ^ 48 ≡ l = omega arith in
@@ -145,3 +136,13 @@ module _ (h l k : ℕ) where
       let same : e ≡ 88 - (8 * k + 8) = omega arith in
       ap (λ (z : ℕ). z / 2 ^ e % 256) (sym u ∙ ap (λ (z : ℕ). x % 2 ^ z) (sym sum)) ∙ ap (λ (z : ℕ). z % 256) part
       ∙ mod-mod-pow (x / 2 ^ e) n 8 ∙ ap (λ (z : ℕ). x / 2 ^ z % 256) same ∙ sym (number-of-bits 88 x (8 * k) 8 (omega arith))
+
+  pub byte-high : 48 ≤ 88 - 8 * (k + 1) → h / 2 ^ (88 - 8 * (k + 1) - 48) % 256 ≡ numberOf 8 (λ j. bitOf 88 (number h l) (8 * k + j))
+  unfolding number
+  byte-high high =
+      let x = h * 2 ^ 48 + l in
+      let e = 88 - 8 * (k + 1) - 48 in
+      let same : 48 + e ≡ 88 - (8 * k + 8) = omega arith in
+      let u : x / 2 ^ 48 ≡ h = omega arith in
+      ap (λ (z : ℕ). z / 2 ^ e % 256) (sym u) ∙ ap (λ (z : ℕ). z % 256) (shr-shr x 48 e ∙ ap (λ (z : ℕ). x / 2 ^ z) same)
+      ∙ sym (number-of-bits 88 x (8 * k) 8 (omega arith))

@@ -9,7 +9,12 @@ ghost use Rattle.words.specs.Places.{at, bitAt, numberOf, bitOf, bytesOf
 ghost use Rattle.words.specs.InnerCode.{valueOf, factors, productOf, divisor, remainder};
 ghost use Rattle.words.specs.Limbs.{number, Holds};
 
-// A binary polynomial: bit i of `low` is the coefficient of z^i, for i below 48; bit i of `high` is that of z^(48 + i).
+// Coefficients below z^48, the low ones, stand in one number, the others in another.
+const LOW_BITS: usize = 48;
+
+const LOW_VALUES: u64 = 1 << LOW_BITS;
+
+// A binary polynomial: bit i of `low` is the coefficient of z^i, bit i of `high` that of z^(48 + i).
 pub struct Polynomial {
     pub high: u64,
     pub low: u64,
@@ -40,8 +45,8 @@ fn times_z(v: Polynomial) -> Polynomial
     ensures { λ r. ⌜ Holds (r .high) (r .low) (2 * number (v .high) (v .low)) ⌝ }
 {
     Polynomial {
-        high: 2 * v.high + (v.low >> 47),
-        low: 2 * v.low % 281474976710656,
+        high: 2 * v.high + (v.low >> (LOW_BITS - 1)),
+        low: 2 * v.low % LOW_VALUES,
     }
 }
 
@@ -99,7 +104,7 @@ fn doubled(v: Polynomial, d: Polynomial) -> Polynomial
     ensures { λ r. ⌜ Holds (r .high) (r .low) (doubled 88 (number (d .high) (d .low)) (number (v .high) (v .low))) ⌝ }
 {
     let t = times_z(v);
-    if (t.high >> 40) % 2 == 0 {
+    if (t.high >> (Inner::PARITY - LOW_BITS)) % 2 == 0 {
         return t;
     }
     plus(t, d)
@@ -140,10 +145,11 @@ fn byte(v: Polynomial, k: usize) -> u8
     requires { ⌜ (v .low < 2 ^ 48) × (k < 11) ⌝ }
     ensures { λ r. ⌜ r ≡ numberOf 8 (λ j. bitOf 88 (number (v .high) (v .low)) (8 * k + j)) ⌝ }
 {
-    if k < 5 {
-        return ((v.high >> (32 - 8 * k)) % 256) as u8;
+    let shift = Inner::PARITY - 8 * (k + 1);
+    if shift < LOW_BITS {
+        return ((v.low >> shift) % 256) as u8;
     }
-    ((v.low >> (80 - 8 * k)) % 256) as u8
+    ((v.high >> (shift - LOW_BITS)) % 256) as u8
 }
 
 // Writes the 88 coefficients of v as eleven bytes.

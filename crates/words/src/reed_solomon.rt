@@ -117,6 +117,8 @@ fn symbol(word: &[u16], i: usize) -> u16
 }
 
 impl Register {
+    const LAST: usize = Outer::PARITY - 1;
+
     pub fn empty() -> Self
         ensures { λ r. ⌜ r .cells ≡ tabulate 16 (λ i. 0) ⌝ }
     {
@@ -131,14 +133,17 @@ impl Register {
     {
         let f = sum(self.cells[0], s);
         let mut i: usize = 0;
-        while i < 15 {
+        while i < Register::LAST {
             self.cells[i] = sum(
                 self.cells[i + 1],
                 fields::product(exp, log, f, symbol(generator, i + 1)),
             );
             i += 1;
         }
-        self.cells[15] = sum(0, fields::product(exp, log, f, symbol(generator, 16)));
+        self.cells[Register::LAST] = sum(
+            0,
+            fields::product(exp, log, f, symbol(generator, Outer::PARITY)),
+        );
         self
     }
 }

@@ -5,11 +5,14 @@ use Rattle.words.proofs.Limbs.{byte-high, byte-low}
 use Rattle.words.proofs.bch.byte.Statement.{statement}
 use Rattle.words.proofs.bch.byte.Tie as tie
 
-mul-result : tie.Need-mul-result
-mul-result c = search needs
+add-shift : tie.Need-add-shift
+add-shift c = search needs
 
-sub-result : tie.Need-sub-result
-sub-result c = search needs
+mul-shift : tie.Need-mul-shift
+mul-shift c = search needs
+
+sub-shift : tie.Need-sub-shift
+sub-shift c = search needs
 
 shr-result : tie.Need-shr-result
 shr-result c = search needs
@@ -18,13 +21,7 @@ cast-result : tie.Need-cast-result
 cast-result c = search needs
 
 returns : tie.Need-returns
-returns c = byte-high _ _ _ (omega arith) (omega arith)
-
-mul-result-2 : tie.Need-mul-result-2
-mul-result-2 c = search needs
-
-sub-result-2 : tie.Need-sub-result-2
-sub-result-2 c = search needs
+returns c = byte-low _ _ _ (omega arith) (omega arith) (omega arith)
 
 shr-result-2 : tie.Need-shr-result-2
 shr-result-2 c = search needs
@@ -33,19 +30,18 @@ cast-result-2 : tie.Need-cast-result-2
 cast-result-2 c = search needs
 
 returns-2 : tie.Need-returns-2
-returns-2 c = byte-low _ _ _ (omega arith) (omega arith) (omega arith)
+returns-2 c = byte-high _ _ _ (omega arith) (omega arith) (omega arith)
 
 pub byte-spec : {M : Type 1} → statement M
 byte-spec =
     tie.close
     (tie.spec
-    mul-result
-    sub-result
+    add-shift
+    mul-shift
+    sub-shift
     shr-result
     cast-result
     returns
-    mul-result-2
-    sub-result-2
     shr-result-2
     cast-result-2
     returns-2)

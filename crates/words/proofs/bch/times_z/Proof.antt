@@ -7,14 +7,20 @@ use Rattle.words.proofs.bch.times_z.Tie as tie
 mul-t2 : tie.Need-mul-t2
 mul-t2 c = search needs
 
-add-t4 : tie.Need-add-t4
-add-t4 c = search needs
+sub-t3 : tie.Need-sub-t3
+sub-t3 c = search needs
 
-mul-t5 : tie.Need-mul-t5
-mul-t5 c = search needs
+shr-t5 : tie.Need-shr-t5
+shr-t5 c = search needs
+
+add-t6 : tie.Need-add-t6
+add-t6 c = search needs
+
+mul-t7 : tie.Need-mul-t7
+mul-t7 c = search needs
 
 returns : tie.Need-returns
 returns c = search (needs, shifted-made)
 
 pub times-z-spec : {M : Type 1} → statement M
-times-z-spec = tie.close (tie.spec mul-t2 add-t4 mul-t5 returns)
+times-z-spec = tie.close (tie.spec mul-t2 sub-t3 shr-t5 add-t6 mul-t7 returns)

@@ -1,14 +1,14 @@
 -- What each entry answers, on each way through it. Assumes nothing.
 use mathlib.Core.Path.{_≡_, refl, sym, ap, ap₂, _∙_}
-use mathlib.Core.Bool.{Bool, true, false, _&&_}
+use mathlib.Core.Bool.{Bool, true, false}
 use mathlib.Core.List.{List}
-use Prim.Native.Nat.{ℕ, zero, suc, _+_, _*_, _<_}
+use Prim.Native.Nat.{ℕ, zero, suc, _+_, _*_}
 use native.Mathlib.Omega.{arith}
 use borrow.Author.Tests.{eq-eqb, eqb-true, le-ltb, ne-eqb}
 use lib.Dec.{eqb, ltb, lit<, eqb·suc-zero}
 use lib.ListN.{length}
-use Rattle.fields.specs.Elements.{doubled, powersA, exponentsA, timesA}
-use Rattle.fields.specs.ByTables.{tableProduct, tablePower}
+use Rattle.fields.specs.Elements.{doubled, powersA, exponentsA}
+use Rattle.fields.specs.ByTables.{tableProduct}
 use Rattle.fields.specs.Lists.{tabulate}
 use Rattle.fields.proofs.ByTables.{table-power}
 use Rattle.fields.proofs.Instances.{field-a}
@@ -81,7 +81,7 @@ module _ (w : List ℕ) (r : ℕ) (told : r ≡ refusal (within 17 1023 (length 
 module _ (d o : List ℕ) (r : ℕ) (told : r ≡ refusal (within 1 1007 (length d)) (eqb (length o) 16) (allBelow 1024 d)) where
   pub encode-outer-refused : (r ≡ 0 → ⊥) → _≡_ {A = ℕ × List ℕ} (r, o) (outerEncoded d o)
   unfolding outerEncoded
-  encode-outer-refused n = rw (← told) (refused r (outerParity d) o n)
+  encode-outer-refused n = rw (← told) (refused r _ o n)
 
   module _ (none : r ≡ 0) where
     pub outer-fits : length o ≡ 16

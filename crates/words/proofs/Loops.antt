@@ -1,8 +1,9 @@
 -- A step of each loop over a word, from what the calls in its body ensure. Assumes nothing.
-use mathlib.Core.Path.{_≡_, refl, sym, ap, ap₂, _∙_}
+use mathlib.Core.Path.{_≡_, refl, sym}
 use mathlib.Core.Bool.{Bool, true, false}
 use mathlib.Core.List.{List}
-use Prim.Native.Nat.{ℕ, zero, suc, _+_, _≤_, _<_}
+use Prim.Native.Nat.{ℕ, _+_, _≤_, _<_}
+use native.Mathlib.Nat.{zero-add}
 use native.Mathlib.Numerals.{add-one}
 use native.Mathlib.Omega.{arith}
 use borrow.Author.Tests.{lt-ltb, le-ltb}
@@ -61,9 +62,9 @@ module _ (es ls w : List ℕ) (x : ℕ) where
     value-end l h = let e : i ≡ length w = omega arith in rw e at so-far
 
 module _ (es ls w values : List ℕ) (j : ℕ) (so-far : Filled 16 (rootValue es ls w) j values) where
-  pub root-next : (x r : ℕ) → j < 16 → x ≡ tablePower es j → r ≡ lentValue es ls w x → Filled 16 (rootValue es ls w) (j + 1) (set values j r)
+  pub root-next : (x r : ℕ) → j < 16 → x ≡ tablePower es (0 + j) → r ≡ lentValue es ls w x → Filled 16 (rootValue es ls w) (j + 1) (set values j r)
   unfolding rootValue
-  root-next x r l ex er = filled-next so-far l (rw ex at er)
+  root-next x r l ex er = filled-next so-far l (rw (ex, zero-add) at er)
 
   pub roots-end : 16 ≤ j → values ≡ rootValues es ls w
   unfolding rootValues

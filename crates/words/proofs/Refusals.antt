@@ -1,11 +1,9 @@
 -- A law for each way through the refusals and the answers. Assumes nothing.
-use mathlib.Core.Path.{_≡_, refl, sym, ap, ap₂, _∙_}
+use mathlib.Core.Path.{_≡_}
 use mathlib.Core.Bool.{Bool, true, false, not}
-use mathlib.Core.List.{List}
 use Prim.Native.Nat.{ℕ, _≤_, _<_}
-use borrow.Author.Tests.{eq-eqb, ne-eqb, le-leb, lt-leb, not-false, not-true}
-use lib.Dec.{eqb, leb}
-use Rattle.words.specs.Answers.{refusal, within, answered, firstOf}
+use borrow.Author.Tests.{le-leb, lt-leb, not-false, not-true}
+use Rattle.words.specs.Answers.{refusal, within}
 
 module _ (low high n : ℕ) (fits symbols : Bool) where
   pub refused-short : n < low → 6 ≡ refusal (within low high n) fits symbols

@@ -19,6 +19,12 @@ mod reed_solomon;
 pub struct Outer;
 
 impl Outer {
+    // The values of a symbol.
+    pub const SYMBOLS: u16 = 1024;
+
+    // The roots are a^j for 16 exponents j from this one on.
+    pub const FIRST_ROOT: u16 = 0;
+
     pub const PARITY: usize = 16;
 
     pub const SHORTEST: usize = Outer::PARITY + 1;
@@ -29,8 +35,6 @@ impl Outer {
 
     // A word within so many symbols of a code word can be corrected ("reach").
     pub const RADIUS: usize = 8;
-
-    pub const SYMBOLS: u16 = 1024;
 }
 
 // The inner code. A word is lent as bytes of eight places each.

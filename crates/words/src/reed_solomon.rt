@@ -71,7 +71,7 @@ pub fn root_values(exp: &[u16], log: &[u16], word: &[u16]) -> [u16; Outer::PARIT
     let mut values = [0u16; Outer::PARITY];
     let mut j: u16 = 0;
     while j < 16 {
-        values[j as usize] = value(exp, log, word, fields::power(exp, j));
+        values[j as usize] = value(exp, log, word, fields::power(exp, Outer::FIRST_ROOT + j));
         j += 1;
     }
     values

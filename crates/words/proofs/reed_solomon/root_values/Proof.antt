@@ -16,6 +16,9 @@ abbrev μ-loop : tie.MeasureT-loop
 loop-holds : tie.Need-loop-holds Inv-loop μ-loop
 loop-holds c = search (needs, filled-start)
 
+add-power : tie.Need-add-power Inv-loop μ-loop
+add-power c = search needs
+
 power-requires : tie.Need-power-requires Inv-loop μ-loop
 power-requires c κs = search needs
 
@@ -50,6 +53,7 @@ root-values-spec =
     Inv-loop
     μ-loop
     loop-holds
+    add-power
     power-requires
     value-requires
     cast-values

@@ -1,42 +1,10 @@
--- What is proved of the two codes, in one record. Assumes nothing.
-use mathlib.Core.Path.{_≡_, sym, _∙_}
-use mathlib.Core.Bool.{true}
-use mathlib.Core.List.{List}
-use Prim.Native.Nat.{ℕ, _+_, _≤_, _<_}
-use native.Mathlib.Omega.{arith}
-use lib.ListN.{length}
-use Rattle.fields.proofs.Instances.{field-b}
-use Rattle.words.specs.Places.{at, apart, value}
-use Rattle.words.specs.InnerCode.{powerB, isInner}
-use Rattle.words.specs.Codes.{Codes}
-use Rattle.words.proofs.MinimumDistance.{far-lists}
-use Rattle.words.proofs.OuterWords.{outer-length, outer-made, outer-only, outer-far}
-use Rattle.words.proofs.LeastPolynomials.{factor-vanishes, none-lower}
-use Rattle.words.proofs.InnerWords.{Inner, inner-is, inner-roots}
-use Rattle.words.proofs.InnerParity.{inner-length, inner-made, inner-only}
-
--- inner code words that differ in at most 16 places are the same: sixteen roots from a^1 on
-inner-far : (c d : List ℕ) → isInner c ≡ true → isInner d ≡ true → apart c d ≤ 16 → c ≡ d
-inner-far c d hc hd =
-    let ic = inner-is c hc in
-    let jd = inner-is d hd in
-    far-lists 11 2053 field-b 1 16 c d (ic .long ∙ sym (jd .long)) (omega (arith, ic .long)) (λ i. omega (arith, ic .bits i)) (λ i. omega (arith, jd .bits i))
-    (λ j l. zero c ic j l ∙ sym (zero d jd j l))
-  where
-    zero : (w : List ℕ) → Inner w → (j : ℕ) → j < 16 → value 11 2053 (powerB (1 + j)) (at w) (length w) ≡ 0
-    zero w i j l = rw (i .long) (inner-roots w i (1 + j) (omega arith) (omega arith))
-
-pub codes : Codes
-codes =
-    record {
-      outer-length = outer-length;
-      outer-made = outer-made;
-      outer-only = outer-only;
-      outer-far = outer-far;
-      factor-vanishes = factor-vanishes;
-      none-lower = none-lower;
-      inner-length = inner-length;
-      inner-made = inner-made;
-      inner-only = inner-only;
-      inner-far = inner-far;
-    }
+-- The two codes: division, parity, roots, distance 17.
+pub mod Horner
+pub mod Lent
+pub mod Division
+pub mod OuterWords
+pub mod Squares
+pub mod LeastPolynomials
+pub mod InnerWords
+pub mod InnerParity
+pub mod Proved

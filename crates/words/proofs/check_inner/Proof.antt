@@ -1,6 +1,6 @@
 -- `words::check_inner` meets its contract. Assumes nothing.
 use borrow.Author.Needs.{needs}
-use Rattle.words.proofs.Entries.{inner-refused, inner-accepted, inner-no-code}
+use Rattle.words.proofs.Steps.Entries.{inner-refused, inner-accepted, inner-no-code}
 use Rattle.words.proofs.check_inner.Statement.{statement}
 use Rattle.words.proofs.check_inner.Tie as tie
 

@@ -1,6 +1,6 @@
 -- `words::check_outer` meets its contract. Assumes nothing.
 use borrow.Author.Needs.{needs}
-use Rattle.words.proofs.Entries.{outer-refused, outer-accepted, outer-no-code}
+use Rattle.words.proofs.Steps.Entries.{outer-refused, outer-accepted, outer-no-code}
 use Rattle.words.proofs.check_outer.Statement.{statement}
 use Rattle.words.proofs.check_outer.Tie as tie
 

@@ -1,6 +1,6 @@
 -- `words::encode_inner` meets its contract. Assumes nothing.
 use borrow.Author.Needs.{needs}
-use Rattle.words.proofs.Entries.{encode-inner-length, encode-inner-space, inner-encoded}
+use Rattle.words.proofs.Steps.Entries.{encode-inner-length, encode-inner-space, inner-encoded}
 use Rattle.words.proofs.encode_inner.Statement.{statement}
 use Rattle.words.proofs.encode_inner.Tie as tie
 

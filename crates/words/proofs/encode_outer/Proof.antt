@@ -1,6 +1,6 @@
 -- `words::encode_outer` meets its contract. Assumes nothing.
 use borrow.Author.Needs.{needs}
-use Rattle.words.proofs.Entries.{encode-outer-refused, outer-fits, outer-encoded}
+use Rattle.words.proofs.Steps.Entries.{encode-outer-refused, outer-fits, outer-encoded}
 use Rattle.words.proofs.encode_outer.Statement.{statement}
 use Rattle.words.proofs.encode_outer.Tie as tie
 

@@ -1,7 +1,7 @@
 -- `words::bch::byte` meets its contract. Assumes nothing.
 use native.Mathlib.Omega.{arith}
 use borrow.Author.Needs.{needs}
-use Rattle.words.proofs.Limbs.{byte-high, byte-low}
+use Rattle.words.proofs.Steps.Limbs.{byte-high, byte-low}
 use Rattle.words.proofs.bch.byte.Statement.{statement}
 use Rattle.words.proofs.bch.byte.Tie as tie
 

@@ -1,6 +1,6 @@
 -- `words::bch::constant` meets its contract. Assumes nothing.
 use borrow.Author.Needs.{needs}
-use Rattle.words.proofs.Limbs.{constant-made}
+use Rattle.words.proofs.Steps.Limbs.{constant-made}
 use Rattle.words.proofs.bch.constant.Statement.{statement}
 use Rattle.words.proofs.bch.constant.Tie as tie
 

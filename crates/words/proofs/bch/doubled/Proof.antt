@@ -1,6 +1,6 @@
 -- `words::bch::doubled` meets its contract. Assumes nothing.
 use borrow.Author.Needs.{needs}
-use Rattle.words.proofs.Limbs.{doubled-below, doubled-above}
+use Rattle.words.proofs.Steps.Limbs.{doubled-below, doubled-above}
 use Rattle.words.proofs.bch.doubled.Statement.{statement}
 use Rattle.words.proofs.bch.doubled.Tie as tie
 

@@ -1,6 +1,6 @@
 -- `words::bch::is_zero` meets its contract. Assumes nothing.
 use borrow.Author.Needs.{needs}
-use Rattle.words.proofs.Limbs.{zero-high, zero-not}
+use Rattle.words.proofs.Steps.Limbs.{zero-high, zero-not}
 use Rattle.words.proofs.bch.is_zero.Statement.{statement}
 use Rattle.words.proofs.bch.is_zero.Tie as tie
 

@@ -1,6 +1,6 @@
 -- `words::bch::place` meets its contract. Assumes nothing.
 use borrow.Author.Needs.{needs}
-use Rattle.words.proofs.Bytes.{place-read, place-lt, place-past}
+use Rattle.words.proofs.Places.Bytes.{place-read, place-lt, place-past}
 use Rattle.words.proofs.bch.place.Statement.{statement}
 use Rattle.words.proofs.bch.place.Tie as tie
 

@@ -1,6 +1,6 @@
 -- `words::bch::plus` meets its contract. Assumes nothing.
 use borrow.Author.Needs.{needs}
-use Rattle.words.proofs.Limbs.{plus-made}
+use Rattle.words.proofs.Steps.Limbs.{plus-made}
 use Rattle.words.proofs.bch.plus.Statement.{statement}
 use Rattle.words.proofs.bch.plus.Tie as tie
 

@@ -4,7 +4,7 @@ use borrow.Author.Needs.{needs}
 use Rattle.words.specs.Limbs.{Holds}
 use Rattle.words.specs.Places.{bitAt}
 use Rattle.words.specs.InnerCode.{divisor, remainder}
-use Rattle.words.proofs.LimbDivision.{remainder-none, remainder-room, remainder-next, remainder-end}
+use Rattle.words.proofs.Steps.LimbDivision.{remainder-none, remainder-room, remainder-next, remainder-end}
 use Rattle.words.proofs.bch.remainder.Statement.{statement}
 use Rattle.words.proofs.bch.remainder.Tie as tie
 

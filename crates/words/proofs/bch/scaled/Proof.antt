@@ -1,6 +1,6 @@
 -- `words::bch::scaled` meets its contract. Assumes nothing.
 use borrow.Author.Needs.{needs}
-use Rattle.words.proofs.Limbs.{scaled-none, scaled-one}
+use Rattle.words.proofs.Steps.Limbs.{scaled-none, scaled-one}
 use Rattle.words.proofs.bch.scaled.Statement.{statement}
 use Rattle.words.proofs.bch.scaled.Tie as tie
 

@@ -1,6 +1,6 @@
 -- `words::bch::times_z` meets its contract. Assumes nothing.
 use borrow.Author.Needs.{needs}
-use Rattle.words.proofs.Limbs.{shifted-made}
+use Rattle.words.proofs.Steps.Limbs.{shifted-made}
 use Rattle.words.proofs.bch.times_z.Statement.{statement}
 use Rattle.words.proofs.bch.times_z.Tie as tie
 

@@ -4,7 +4,7 @@ use mathlib.Core.Bool.{true}
 use Prim.Native.Nat.{_-_, _≤_}
 use lib.ListN.{length}
 use borrow.Author.Needs.{needs}
-use Rattle.words.proofs.Loops.{belowUpTo, below-none, below-not, below-next, below-end}
+use Rattle.words.proofs.Steps.Loops.{belowUpTo, below-none, below-not, below-next, below-end}
 use Rattle.words.proofs.reed_solomon.all_below.Statement.{statement}
 use Rattle.words.proofs.reed_solomon.all_below.Tie as tie
 

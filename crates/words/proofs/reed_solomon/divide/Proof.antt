@@ -3,7 +3,7 @@ use mathlib.Core.Path.{_≡_}
 use Prim.Native.Nat.{_-_, _≤_}
 use lib.ListN.{length}
 use borrow.Author.Needs.{needs}
-use Rattle.words.proofs.Loops.{dividedUpTo, divided-none, divided-next, divided-end}
+use Rattle.words.proofs.Steps.Loops.{dividedUpTo, divided-none, divided-next, divided-end}
 use Rattle.words.proofs.reed_solomon.divide.Statement.{statement}
 use Rattle.words.proofs.reed_solomon.divide.Tie as tie
 

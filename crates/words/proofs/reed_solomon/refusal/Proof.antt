@@ -1,6 +1,6 @@
 -- `words::reed_solomon::refusal` meets its contract. Assumes nothing.
 use borrow.Author.Needs.{needs}
-use Rattle.words.proofs.Refusals.{refused-short, refused-long, refused-space, not-refused, refused-symbol}
+use Rattle.words.proofs.Steps.Refusals.{refused-short, refused-long, refused-space, not-refused, refused-symbol}
 use Rattle.words.proofs.reed_solomon.refusal.Statement.{statement}
 use Rattle.words.proofs.reed_solomon.refusal.Tie as tie
 

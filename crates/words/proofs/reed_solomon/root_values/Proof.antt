@@ -2,8 +2,8 @@
 use Prim.Native.Nat.{_-_}
 use borrow.Author.Needs.{needs}
 use Rattle.words.specs.ByTables.{rootValue}
-use Rattle.words.proofs.Filling.{Filled, filled-start}
-use Rattle.words.proofs.Loops.{root-next, roots-end}
+use Rattle.words.proofs.Places.Filling.{Filled, filled-start}
+use Rattle.words.proofs.Steps.Loops.{root-next, roots-end}
 use Rattle.words.proofs.reed_solomon.root_values.Statement.{statement}
 use Rattle.words.proofs.reed_solomon.root_values.Tie as tie
 

@@ -1,6 +1,6 @@
 -- `words::reed_solomon::symbol` meets its contract. Assumes nothing.
 use borrow.Author.Needs.{needs}
-use Rattle.words.proofs.Loops.{symbol-past}
+use Rattle.words.proofs.Steps.Loops.{symbol-past}
 use Rattle.words.proofs.reed_solomon.symbol.Statement.{statement}
 use Rattle.words.proofs.reed_solomon.symbol.Tie as tie
 

@@ -3,7 +3,7 @@ use mathlib.Core.Path.{_≡_}
 use Prim.Native.Nat.{_-_, _≤_}
 use lib.ListN.{length}
 use borrow.Author.Needs.{needs}
-use Rattle.words.proofs.Loops.{valueUpTo, value-none, value-next, value-end}
+use Rattle.words.proofs.Steps.Loops.{valueUpTo, value-none, value-next, value-end}
 use Rattle.words.proofs.reed_solomon.value.Statement.{statement}
 use Rattle.words.proofs.reed_solomon.value.Tie as tie
 

@@ -4,7 +4,7 @@ use Prim.Native.Nat.{_-_, _≤_}
 use lib.ListN.{getD}
 use borrow.Author.Needs.{needs}
 use Rattle.fields.specs.Elements.{xor}
-use Rattle.words.proofs.Shifting.{Shifting, shifting-none, shifting-next, shifting-end}
+use Rattle.words.proofs.Steps.Shifting.{Shifting, shifting-none, shifting-next, shifting-end}
 use Rattle.words.proofs.reed_solomon.Register.next.Statement.{statement}
 use Rattle.words.proofs.reed_solomon.Register.next.Tie as tie
 

@@ -17,13 +17,13 @@ use Rattle.fields.proofs.Statements.{timesB, powB, timesB-agrees, powB-agrees}
 use Rattle.words.specs.Places.{at, allBelow, bitOf, horner, value}
 use Rattle.words.specs.InnerCode.{valueOf, remainder, innerRemainder, innerParity}
 use Rattle.words.specs.InnerCode as Inner
-use Rattle.words.specs.Codes.{Codes}
-use Rattle.words.proofs.Tests.{below-at, below-all}
-use Rattle.words.proofs.Numbers.{bitOf-half, bitOf-last}
-use Rattle.words.proofs.Horner.{scale-one, horner-same}
-use Rattle.words.proofs.WordsAgree.{all-below, same-is, value-agrees}
-use Rattle.words.proofs.Statements.{bitsFrom, divisor, bitRegister, innerChecks, allBits, same, isInner, valueB}
-use Rattle.words.proofs.BitRegister.{bits-length, bits-at, bitRegister-agrees}
+use Rattle.words.proofs.Places.Tests.{below-at, below-all}
+use Rattle.words.proofs.Places.Numbers.{bitOf-half, bitOf-last}
+use Rattle.words.proofs.Codes.Horner.{scale-one, horner-same}
+use Rattle.words.proofs.Codes.InnerParity.{inner-made}
+use Rattle.words.proofs.Document03.WordsAgree.{all-below, same-is, value-agrees}
+use Rattle.words.proofs.Document03.Statements.{bitsFrom, divisor, bitRegister, innerChecks, allBits, same, isInner, valueB}
+use Rattle.words.proofs.Document03.BitRegister.{bits-length, bits-at, bitRegister-agrees}
 
 -- the value of a polynomial, from its bits
 horner-bits : (f : ℕ → ℕ) (n v : ℕ) → horner f (bitOf n v) n ≡ valueOf f 1 n v
@@ -57,8 +57,8 @@ pub inner-length : (w : List ℕ) → isInner w ≡ true → length w ≡ 2040
 inner-length w t = eqb-true (length w) 2040 (and-eq-true-iff (eqb (length w) 2040) (allBits w && same (innerChecks (take 1952 w)) (drop 1952 w)) .0 t .0)
 
 -- what document 03 takes for an inner code word is one
-pub inner-agrees : Codes → (w : List ℕ) → isInner w ≡ true → Inner.isInner w ≡ true
-inner-agrees C w t =
+pub inner-agrees : (w : List ℕ) → isInner w ≡ true → Inner.isInner w ≡ true
+inner-agrees w t =
     let d = take 1952 w in
     let q = drop 1952 w in
     let a = and-eq-true-iff (eqb (length w) 2040) (allBits w && same (innerChecks d) q) .0 t in
@@ -67,4 +67,4 @@ inner-agrees C w t =
     let bits : allBelow 2 w ≡ true = sym (all-below 2 allBits refl (λ s ss. refl) w) ∙ b .0 in
     let h : allBelow 2 d ≡ true = below-all 2 d (λ i l. rw (getD-take 1952 w i 0 (omega arith)) (below-at 2 w (lit< tt) bits i)) in
     let e : d ++ innerParity d ≡ w = ap (λ (r : List ℕ). d ++ r) (sym (parity-agrees d long h) ∙ same-is (innerChecks d) q (b .1)) ∙ take-append-drop 1952 w in
-    ap Inner.isInner (sym e) ∙ C .inner-made d long h
+    ap Inner.isInner (sym e) ∙ inner-made d long h

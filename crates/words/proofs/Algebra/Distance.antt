@@ -5,10 +5,10 @@ use Prim.Native.Nat.{ℕ, zero, suc, _+_, _-_, _≤_, _<_}
 use native.Mathlib.Nat.{le-refl}
 use native.Mathlib.Omega.{arith}
 use lib.ListN.{length}
-use Rattle.words.proofs.Algebra.{Ops, Laws, All, all-map, Apart, upto, upto-lt, all-upto, add-self, eq-of-add}
-use Rattle.words.proofs.PowerSums.{powerSum, valueAt, powerSum-add, in-powers, horner-sums}
-use Rattle.words.proofs.Vandermonde.{vandermonde-from}
-use Rattle.words.proofs.Support.{support, all-support, support-apart, support-powerSum}
+use Rattle.words.proofs.Algebra.Field.{Ops, Laws, All, all-map, Apart, upto, upto-lt, all-upto, add-self, eq-of-add}
+use Rattle.words.proofs.Algebra.PowerSums.{powerSum, valueAt, powerSum-add, in-powers, horner-sums}
+use Rattle.words.proofs.Algebra.Vandermonde.{vandermonde-from}
+use Rattle.words.proofs.Algebra.Support.{support, all-support, support-apart, support-powerSum}
 
 module _ {A : Type 0} (O : Ops A) {In : A → Type 0} (K : Laws O In) (dec : (a : A) → Dec (a ≡ O .𝟘)) where
   open Ops O using (_⊕_, _⊙_, 𝟘, 𝟙)

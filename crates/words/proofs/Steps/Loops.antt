@@ -15,8 +15,8 @@ use Rattle.fields.specs.ByTables.{tableProduct, tablePower}
 use Rattle.words.specs.Places.{at, every, allBelow, horner}
 use Rattle.words.specs.OuterCode.{shiftedIn, divided}
 use Rattle.words.specs.ByTables.{lentValue, rootValue, rootValues}
-use Rattle.words.proofs.Tests.{every-false}
-use Rattle.words.proofs.Filling.{Filled, filled-next, filled-end}
+use Rattle.words.proofs.Places.Tests.{every-false}
+use Rattle.words.proofs.Places.Filling.{Filled, filled-next, filled-end}
 
 -- the first i symbols are below q
 unfoldable pub belowUpTo : ℕ → List ℕ → ℕ → Bool

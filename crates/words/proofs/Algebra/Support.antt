@@ -2,8 +2,8 @@
 use mathlib.Core.Path.{_≡_, refl, ap}
 use mathlib.Core.List.{List, [], _∷_}
 use Prim.Native.Nat.{ℕ, zero, suc}
-use Rattle.words.proofs.Algebra.{Ops, Laws, All, Apart, zero-add, mul-zero}
-use Rattle.words.proofs.PowerSums.{sum, powerSum}
+use Rattle.words.proofs.Algebra.Field.{Ops, Laws, All, Apart, zero-add, mul-zero}
+use Rattle.words.proofs.Algebra.PowerSums.{sum, powerSum}
 
 -- the list ps, with i before it unless P holds
 abbrev pub keep : {P I : Type 0} → Dec P → I → List I → List I

@@ -13,7 +13,7 @@ use Rattle.fields.proofs.Lists.{tabulate-lt, tabulate-same}
 use Rattle.words.specs.Places.{at, horner, value}
 use Rattle.words.specs.OuterCode.{shiftedIn, divided}
 use Rattle.words.specs.ByTables.{lentValue}
-use Rattle.words.proofs.Values.{value-lt}
+use Rattle.words.proofs.Algebra.Values.{value-lt}
 
 module _ (m p : ℕ) (F : Field m p) where
   product-same : (x y : ℕ) → x < 2 ^ m → y < 2 ^ m → tableProduct (powers m p) (exponents m p) x y ≡ times m p x y

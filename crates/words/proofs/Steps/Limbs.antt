@@ -15,7 +15,7 @@ use Rattle.fields.proofs.Xor.{xor-comm, xor-zero-l, xor-lt as field-xor-lt}
 use Rattle.words.specs.InnerCode.{valueOf}
 use Rattle.words.specs.Limbs.{number, Holds}
 use Rattle.words.specs.Places.{bitOf, numberOf}
-use Rattle.words.proofs.Bytes.{number-of-bits}
+use Rattle.words.proofs.Places.Bytes.{number-of-bits}
 
 pub constant-made : (b : ℕ) → b < 256 → Holds 0 b b
 unfolding number

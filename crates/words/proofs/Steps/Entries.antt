@@ -19,12 +19,12 @@ use Rattle.words.specs.InnerCode.{divisor, remainder, isInner, innerRema
 use Rattle.words.specs.Answers.{refusal, within, answered, firstOf, outerChecked, outerEncoded, innerChecked, innerEncoded}
 use Rattle.words.specs.ByTables.{lentValue, rootValue, rootValues}
 use Rattle.words.specs.Limbs.{number, Holds}
-use Rattle.words.proofs.Tests.{every-same, below-at, below-all}
-use Rattle.words.proofs.Numbers.{numberOf-same}
-use Rattle.words.proofs.Bytes.{bitAt-lt, bits-at, bits-length}
-use Rattle.words.proofs.Horner.{horner-same}
-use Rattle.words.proofs.Lent.{value-lent, divided-lent}
-use Rattle.words.proofs.OuterWords.{generator-lt}
+use Rattle.words.proofs.Places.Tests.{every-same, below-at, below-all}
+use Rattle.words.proofs.Places.Numbers.{numberOf-same}
+use Rattle.words.proofs.Places.Bytes.{bitAt-lt, bits-at, bits-length}
+use Rattle.words.proofs.Codes.Horner.{horner-same}
+use Rattle.words.proofs.Codes.Lent.{value-lent, divided-lent}
+use Rattle.words.proofs.Codes.OuterWords.{generator-lt}
 
 -- what no refusal tells: the buffer fits, and the symbols are below 1,024
 passed : (long fits symbols : Bool) → refusal long fits symbols ≡ 0 → (fits ≡ true) × (symbols ≡ true)

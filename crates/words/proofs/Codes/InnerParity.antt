@@ -16,11 +16,11 @@ use Rattle.fields.proofs.Doubling.{doubled-sum, doubled-below}
 use Rattle.fields.proofs.Lists.{tabulate-length, tabulate-at, tabulate-is}
 use Rattle.words.specs.Places.{at, allBelow, bitOf, numberOf, horner}
 use Rattle.words.specs.InnerCode.{divisor, remainder, isInner, innerRemainder, innerParity}
-use Rattle.words.proofs.Tests.{below-at, below-all, below-append}
-use Rattle.words.proofs.Numbers.{bitOf-lt, numberOf-lt, numberOf-bits, bitOf-number}
-use Rattle.words.proofs.Horner.{horner-same, horner-append, remainder-lt}
-use Rattle.words.proofs.LeastPolynomials.{divisor-degree}
-use Rattle.words.proofs.InnerWords.{inner-is}
+use Rattle.words.proofs.Places.Tests.{below-at, below-all, below-append}
+use Rattle.words.proofs.Places.Numbers.{bitOf-lt, numberOf-lt, numberOf-bits, bitOf-number}
+use Rattle.words.proofs.Codes.Horner.{horner-same, horner-append, remainder-lt}
+use Rattle.words.proofs.Codes.LeastPolynomials.{divisor-degree}
+use Rattle.words.proofs.Codes.InnerWords.{inner-is}
 
 -- a word of at most m bits is its own remainder
 short : (m p : ℕ) (b : ℕ → ℕ) → ((i : ℕ) → b i < 2) → (n : ℕ) → n ≤ m → remainder m p b n ≡ numberOf n b

@@ -13,12 +13,12 @@ use Rattle.fields.proofs.Statements.{xor, timesA, powA, timesA-agrees, powA-agr
 use Rattle.words.specs.Places.{at, every, allBelow, value}
 use Rattle.words.specs.OuterCode.{powerA, outerValue, divided, outerParity}
 use Rattle.words.specs.OuterCode as Outer
-use Rattle.words.proofs.Tests.{below-at}
-use Rattle.words.proofs.Lent.{divided-lt}
-use Rattle.words.proofs.Division.{divided-length}
-use Rattle.words.proofs.OuterWords.{generator-lt}
-use Rattle.words.proofs.WordsAgree.{all-below, runs, sum-agrees, value-agrees, dropped-at, register-is}
-use Rattle.words.proofs.Statements.{scaledA, withRoot, generatorFrom, generator, shiftedIn, registerFrom, outerChecks, valueAt, rootsFrom, allSymbols, isOuter}
+use Rattle.words.proofs.Places.Tests.{below-at}
+use Rattle.words.proofs.Codes.Lent.{divided-lt}
+use Rattle.words.proofs.Codes.Division.{divided-length}
+use Rattle.words.proofs.Codes.OuterWords.{generator-lt}
+use Rattle.words.proofs.Document03.WordsAgree.{all-below, runs, sum-agrees, value-agrees, dropped-at, register-is}
+use Rattle.words.proofs.Document03.Statements.{scaledA, withRoot, generatorFrom, generator, shiftedIn, registerFrom, outerChecks, valueAt, rootsFrom, allSymbols, isOuter}
 
 pub symbols-agree : (w : List ℕ) → allSymbols w ≡ allBelow 1024 w
 symbols-agree = all-below 1024 allSymbols refl (λ s ss. refl)

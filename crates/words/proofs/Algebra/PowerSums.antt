@@ -4,7 +4,7 @@ use mathlib.Core.List.{List, [], _∷_}
 use Prim.Native.Nat.{ℕ, zero, suc, _-_, _<_}
 use native.Mathlib.Omega.{arith}
 use native.Mathlib.Nat.{le-refl}
-use Rattle.words.proofs.Algebra.{Ops, Laws, All, upto, add-comm, zero-add, mul-comm, mul-assoc, mul-left, mul-add, mul-zero, ring}
+use Rattle.words.proofs.Algebra.Field.{Ops, Laws, All, upto, add-comm, zero-add, mul-comm, mul-assoc, mul-left, mul-add, mul-zero, ring}
 
 module _ {A : Type 0} (O : Ops A) where
   open Ops O using (_⊕_, _⊙_, 𝟘, 𝟙)

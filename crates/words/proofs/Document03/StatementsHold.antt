@@ -1,4 +1,4 @@
--- Document 03's statement on words follows from ours. Assumes nothing.
+-- Document 03's statement on words, from ours. Assumes nothing.
 use mathlib.Core.Path.{_≡_, refl, sym, ap, _∙_}
 use mathlib.Core.Bool.{true, false}
 use mathlib.Core.List.{List, _++_}
@@ -10,11 +10,11 @@ use lib.ListN.{length}
 use Rattle.fields.proofs.Statements.{powersFrom, powersB}
 use Rattle.words.specs.Places as Places
 use Rattle.words.specs.OuterCode as Outer
-use Rattle.words.specs.Codes as Ours
-use Rattle.words.proofs.Statements.{Codes, vanishesFrom, factors, same, apart}
-use Rattle.words.proofs.WordsAgree.{same-refl, apart-agrees}
-use Rattle.words.proofs.OuterAgrees.{symbols-agree, outer-agrees, parity-agrees}
-use Rattle.words.proofs.InnerAgrees.{valueB-agrees, inner-length, inner-agrees}
+use Rattle.words.proofs.Codes.Proved as Proved
+use Rattle.words.proofs.Document03.Statements.{Codes, vanishesFrom, factors, same, apart}
+use Rattle.words.proofs.Document03.WordsAgree.{same-refl, apart-agrees}
+use Rattle.words.proofs.Document03.OuterAgrees.{symbols-agree, outer-agrees, parity-agrees}
+use Rattle.words.proofs.Document03.InnerAgrees.{valueB-agrees, inner-length, inner-agrees}
 
 factors-vanish : vanishesFrom 1 factors ≡ true
 unfolding powersB powersFrom
@@ -31,15 +31,15 @@ far xs ys e close other = go (decLe (apart xs ys) 16)
         absurd (omega arith)
     go (no h) = omega arith
 
-pub codes : Ours.Codes → Codes
-codes C =
+pub codes : Codes
+codes =
     record {
       factors-vanish = factors-vanish;
       none-lower = λ e v he hv hl. ne-eqb _ 0 (λ z. let lt = leb-true e 7 he in
-          let r : v ≡ 0 = C .none-lower e v (omega arith) (ltb-true v 2048 hl) (sym (valueB-agrees (2 * e + 1) 12 v (omega arith)) ∙ z) in
+          let r : v ≡ 0 = Proved.codes .none-lower e v (omega arith) (ltb-true v 2048 hl) (sym (valueB-agrees (2 * e + 1) 12 v (omega arith)) ∙ z) in
           omega (arith, leb-true 1 v hv));
       outer-made = λ ss h l. let s = sym (symbols-agree ss) ∙ h in
-          outer-agrees _ ∙ ap (λ (q : List ℕ). Outer.isOuter (ss ++ q)) (parity-agrees ss s) ∙ C .outer-made ss s;
-      outer-far = λ xs ys hx hy e l. far xs ys e (C .outer-far xs ys (sym (outer-agrees xs) ∙ hx) (sym (outer-agrees ys) ∙ hy) e (leb-true _ 1023 l));
-      inner-far = λ xs ys hx hy. far xs ys (inner-length xs hx ∙ sym (inner-length ys hy)) (C .inner-far xs ys (inner-agrees C xs hx) (inner-agrees C ys hy));
+          outer-agrees _ ∙ ap (λ (q : List ℕ). Outer.isOuter (ss ++ q)) (parity-agrees ss s) ∙ Proved.codes .outer-made ss s;
+      outer-far = λ xs ys hx hy e l. far xs ys e (Proved.codes .outer-far xs ys (sym (outer-agrees xs) ∙ hx) (sym (outer-agrees ys) ∙ hy) e (leb-true _ 1023 l));
+      inner-far = λ xs ys hx hy. far xs ys (inner-length xs hx ∙ sym (inner-length ys hy)) (Proved.codes .inner-far xs ys (inner-agrees xs hx) (inner-agrees ys hy));
     }

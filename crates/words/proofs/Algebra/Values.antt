@@ -6,8 +6,8 @@ use lib.Pow.{pow-pos}
 use Rattle.fields.specs.Elements.{xor, times}
 use Rattle.fields.specs.Field.{Field}
 use Rattle.words.specs.Places.{horner, value}
-use Rattle.words.proofs.PowerSums.{valueAt}
-use Rattle.words.proofs.FieldLaws.{ops}
+use Rattle.words.proofs.Algebra.PowerSums.{valueAt}
+use Rattle.words.proofs.Algebra.Elements.{ops}
 
 module _ (m p : ℕ) (F : Field m p) where
   -- the value of a word of elements is an element

@@ -14,11 +14,11 @@ use Rattle.fields.specs.Lists.{tabulate}
 use Rattle.fields.proofs.Instances.{field-a}
 use Rattle.words.specs.Places.{at, every, allBelow, horner, value, apart}
 use Rattle.words.specs.OuterCode.{powerA, outerValue, isOuter, withRoot, withRoots, generator, outerParity}
-use Rattle.words.proofs.Tests.{every-at, every-true, below-at, below-all, below-append}
-use Rattle.words.proofs.Lent.{divided-lt}
-use Rattle.words.proofs.Division.{divided-length, completed-value}
-use Rattle.words.proofs.Counting.{apart-append}
-use Rattle.words.proofs.MinimumDistance.{far-lists}
+use Rattle.words.proofs.Places.Tests.{every-at, every-true, below-at, below-all, below-append}
+use Rattle.words.proofs.Codes.Lent.{divided-lt}
+use Rattle.words.proofs.Codes.Division.{divided-length, completed-value}
+use Rattle.words.proofs.Places.Counting.{apart-append}
+use Rattle.words.proofs.Algebra.MinimumDistance.{far-lists}
 
 pub record Outer (w : List ℕ) : Type 0 where
   pub symbols : (i : ℕ) → at w i < 1024

@@ -6,7 +6,7 @@ use Rattle.fields.specs.Elements.{xor, times}
 use Rattle.fields.specs.Field.{Field}
 use Rattle.fields.proofs.Doubling.{two-le}
 use Rattle.words.specs.Places.{horner, value}
-use Rattle.words.proofs.Values.{value-lt}
+use Rattle.words.proofs.Algebra.Values.{value-lt}
 
 module _ (m p : ℕ) (F : Field m p) where
   bit-lt : (t : ℕ) → t < 2 → t < 2 ^ m

@@ -9,11 +9,11 @@ use lib.Seq.{ext-getD}
 use Rattle.fields.specs.Elements.{xor, power}
 use Rattle.fields.specs.Field.{Field}
 use Rattle.words.specs.Places.{at, value, sumTo, differs, apart}
-use Rattle.words.proofs.Algebra.{upto, eq-of-add}
-use Rattle.words.proofs.Support.{keep, support}
-use Rattle.words.proofs.FieldLaws.{isZero, ops, laws, power-next, powers-distinct}
-use Rattle.words.proofs.Values.{value-abstract}
-use Rattle.words.proofs.Distance.{distance}
+use Rattle.words.proofs.Algebra.Field.{upto, eq-of-add}
+use Rattle.words.proofs.Algebra.Support.{keep, support}
+use Rattle.words.proofs.Algebra.Elements.{isZero, ops, laws, power-next, powers-distinct}
+use Rattle.words.proofs.Algebra.Values.{value-abstract}
+use Rattle.words.proofs.Algebra.Distance.{distance}
 
 module _ (m p : ℕ) (F : Field m p) where
   -- the distance is the size of the sum's support

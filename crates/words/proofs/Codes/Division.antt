@@ -11,9 +11,9 @@ use Rattle.fields.proofs.Lists.{tabulate-at, tabulate-length}
 use Rattle.fields.proofs.Xor.{xor-zero-r, xor-comm, xor-assoc, xor-self, xor-cancel, additive-zero}
 use Rattle.words.specs.Places.{at, horner, value}
 use Rattle.words.specs.OuterCode.{shiftedIn, divided}
-use Rattle.words.proofs.Horner.{Additive, iter, iter-sum, iter-in, horner-same, horner-sum, horner-front, horner-append, horner-zero, horner-zeros}
-use Rattle.words.proofs.Values.{value-lt}
-use Rattle.words.proofs.Lent.{divided-lt}
+use Rattle.words.proofs.Codes.Horner.{Additive, iter, iter-sum, iter-in, horner-same, horner-sum, horner-front, horner-append, horner-zero, horner-zeros}
+use Rattle.words.proofs.Algebra.Values.{value-lt}
+use Rattle.words.proofs.Codes.Lent.{divided-lt}
 
 pub divided-length : (mul : ℕ → ℕ → ℕ) (n : ℕ) (g d : ℕ → ℕ) (k : ℕ) → length (divided mul n g d k) ≡ n
 unfolding divided shiftedIn

@@ -17,8 +17,8 @@ use Rattle.fields.proofs.Lists.{tabulate-is}
 use Rattle.fields.proofs.Statements.{xor, xor-agrees}
 use Rattle.words.specs.Places.{at, every, allBelow, horner, value, sumTo, differs}
 use Rattle.words.specs.Places as Places
-use Rattle.words.proofs.Values.{value-lt}
-use Rattle.words.proofs.Statements.{when, sums, same, apart}
+use Rattle.words.proofs.Algebra.Values.{value-lt}
+use Rattle.words.proofs.Document03.Statements.{when, sums, same, apart}
 
 -- a test of all symbols, first symbol first
 every-first : (n : ℕ) (f : ℕ → Bool) → every (suc n) f ≡ (f 0 && every n (λ i. f (suc i)))

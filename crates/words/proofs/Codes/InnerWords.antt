@@ -11,10 +11,10 @@ use lib.ListN.{length}
 use Rattle.fields.proofs.Instances.{field-b}
 use Rattle.words.specs.Places.{at, allBelow, value}
 use Rattle.words.specs.InnerCode.{powerB, valueB, divisor, remainder, isInner}
-use Rattle.words.proofs.Tests.{below-at}
-use Rattle.words.proofs.Horner.{scale-one, horner-same, valueOf-zero, value-remainder}
-use Rattle.words.proofs.LeastPolynomials.{divisor-degree, divisor-vanishes, times-power-sum}
-use Rattle.words.proofs.Squares.{squares}
+use Rattle.words.proofs.Places.Tests.{below-at}
+use Rattle.words.proofs.Codes.Horner.{scale-one, horner-same, valueOf-zero, value-remainder}
+use Rattle.words.proofs.Codes.LeastPolynomials.{divisor-degree, divisor-vanishes, times-power-sum}
+use Rattle.words.proofs.Codes.Squares.{squares}
 
 pub record Inner (w : List ℕ) : Type 0 where
   pub long : length w ≡ 2040

@@ -12,8 +12,8 @@ use lib.Pow.{field, mod-mod-pow, pow-pos, shr-shr}
 use Rattle.fields.specs.Lists.{tabulate}
 use Rattle.fields.proofs.Lists.{tabulate-at, tabulate-length}
 use Rattle.words.specs.Places.{at, bitOf, numberOf, bitAt, bitsOf, bytesOf}
-use Rattle.words.proofs.Numbers.{bitOf-lt}
-use Rattle.words.proofs.Filling.{Filled, filled-end}
+use Rattle.words.proofs.Places.Numbers.{bitOf-lt}
+use Rattle.words.proofs.Places.Filling.{Filled, filled-end}
 
 pub bitAt-lt : (bytes : List ℕ) (i : ℕ) → bitAt bytes i < 2
 unfolding bitAt

@@ -15,8 +15,8 @@ use Rattle.fields.proofs.Xor.{xor-shifted, additive-zero}
 use Rattle.fields.proofs.Times.{sum-times}
 use Rattle.words.specs.Places.{at, every}
 use Rattle.words.specs.InnerCode.{valueOf, powerB, valueB, factors, productOf, divisor}
-use Rattle.words.proofs.Tests.{every-at}
-use Rattle.words.proofs.Horner.{Additive, valueOf-sum}
+use Rattle.words.proofs.Places.Tests.{every-at}
+use Rattle.words.proofs.Codes.Horner.{Additive, valueOf-sum}
 
 pub divisor-is : divisor ≡ 317645624157077156049808851
 unfolding divisor productOf factors valueOf scale xor

@@ -11,9 +11,9 @@ use Rattle.fields.specs.Elements.{xor, scale, doubled}
 use Rattle.words.specs.Places.{at, every, bitAt, horner}
 use Rattle.words.specs.InnerCode.{valueOf, factors, productOf, divisor, remainder}
 use Rattle.words.specs.Limbs.{number, Holds}
-use Rattle.words.proofs.Tests.{every-at}
-use Rattle.words.proofs.Bytes.{bitAt-lt}
-use Rattle.words.proofs.InnerParity.{inner-remainder-lt}
+use Rattle.words.proofs.Places.Tests.{every-at}
+use Rattle.words.proofs.Places.Bytes.{bitAt-lt}
+use Rattle.words.proofs.Codes.InnerParity.{inner-remainder-lt}
 
 -- the product of the first i factors
 small : every 8 (λ i. ltb (productOf i) (2 ^ 88)) ≡ true

@@ -5,8 +5,8 @@ use Prim.Native.Nat.{ℕ, zero, suc, _+_, _<_}
 use native.Mathlib.Omega.{arith}
 use native.Mathlib.Nat as N
 use lib.ListN.{length}
-use Rattle.words.proofs.Algebra.{Ops, Laws, All, all-map, all-zip, Apart, add-mul, add-zero, zero-add, mul-zero, ring, eq-of-add, cancel}
-use Rattle.words.proofs.PowerSums.{sum, powerSum, sum-zero, powerSum-add, powerSum-mul, powerSum-skip}
+use Rattle.words.proofs.Algebra.Field.{Ops, Laws, All, all-map, all-zip, Apart, add-mul, add-zero, zero-add, mul-zero, ring, eq-of-add, cancel}
+use Rattle.words.proofs.Algebra.PowerSums.{sum, powerSum, sum-zero, powerSum-add, powerSum-mul, powerSum-skip}
 
 module _ {A : Type 0} (O : Ops A) {In : A → Type 0} (K : Laws O In) where
   open Ops O using (_⊕_, _⊙_, 𝟘)

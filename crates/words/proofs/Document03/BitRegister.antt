@@ -18,11 +18,11 @@ use Rattle.fields.proofs.Lists.{tabulate-length, tabulate-at, tabulate-is, tabu
 use Rattle.fields.proofs.Statements.{xor}
 use Rattle.words.specs.Places.{at, bitOf, horner}
 use Rattle.words.specs.InnerCode.{remainder}
-use Rattle.words.proofs.Numbers.{bitOf-lt, bitOf-last}
-use Rattle.words.proofs.Horner.{iter, iter-in, iter-sum, horner-zeros}
-use Rattle.words.proofs.ShiftedBits.{bitOf-sum, bitOf-zero, bitOf-scale, bitOf-twice, bitOf-top, bitOf-first, bitOf-other}
-use Rattle.words.proofs.Statements.{bitsFrom, bitScaled, bitIn, bitRegister}
-use Rattle.words.proofs.WordsAgree.{runs, sum-agrees, register-is}
+use Rattle.words.proofs.Places.Numbers.{bitOf-lt, bitOf-last}
+use Rattle.words.proofs.Codes.Horner.{iter, iter-in, iter-sum, horner-zeros}
+use Rattle.words.proofs.Document03.ShiftedBits.{bitOf-sum, bitOf-zero, bitOf-scale, bitOf-twice, bitOf-top, bitOf-first, bitOf-other}
+use Rattle.words.proofs.Document03.Statements.{bitsFrom, bitScaled, bitIn, bitRegister}
+use Rattle.words.proofs.Document03.WordsAgree.{runs, sum-agrees, register-is}
 
 -- lists of bits
 pub bits-length : (n v : ℕ) → length (bitsFrom n v) ≡ n

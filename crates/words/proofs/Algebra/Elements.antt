@@ -9,7 +9,7 @@ use lib.Bits.{xor-mod}
 use lib.Pow.{pow-pos, pow-mono}
 use Rattle.fields.specs.Elements.{xor, times, power, exponent, inverse}
 use Rattle.fields.specs.Field.{Field}
-use Rattle.words.proofs.Algebra.{Ops, Laws}
+use Rattle.words.proofs.Algebra.Field.{Ops, Laws}
 
 pub isZero : (a : ℕ) → Dec (a ≡ 0)
 isZero a = ℕ-discrete a 0

@@ -1,8 +1,9 @@
--- Words: places and symbols, the outer code, the inner code, the answers of the entries, and what is proved of both codes.
+-- Single words: places and bits, the outer code, the inner code, what the entries answer, and what is proved of the codes.
 pub mod Places
 pub mod OuterCode
 pub mod InnerCode
 pub mod Answers
 pub mod Codes
+-- what the functions below the entries give
 pub mod ByTables
 pub mod Limbs

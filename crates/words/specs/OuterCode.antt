@@ -32,9 +32,9 @@ withRoots (suc n) = withRoot (powerA n) (withRoots n)
 unfoldable pub generator : List ℕ
 generator = withRoots 16
 
--- Division of a word times x^n by a polynomial g of degree n with the leading coefficient 1, where mul is the product of coefficients.
--- The register holds the n coefficients of the remainder so far, highest power first; the word's next symbol s is added to the first of
--- them, the rest move up by one, and so many times g is taken away as the leading coefficient says
+-- One step of division by g, a polynomial of degree n with the leading coefficient 1; mul multiplies coefficients. The register reg holds the
+-- remainder so far: n coefficients, the highest power first. They move up a power, and the word's next symbol s is added at the power n. What
+-- stands there is the leading coefficient, and so many times g is taken away
 unfoldable pub shiftedIn : (ℕ → ℕ → ℕ) → ℕ → (ℕ → ℕ) → List ℕ → ℕ → List ℕ
 shiftedIn mul n g reg s = tabulate n (λ i. xor (at reg (suc i)) (mul (xor (at reg 0) s) (g (suc i))))
 

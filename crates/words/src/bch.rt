@@ -1,4 +1,4 @@
-// Inner words: binary polynomials of degree below 90, the divisor, and the remainder of a word after division by it.
+// Inner words: binary polynomials, the divisor that the eight factors make, and the remainder of a word after division by it.
 use crate::Inner;
 ghost use mathlib.Core.Path.{_≡_};
 ghost use Prim.Native.Nat.{ℕ, _+_, _*_, _^_, _<_};
@@ -20,7 +20,7 @@ pub struct Polynomial {
     pub low: u64,
 }
 
-// The polynomial 0 or 1.
+// A bit as the polynomial 0 or 1; any other byte as the polynomial of its bits.
 fn constant(b: u8) -> Polynomial
     ensures { λ r. ⌜ Holds (r .high) (r .low) b ⌝ }
 {

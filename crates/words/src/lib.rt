@@ -31,6 +31,8 @@ impl Outer {
 
     pub const LONGEST: usize = 1023;
 
+    pub const SHORTEST_DATA: usize = Outer::SHORTEST - Outer::PARITY;
+
     pub const LONGEST_DATA: usize = Outer::LONGEST - Outer::PARITY;
 
     // A word within so many symbols of a code word can be corrected ("reach").
@@ -78,7 +80,7 @@ pub fn encode_outer(data: &[u16], out: &mut [u16]) -> u8
     ensures { λ r. ⌜ (r, now (out .exit)) ≡ outerEncoded (now («data» .entry)) (now (out .entry)) ⌝ }
 {
     let fits = out.len() == Outer::PARITY;
-    let refusal = reed_solomon::refusal(data, 1, Outer::LONGEST_DATA, fits);
+    let refusal = reed_solomon::refusal(data, Outer::SHORTEST_DATA, Outer::LONGEST_DATA, fits);
     if refusal != 0 {
         return refusal;
     }

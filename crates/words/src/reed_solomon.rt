@@ -104,16 +104,16 @@ pub fn generator() -> [u16; Outer::PARITY + 1]
     GENERATOR
 }
 
-// The division register: the remainder so far, highest power first.
-pub struct Register {
-    pub cells: [u16; Outer::PARITY],
-}
-
 // The symbol at place i; 0 past the end.
 fn symbol(word: &[u16], i: usize) -> u16
     ensures { λ r. ⌜ r ≡ at (now (word .entry)) i ⌝ }
 {
     if i < word.len() { word[i] } else { 0 }
+}
+
+// The division register: the remainder so far, highest power first.
+pub struct Register {
+    pub cells: [u16; Outer::PARITY],
 }
 
 impl Register {

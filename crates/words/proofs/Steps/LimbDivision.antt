@@ -1,19 +1,73 @@
--- The divisor formed from its factors, and the remainder of a word after division by it, kept in two numbers. Assumes nothing.
+-- Loops over binary polynomials kept in two numbers: a product, the divisor formed from its factors, the remainder of a word. Assumes nothing.
 use mathlib.Core.Path.{_≡_, refl, sym, ap, ap₂, _∙_}
 use mathlib.Core.Bool.{true}
 use mathlib.Core.List.{List}
-use Prim.Native.Nat.{ℕ, _+_, _*_, _^_, _≤_, _<_}
+use Prim.Native.Nat.{ℕ, zero, suc, _+_, _-_, _*_, _/_, _%_, _^_, _≤_, _<_}
+use native.Mathlib.Nat.{add-suc, pow-suc}
 use native.Mathlib.Numerals.{add-one}
 use native.Mathlib.Omega.{arith}
 use borrow.Author.Tests.{ltb-true}
 use lib.Dec.{ltb}
+use lib.Pow.{pow-mono, pow-pos, shr-shr}
 use Rattle.fields.specs.Elements.{xor, scale, doubled}
+use Rattle.fields.proofs.Doubling.{scale-lt}
+use Rattle.fields.proofs.Xor.{xor-lt}
 use Rattle.words.specs.Places.{at, every, bitAt, horner}
 use Rattle.words.specs.InnerCode.{valueOf, factors, productOf, divisor, remainder}
 use Rattle.words.specs.Limbs.{number, Holds}
 use Rattle.words.proofs.Places.Tests.{every-at}
 use Rattle.words.proofs.Places.Bytes.{bitAt-lt}
 use Rattle.words.proofs.Codes.InnerParity.{inner-remainder-lt}
+
+-- a product by a polynomial of twelve coefficients, the highest first
+product-lt : (y n r : ℕ) → y < 2 ^ 88 → valueOf (λ u. 2 * u) y n r < 2 ^ (88 + n)
+unfolding valueOf
+product-lt y zero r h = pow-pos 88
+product-lt y (suc n) r h =
+    let b : valueOf (λ u. 2 * u) y n (r / 2) < 2 ^ (88 + n) = product-lt y n (r / 2) h in
+    let m : 2 ^ 88 ≤ 2 ^ (88 + n) = pow-mono {i = 88} {j = 88 + n} (omega arith) in
+    let e : 2 ^ (88 + suc n) ≡ 2 * 2 ^ (88 + n) = ap (λ (k : ℕ). 2 ^ k) (add-suc 88 n) ∙ pow-suc 2 (88 + n) ∙ omega arith in
+    xor-lt (88 + suc n) _ _ (omega arith) (scale-lt (r % 2) y _ (pow-pos (88 + suc n)) (omega arith))
+
+-- the product by the first k of the twelve coefficients of f
+abbrev pub productSoFar : ℕ → ℕ → ℕ → ℕ
+productSoFar f y k = valueOf (λ u. 2 * u) y k (f / 2 ^ (12 - k))
+
+module _ (f h l a b k : ℕ) where
+  pub product-none : Holds a b 0 → Holds a b (productSoFar f (number h l) 0)
+  unfolding valueOf
+  product-none z = z
+
+  module _ (so-far : Holds a b (productSoFar f (number h l) k)) where
+    pub product-room : h < 2 ^ 40 → l < 2 ^ 48 → k < 12 → a < 2 ^ 60
+    unfolding number
+    product-room hh hl hk =
+        let y = number h l in
+        let b′ : productSoFar f y k < 2 ^ (88 + k) = product-lt y k (f / 2 ^ (12 - k)) (omega arith) in
+        let m : 2 ^ (88 + k) ≤ 2 ^ 100 = pow-mono {i = 88 + k} {j = 100} (omega arith) in
+        let v : a * 2 ^ 48 + b ≡ productSoFar f y k = so-far .value in
+        let t : a * 2 ^ 48 + b < 2 ^ 100 = omega arith in
+        omega arith
+
+    pub product-next : k < 12 → (c d p q i j : ℕ) → Holds c d (2 * number a b) → Holds p q (scale (f / 2 ^ (11 - k) % 2) (number h l)) →
+        Holds i j (xor (number c d) (number p q)) → Holds i j (productSoFar f (number h l) (k + 1))
+    unfolding valueOf
+    product-next hk c d p q i j t u r =
+        let y = number h l in
+        let e : 12 - (k + 1) ≡ 11 - k = omega arith in
+        let n : 11 - k + 1 ≡ 12 - k = omega arith in
+        let half : f / 2 ^ (11 - k) / 2 ≡ f / 2 ^ (12 - k) = shr-shr f (11 - k) 1 ∙ ap (λ (s : ℕ). f / 2 ^ s) n in
+        record {
+          value = r .value ∙ ap₂ xor (t .value ∙ ap (λ (s : ℕ). 2 * s) (so-far .value)) (u .value)
+              ∙ sym (ap₂ (λ (m s : ℕ). valueOf (λ u. 2 * u) y m (f / 2 ^ s)) (add-one k) e ∙ ap (λ (s : ℕ). xor (2 * valueOf (λ u. 2 * u) y k s) (scale (f / 2 ^ (11 - k) % 2) y)) half);
+          split = r .split;
+        }
+
+    pub product-end : 12 ≤ k → k ≤ 12 → Holds a b (valueOf (λ u. 2 * u) (number h l) 12 f)
+    product-end lo hi =
+        let e : k ≡ 12 = omega arith in
+        let z : f / 2 ^ 0 ≡ f = omega arith in
+        rw (e, z) at so-far
 
 -- the product of the first i factors
 small : every 8 (λ i. ltb (productOf i) (2 ^ 88)) ≡ true

@@ -1,18 +1,14 @@
--- Binary polynomials kept in two numbers: sums, products, doubling and their bytes. Assumes nothing.
-use mathlib.Core.Path.{_≡_, refl, sym, ap, ap₂, _∙_}
-use Prim.Native.Nat.{ℕ, zero, suc, _+_, _-_, _*_, _/_, _%_, _^_, _≤_, _<_}
+-- Binary polynomials kept in two numbers: sums, doubling, the test for zero, and their bytes. Assumes nothing.
+use mathlib.Core.Path.{_≡_, refl, sym, ap, _∙_}
 use mathlib.Core.Bool.{false}
-use native.Mathlib.Nat.{add-suc, pow-suc}
-use native.Mathlib.Numerals.{add-one}
+use Prim.Native.Nat.{ℕ, zero, suc, _+_, _-_, _*_, _/_, _%_, _^_, _≤_, _<_}
 use native.Mathlib.Omega.{arith}
 use lib.Bits.{bitXor, xor-block, xor-lt}
 use lib.Dec.{eqb}
-use lib.Pow.{field, mod-mod-pow, pow-mono, pow-pos, shr-shr}
+use lib.Pow.{field, mod-mod-pow, shr-shr}
 use borrow.Author.Tests.{ne-eqb}
 use Rattle.fields.specs.Elements.{xor, scale, doubled}
-use Rattle.fields.proofs.Doubling.{scale-lt}
-use Rattle.fields.proofs.Xor.{xor-comm, xor-zero-l, xor-lt as field-xor-lt}
-use Rattle.words.specs.InnerCode.{valueOf}
+use Rattle.fields.proofs.Xor.{xor-comm, xor-zero-l}
 use Rattle.words.specs.Limbs.{number, Holds}
 use Rattle.words.specs.Places.{bitOf, numberOf}
 use Rattle.words.proofs.Places.Bytes.{number-of-bits}
@@ -63,56 +59,6 @@ module _ (h l x : ℕ) (twice : Holds h l (2 * x)) (d : ℕ) where
         value = s .value ∙ ap (λ (y : ℕ). xor y d) (twice .value) ∙ xor-comm (2 * x) d ∙ sym (ap (λ (t : ℕ). xor (scale t d) (2 * x)) (top-bit ∙ e));
         split = s .split;
       }
-
--- a product by a polynomial of twelve coefficients, the highest first
-product-lt : (y n r : ℕ) → y < 2 ^ 88 → valueOf (λ u. 2 * u) y n r < 2 ^ (88 + n)
-unfolding valueOf
-product-lt y zero r h = pow-pos 88
-product-lt y (suc n) r h =
-    let b : valueOf (λ u. 2 * u) y n (r / 2) < 2 ^ (88 + n) = product-lt y n (r / 2) h in
-    let m : 2 ^ 88 ≤ 2 ^ (88 + n) = pow-mono {i = 88} {j = 88 + n} (omega arith) in
-    let e : 2 ^ (88 + suc n) ≡ 2 * 2 ^ (88 + n) = ap (λ (k : ℕ). 2 ^ k) (add-suc 88 n) ∙ pow-suc 2 (88 + n) ∙ omega arith in
-    field-xor-lt (88 + suc n) _ _ (omega arith) (scale-lt (r % 2) y _ (pow-pos (88 + suc n)) (omega arith))
-
--- the product by the first k of the twelve coefficients of f
-abbrev pub productSoFar : ℕ → ℕ → ℕ → ℕ
-productSoFar f y k = valueOf (λ u. 2 * u) y k (f / 2 ^ (12 - k))
-
-module _ (f h l a b k : ℕ) where
-  pub product-none : Holds a b 0 → Holds a b (productSoFar f (number h l) 0)
-  unfolding valueOf
-  product-none z = z
-
-  module _ (so-far : Holds a b (productSoFar f (number h l) k)) where
-    pub product-room : h < 2 ^ 40 → l < 2 ^ 48 → k < 12 → a < 2 ^ 60
-    unfolding number
-    product-room hh hl hk =
-        let y = number h l in
-        let b′ : productSoFar f y k < 2 ^ (88 + k) = product-lt y k (f / 2 ^ (12 - k)) (omega arith) in
-        let m : 2 ^ (88 + k) ≤ 2 ^ 100 = pow-mono {i = 88 + k} {j = 100} (omega arith) in
-        let v : a * 2 ^ 48 + b ≡ productSoFar f y k = so-far .value in
-        let t : a * 2 ^ 48 + b < 2 ^ 100 = omega arith in
-        omega arith
-
-    pub product-next : k < 12 → (c d p q i j : ℕ) → Holds c d (2 * number a b) → Holds p q (scale (f / 2 ^ (11 - k) % 2) (number h l)) →
-        Holds i j (xor (number c d) (number p q)) → Holds i j (productSoFar f (number h l) (k + 1))
-    unfolding valueOf
-    product-next hk c d p q i j t u r =
-        let y = number h l in
-        let e : 12 - (k + 1) ≡ 11 - k = omega arith in
-        let n : 11 - k + 1 ≡ 12 - k = omega arith in
-        let half : f / 2 ^ (11 - k) / 2 ≡ f / 2 ^ (12 - k) = shr-shr f (11 - k) 1 ∙ ap (λ (s : ℕ). f / 2 ^ s) n in
-        record {
-          value = r .value ∙ ap₂ xor (t .value ∙ ap (λ (s : ℕ). 2 * s) (so-far .value)) (u .value)
-              ∙ sym (ap₂ (λ (m s : ℕ). valueOf (λ u. 2 * u) y m (f / 2 ^ s)) (add-one k) e ∙ ap (λ (s : ℕ). xor (2 * valueOf (λ u. 2 * u) y k s) (scale (f / 2 ^ (11 - k) % 2) y)) half);
-          split = r .split;
-        }
-
-    pub product-end : 12 ≤ k → k ≤ 12 → Holds a b (valueOf (λ u. 2 * u) (number h l) 12 f)
-    product-end lo hi =
-        let e : k ≡ 12 = omega arith in
-        let z : f / 2 ^ 0 ≡ f = omega arith in
-        rw (e, z) at so-far
 
 pub zero-high : (h l : ℕ) → h ≡ 0 → eqb l 0 ≡ eqb (number h l) 0
 unfolding number

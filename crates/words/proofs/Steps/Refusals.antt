@@ -1,4 +1,4 @@
--- A law for each way through the refusals and the answers. Assumes nothing.
+-- A law for each way through the refusals of an outer word. Assumes nothing.
 use mathlib.Core.Path.{_≡_}
 use mathlib.Core.Bool.{Bool, true, false, not}
 use Prim.Native.Nat.{ℕ, _≤_, _<_}

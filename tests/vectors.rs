@@ -189,8 +189,9 @@ fn main() {
     for s in [1023, 1024] {
         row("check outer, a symbol of", s as usize, check_outer(&with(17, &[(3, s)])));
     }
-    let mut word = outer_generator();
-    row("check outer, the generator, length", 17, check_outer(&word));
+    let mut word = vec![2];
+    word.extend(outer_parity(&[2]));
+    row("check outer, the data 2 with its parity, length", 17, check_outer(&word));
     word[16] ^= 1;
     row("check outer, its last symbol changed, length", 17, check_outer(&word));
 

@@ -88,28 +88,27 @@ fn outer() {
     check_outer(b"check outer, zeros, length ", &[0u16; 1024]);
     symbol(1023);
     symbol(1024);
-    let generator = [
-        1u16,
-        568,
-        550,
-        748,
-        724,
-        650,
-        1005,
-        744,
-        27,
-        204,
-        617,
-        218,
-        595,
-        461,
-        746,
-        960,
-        888,
+    let mut word = [
+        2u16,
+        121,
+        69,
+        465,
+        417,
+        285,
+        979,
+        473,
+        54,
+        408,
+        219,
+        436,
+        175,
+        922,
+        477,
+        905,
+        761,
     ];
-    check_outer(b"check outer, the generator, length ", &generator);
-    let mut word = generator;
-    word[16] = 889;
+    check_outer(b"check outer, the data 2 with its parity, length ", &word);
+    word[16] = 760;
     check_outer(b"check outer, its last symbol changed, length ", &word);
 }
 

@@ -1,10 +1,10 @@
 -- Laws of lists given place by place, and of a number found by a test. Assumes nothing.
 use mathlib.Core.Path.{_≡_, refl, sym, ap, ap₂, _∙_}
 use mathlib.Core.Bool.{Bool, true, false, cond}
-use mathlib.Core.List.{List, _∷_}
+use mathlib.Core.List.{List, _∷_, _++_}
 use mathlib.Core.Logic.{_⊎_, inl, inr}
-use Prim.Native.Nat.{ℕ, zero, suc, _≤_, _<_}
-use native.Mathlib.Nat.{eq-or-lt-of-le, le-of-suc-le-suc, le-refl, not-suc-le-zero}
+use Prim.Native.Nat.{ℕ, zero, suc, _+_, _≤_, _<_}
+use native.Mathlib.Nat.{eq-or-lt-of-le, le-of-suc-le-suc, le-refl, not-suc-le-zero, suc-add, zero-add}
 use native.Mathlib.Omega.{arith}
 use lib.Dec.{T}
 use lib.ListN.{length, getD}
@@ -31,6 +31,13 @@ pub tabulate-same : {A : Type 0} (n : ℕ) (f g : ℕ → A) → ((i : ℕ) → 
 unfolding tabulate
 tabulate-same zero f g h = refl
 tabulate-same {A} (suc n) f g h = ap₂ {C = List A} (λ x r. x ∷ r) (h 0 (omega arith)) (tabulate-same n (λ i. f (suc i)) (λ i. g (suc i)) (λ i l. h (suc i) (omega arith)))
+
+-- the entries of f up to m, and those from there on
+pub tabulate-append : {A : Type 0} (m n : ℕ) (f g : ℕ → A) → ((i : ℕ) → g i ≡ f (m + i)) → tabulate m f ++ tabulate n g ≡ tabulate (m + n) f
+unfolding tabulate
+tabulate-append zero n f g h = tabulate-same n g f (λ i l. h i ∙ ap f (zero-add i)) ∙ ap (λ (k : ℕ). tabulate k f) (sym (zero-add n))
+tabulate-append {A} (suc m) n f g h =
+    ap (λ (r : List A). f 0 ∷ r) (tabulate-append m n (λ i. f (suc i)) g (λ i. h i ∙ ap f (suc-add m i))) ∙ ap (λ (k : ℕ). tabulate k f) (sym (suc-add m n))
 
 -- a bound on the entries holds past the end too
 pub tabulate-lt : (q n : ℕ) (f : ℕ → ℕ) → 0 < q → ((i : ℕ) → f i < q) → (i : ℕ) → getD (tabulate n f) i 0 < q

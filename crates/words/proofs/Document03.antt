@@ -1,8 +1,11 @@
--- Document 03 on words: its definitions, that they agree with ours, and its statement.
+-- Document 03 on words: its definitions, that they agree with ours, and its statements.
 pub mod ShiftedBits
 pub mod Statements
+pub mod Says
 pub mod WordsAgree
 pub mod OuterAgrees
 pub mod BitRegister
 pub mod InnerAgrees
+pub mod BytesAgree
 pub mod StatementsHold
+pub mod SaysHold

@@ -1,11 +1,11 @@
 -- Document 03's inner code agrees with ours: its values of binary polynomials, its divisor, its parity bits and its code words.
 -- Assumes nothing.
 use mathlib.Core.Path.{_≡_, refl, sym, ap, ap₂, _∙_}
-use mathlib.Core.Bool.{true, _&&_, and-eq-true-iff}
+use mathlib.Core.Bool.{Bool, true, false, _&&_, and-eq-true-iff}
 use mathlib.Core.List.{List, _++_}
 use Prim.Native.Nat.{ℕ, zero, suc, _+_, _/_, _%_, _<_}
 use native.Mathlib.Omega.{arith}
-use borrow.Author.Tests.{eqb-true}
+use borrow.Author.Tests.{eq-eqb, eqb-true}
 use lib.Dec.{eqb, lit<}
 use lib.ListN.{length, take, drop, replicate, take-append-drop}
 use lib.Seq.{getD-take, length-take-le}
@@ -20,8 +20,9 @@ use Rattle.words.specs.InnerCode as Inner
 use Rattle.words.proofs.Places.Tests.{below-at, below-all}
 use Rattle.words.proofs.Places.Numbers.{bitOf-half, bitOf-last}
 use Rattle.words.proofs.Codes.Horner.{scale-one, horner-same}
-use Rattle.words.proofs.Codes.InnerParity.{inner-made}
-use Rattle.words.proofs.Document03.WordsAgree.{all-below, same-is, value-agrees}
+use Rattle.words.proofs.Codes.InnerWords.{inner-is}
+use Rattle.words.proofs.Codes.InnerParity.{inner-made, inner-only}
+use Rattle.words.proofs.Document03.WordsAgree.{all-below, same-refl, same-is, value-agrees}
 use Rattle.words.proofs.Document03.Statements.{bitsFrom, divisor, bitRegister, innerChecks, allBits, same, isInner, valueB}
 use Rattle.words.proofs.Document03.BitRegister.{bits-length, bits-at, bitRegister-agrees}
 
@@ -47,7 +48,7 @@ divisor-agrees : divisor ≡ bitsFrom 89 Inner.divisor
 unfolding Inner.divisor Inner.productOf Inner.factors valueOf scale E.xor
 divisor-agrees = refl
 
-parity-agrees : (d : List ℕ) → length d ≡ 1952 → allBelow 2 d ≡ true → innerChecks d ≡ innerParity d
+pub parity-agrees : (d : List ℕ) → length d ≡ 1952 → allBelow 2 d ≡ true → innerChecks d ≡ innerParity d
 unfolding innerParity innerRemainder
 parity-agrees d long h =
     ap (λ (g : List ℕ). bitRegister g (replicate 88 0) d) divisor-agrees ∙ bitRegister-agrees 87 Inner.divisor d (below-at 2 d (lit< tt) h)
@@ -56,15 +57,44 @@ parity-agrees d long h =
 pub inner-length : (w : List ℕ) → isInner w ≡ true → length w ≡ 2040
 inner-length w t = eqb-true (length w) 2040 (and-eq-true-iff (eqb (length w) 2040) (allBits w && same (innerChecks (take 1952 w)) (drop 1952 w)) .0 t .0)
 
--- what document 03 takes for an inner code word is one
-pub inner-agrees : (w : List ℕ) → isInner w ≡ true → Inner.isInner w ≡ true
-inner-agrees w t =
-    let d = take 1952 w in
-    let q = drop 1952 w in
-    let a = and-eq-true-iff (eqb (length w) 2040) (allBits w && same (innerChecks d) q) .0 t in
-    let b = and-eq-true-iff (allBits w) (same (innerChecks d) q) .0 (a .1) in
-    let long : length d ≡ 1952 = length-take-le 1952 w (omega (arith, inner-length w t)) in
-    let bits : allBelow 2 w ≡ true = sym (all-below 2 allBits refl (λ s ss. refl) w) ∙ b .0 in
-    let h : allBelow 2 d ≡ true = below-all 2 d (λ i l. rw (getD-take 1952 w i 0 (omega arith)) (below-at 2 w (lit< tt) bits i)) in
-    let e : d ++ innerParity d ≡ w = ap (λ (r : List ℕ). d ++ r) (sym (parity-agrees d long h) ∙ same-is (innerChecks d) q (b .1)) ∙ take-append-drop 1952 w in
-    ap Inner.isInner (sym e) ∙ inner-made d long h
+-- a binary word of 2,040 places: its first 1,952 and the others
+module _ (w : List ℕ) (long : length w ≡ 2040) (bits : allBelow 2 w ≡ true) where
+  abbrev d : List ℕ
+  d = take 1952 w
+
+  abbrev q : List ℕ
+  q = drop 1952 w
+
+  data-long : length d ≡ 1952
+  data-long = length-take-le 1952 w (omega arith)
+
+  data-bits : allBelow 2 d ≡ true
+  data-bits = below-all 2 d (λ i l. rw (getD-take 1952 w i 0 (omega (arith, data-long))) (below-at 2 w (lit< tt) bits i))
+
+  same-inner : same (innerChecks d) q ≡ true → Inner.isInner w ≡ true
+  same-inner t =
+      let e : d ++ innerParity d ≡ w = ap (λ (r : List ℕ). d ++ r) (sym (parity-agrees d data-long data-bits) ∙ same-is (innerChecks d) q t) ∙ take-append-drop 1952 w in
+      ap Inner.isInner (sym e) ∙ inner-made d data-long data-bits
+
+  inner-same : Inner.isInner w ≡ true → same (innerChecks d) q ≡ true
+  inner-same t =
+      ap (λ (r : List ℕ). same r q) (parity-agrees d data-long data-bits ∙ sym (inner-only d q data-long (ap Inner.isInner (take-append-drop 1952 w) ∙ t)))
+      ∙ same-refl q
+
+-- two tests of which each holds if the other does
+tests-agree : (a b : Bool) → (a ≡ true → b ≡ true) → (b ≡ true → a ≡ true) → a ≡ b
+tests-agree true b h g = sym (h refl)
+tests-agree false true h g = g refl
+tests-agree false false h g = refl
+
+pub inner-agrees : (w : List ℕ) → isInner w ≡ Inner.isInner w
+inner-agrees w =
+    let checked = same (innerChecks (take 1952 w)) (drop 1952 w) in
+    let bits : allBits w ≡ allBelow 2 w = all-below 2 allBits refl (λ s ss. refl) w in
+    tests-agree (isInner w) (Inner.isInner w)
+    (λ t. let b = and-eq-true-iff (allBits w) checked .0 (and-eq-true-iff (eqb (length w) 2040) (allBits w && checked) .0 t .1) in
+    same-inner w (inner-length w t) (sym bits ∙ b .0) (b .1))
+    (λ t. let c = inner-is w t in
+    let below : allBelow 2 w ≡ true = below-all 2 w (λ i l. c .bits i) in
+    and-eq-true-iff (eqb (length w) 2040) (allBits w && checked) .1
+    (eq-eqb (length w) 2040 (c .long), and-eq-true-iff (allBits w) checked .1 (bits ∙ below, inner-same w (c .long) below t)))

@@ -41,5 +41,5 @@ codes =
       outer-made = λ ss h l. let s = sym (symbols-agree ss) ∙ h in
           outer-agrees _ ∙ ap (λ (q : List ℕ). Outer.isOuter (ss ++ q)) (parity-agrees ss s) ∙ Proved.codes .outer-made ss s;
       outer-far = λ xs ys hx hy e l. far xs ys e (Proved.codes .outer-far xs ys (sym (outer-agrees xs) ∙ hx) (sym (outer-agrees ys) ∙ hy) e (leb-true _ 1023 l));
-      inner-far = λ xs ys hx hy. far xs ys (inner-length xs hx ∙ sym (inner-length ys hy)) (Proved.codes .inner-far xs ys (inner-agrees xs hx) (inner-agrees ys hy));
+      inner-far = λ xs ys hx hy. far xs ys (inner-length xs hx ∙ sym (inner-length ys hy)) (Proved.codes .inner-far xs ys (sym (inner-agrees xs) ∙ hx) (sym (inner-agrees ys) ∙ hy));
     }

@@ -1,5 +1,6 @@
 -- Bits of numbers and of bytes, and the numbers that bits make. Assumes nothing.
 use mathlib.Core.Path.{_≡_, sym, ap, _∙_}
+use mathlib.Core.Bool.{true}
 use mathlib.Core.List.{List}
 use Prim.Native.Nat.{ℕ, zero, suc, _+_, _-_, _*_, _/_, _%_, _^_, _≤_, _<_}
 use native.Mathlib.Decide.{decLt}
@@ -11,7 +12,8 @@ use lib.ListN.{length, getD, List·getD-eq-default}
 use lib.Pow.{field, mod-mod-pow, pow-pos, shr-shr}
 use Rattle.fields.specs.Lists.{tabulate}
 use Rattle.fields.proofs.Lists.{tabulate-at, tabulate-length}
-use Rattle.words.specs.Places.{at, bitOf, numberOf, bitAt, bitsOf, bytesOf}
+use Rattle.words.specs.Places.{at, allBelow, bitOf, numberOf, bitAt, bitsOf, bytesOf}
+use Rattle.words.proofs.Places.Tests.{below-all}
 use Rattle.words.proofs.Places.Numbers.{bitOf-lt}
 use Rattle.words.proofs.Places.Filling.{Filled, filled-end}
 
@@ -54,6 +56,9 @@ bits-at bytes i = go (decLt i (8 * length bytes))
     go (no h) =
         List·getD-eq-default (tabulate (8 * length bytes) (bitAt bytes)) 0 {n = i} (rw (tabulate-length (8 * length bytes) (bitAt bytes)) (omega arith))
         ∙ sym (bit-past bytes i (omega arith))
+
+pub bits-below : (bytes : List ℕ) → allBelow 2 (bitsOf bytes) ≡ true
+bits-below bytes = below-all 2 (bitsOf bytes) (λ i l. rw (bits-at bytes i) (bitAt-lt bytes i))
 
 -- the two ways through reading a place
 pub place-read : (bytes : List ℕ) (i : ℕ) → bitAnd (getD bytes (i / 8) 0 / 2 ^ (7 - i % 8)) 1 ≡ bitAt bytes i

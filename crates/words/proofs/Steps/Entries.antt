@@ -19,9 +19,9 @@ use Rattle.words.specs.InnerCode.{divisor, remainder, isInner, innerRema
 use Rattle.words.specs.Answers.{refusal, within, answered, firstOf, outerChecked, outerEncoded, innerChecked, innerEncoded}
 use Rattle.words.specs.ByTables.{lentValue, rootValue, rootValues}
 use Rattle.words.specs.Limbs.{number, Holds}
-use Rattle.words.proofs.Places.Tests.{every-same, below-at, below-all}
+use Rattle.words.proofs.Places.Tests.{every-same, below-at}
 use Rattle.words.proofs.Places.Numbers.{numberOf-same}
-use Rattle.words.proofs.Places.Bytes.{bitAt-lt, bits-at, bits-length}
+use Rattle.words.proofs.Places.Bytes.{bits-at, bits-below, bits-length}
 use Rattle.words.proofs.Codes.Horner.{horner-same}
 use Rattle.words.proofs.Codes.Lent.{value-lent, divided-lent}
 use Rattle.words.proofs.Codes.OuterWords.{generator-lt}
@@ -102,8 +102,7 @@ inner-tested : (w : List ℕ) → length w ≡ 255 → isInner (bitsOf w) ≡ eq
 unfolding isInner
 inner-tested w e =
     let long : length (bitsOf w) ≡ 2040 = bits-length w ∙ omega arith in
-    let bits : allBelow 2 (bitsOf w) ≡ true = below-all 2 (bitsOf w) (λ i l. rw (bits-at w i) (bitAt-lt w i)) in
-    rw (long, bits, horner-same (doubled 88 divisor) (at (bitsOf w)) (bitAt w) 2040 (λ i l. bits-at w i))
+    rw (long, bits-below w, horner-same (doubled 88 divisor) (at (bitsOf w)) (bitAt w) 2040 (λ i l. bits-at w i))
 
 module _ (w : List ℕ) where
   pub inner-refused : (length w ≡ 255 → ⊥) → 6 ≡ innerChecked w

@@ -1,0 +1,106 @@
+-- What the entries answer is what document 03 asks of the calls that check and encode single words. Assumes nothing.
+use mathlib.Core.Path.{_≡_, refl, sym, ap, ap₂, _∙_, subst}
+use mathlib.Core.Bool.{Bool, true, false, not, _||_, cond}
+use mathlib.Core.List.{List}
+use Prim.Native.Nat.{ℕ, zero, suc}
+use native.Mathlib.Omega.{arith}
+use borrow.Author.Tests.{eqb-true, leb-true, leb-false, lt-ltb, le-ltb, le-leb}
+use lib.Dec.{eqb, ltb, leb, eqb·suc-zero}
+use lib.ListN.{length}
+use Rattle.fields.proofs.Statements.{pick}
+use Rattle.words.specs.Places.{at, allBelow}
+use Rattle.words.specs.Places as Places
+use Rattle.words.specs.OuterCode.{outerParity}
+use Rattle.words.specs.OuterCode as Outer
+use Rattle.words.specs.InnerCode.{innerParity}
+use Rattle.words.specs.InnerCode as Inner
+use Rattle.words.specs.Answers.{unless, refusal, within, answered, outerChecked, outerEncoded, innerChecked, innerEncoded}
+use Rattle.words.specs.Answers as Answers
+use Rattle.words.proofs.Places.Bytes.{bits-below, bits-length}
+use Rattle.words.proofs.Codes.InnerParity.{inner-length}
+use Rattle.words.proofs.Document03.Statements.{when, outerChecks, innerChecks}
+use Rattle.words.proofs.Document03.Says.{firstOf, bitsOf, bytesOf, outerLong, OuterCheckSays, OuterMakeSays, InnerCheckSays, InnerMakeSays}
+use Rattle.words.proofs.Document03.OuterAgrees.{symbols-agree, outer-agrees, parity-agrees}
+use Rattle.words.proofs.Document03.InnerAgrees as InnerAgrees
+use Rattle.words.proofs.Document03.BytesAgree.{bits-agree, bytes-agree}
+
+-- a check: what is refused is told before what is no code word
+check-says : (long symbols code : Bool) → Answers.firstOf (refusal long true symbols) (unless code 4 0) ≡ firstOf (when (not long) 6) (firstOf (when (not symbols) 7) (when (not code) 4))
+unfolding Answers.firstOf refusal
+check-says true true true = refl
+check-says true true false = refl
+check-says true false code = refl
+check-says false symbols code = refl
+
+pub outer-check-says : (w : List ℕ) (r : ℕ) → r ≡ outerChecked w → OuterCheckSays w r
+unfolding outerChecked within
+outer-check-says w r e =
+    e ∙ check-says (outerLong w) (allBelow 1024 w) (Outer.isOuter w)
+    ∙ ap₂ (λ (s c : Bool). firstOf (when (not (outerLong w)) 6) (firstOf (when (not s) 7) (when (not c) 4))) (sym (symbols-agree w)) (sym (outer-agrees w))
+
+pub inner-check-says : (w : List ℕ) (r : ℕ) → r ≡ innerChecked w → InnerCheckSays w r
+unfolding innerChecked
+inner-check-says w r e =
+    e ∙ check-says (eqb (length w) 255) true (Inner.isInner (Places.bitsOf w))
+    ∙ ap (λ (c : Bool). firstOf (when (not (eqb (length w) 255)) 6) (when (not c) 4)) (ap Inner.isInner (sym (bits-agree w)) ∙ sym (InnerAgrees.inner-agrees (bitsOf w)))
+
+-- encoding: the refusal, and the parity if there is none, else the buffer as it was
+refusal-says : (long fits symbols : Bool) → refusal long fits symbols ≡ firstOf (when (not long) 6) (firstOf (when (not fits) 3) (when (not symbols) 7))
+unfolding refusal
+refusal-says true true true = refl
+refusal-says true true false = refl
+refusal-says true false symbols = refl
+refusal-says false fits symbols = refl
+
+module _ (parity checks o o′ : List ℕ) (r : ℕ) where
+  stored : (long fits symbols : Bool) → (long ≡ true → symbols ≡ true → parity ≡ checks)
+      → (let f = refusal long fits symbols in cond (eqb f 0) parity o ≡ pick (eqb f 0) checks o)
+  unfolding refusal
+  stored true true true h = h refl refl
+  stored true true false h = refl
+  stored true false symbols h = refl
+  stored false fits symbols h = refl
+
+  make-says : (long fits symbols : Bool) → _≡_ {A = ℕ × List ℕ} (r, o′) (answered (refusal long fits symbols) parity o)
+      → (long ≡ true → symbols ≡ true → parity ≡ checks) → (f : ℕ) → refusal long fits symbols ≡ f → (r ≡ f) × (o′ ≡ pick (eqb f 0) checks o)
+  unfolding answered
+  make-says long fits symbols e h f q =
+      subst (λ (f : ℕ). (r ≡ f) × (o′ ≡ pick (eqb f 0) checks o)) q
+      (ap (λ (p : ℕ × List ℕ). p .0) e, ap (λ (p : ℕ × List ℕ). p .1) e ∙ stored long fits symbols h)
+
+-- data of no symbol, or of more than 1,007
+above : (n m : ℕ) (t : Bool) → leb n m ≡ t → not t ≡ ltb m n
+above n m true e = sym (le-ltb m n (leb-true n m e))
+above n m false e = sym (lt-ltb m n (leb-false n m e))
+
+outside : (n m : ℕ) → not (within 1 m n) ≡ (eqb n 0 || ltb m n)
+unfolding within
+outside zero m = refl
+outside (suc n) m = rw (le-leb 1 (suc n) (omega arith), eqb·suc-zero n) (above (suc n) m (leb (suc n) m) refl)
+
+pub outer-make-says : (d o o′ : List ℕ) (r : ℕ) → _≡_ {A = ℕ × List ℕ} (r, o′) (outerEncoded d o) → OuterMakeSays d o o′ r
+unfolding outerEncoded
+outer-make-says d o o′ r e =
+    let long = within 1 1007 (length d) in
+    let fits = eqb (length o) 16 in
+    make-says (outerParity d) (outerChecks d) o o′ r long fits (allBelow 1024 d) e (λ l s. sym (parity-agrees d s)) _
+    (refusal-says long fits (allBelow 1024 d)
+    ∙ ap₂ (λ (t s : Bool). firstOf (when t 6) (firstOf (when (not fits) 3) (when (not s) 7))) (outside (length d) 1007) (sym (symbols-agree d)))
+
+firstOf-zero : (n : ℕ) → firstOf n 0 ≡ n
+firstOf-zero zero = refl
+firstOf-zero (suc n) = refl
+
+-- the parity bits of 244 bytes, in bytes
+bytes-says : (d : List ℕ) → length d ≡ 244 → Places.bytesOf 11 (at (innerParity (Places.bitsOf d))) ≡ bytesOf (innerChecks (bitsOf d))
+bytes-says d long =
+    let bits = Places.bitsOf d in
+    sym (ap bytesOf (ap innerChecks (bits-agree d) ∙ InnerAgrees.parity-agrees bits (bits-length d ∙ omega arith) (bits-below d)) ∙ bytes-agree 11 (innerParity bits) (inner-length bits))
+
+pub inner-make-says : (d o o′ : List ℕ) (r : ℕ) → _≡_ {A = ℕ × List ℕ} (r, o′) (innerEncoded d o) → InnerMakeSays d o o′ r
+unfolding innerEncoded
+inner-make-says d o o′ r e =
+    let long = eqb (length d) 244 in
+    let fits = eqb (length o) 11 in
+    make-says _ (bytesOf (innerChecks (bitsOf d))) o o′ r long fits true e (λ l s. bytes-says d (eqb-true (length d) 244 l)) _
+    (refusal-says long fits true ∙ ap (firstOf (when (not long) 6)) (firstOf-zero (when (not fits) 3)))

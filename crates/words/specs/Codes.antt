@@ -15,7 +15,7 @@ pub record Codes : Type 0 where
   pub outer-only : (d q : List ℕ) → length d ≤ 1007 → length q ≡ 16 → isOuter (d ++ q) ≡ true → q ≡ outerParity d
   -- outer code words of one length that differ in at most 16 symbols are the same
   pub outer-far : (c d : List ℕ) → isOuter c ≡ true → isOuter d ≡ true → length c ≡ length d → length c ≤ 1023 → apart c d ≤ 16 → c ≡ d
-  -- each factor vanishes at its power of a, and no other polynomial below degree 11 does but 0
+  -- each factor vanishes at its power of a, and no polynomial below degree 11 but 0 does
   pub factor-vanishes : (j : ℕ) → j < 8 → valueB (2 * j + 1) 12 (at factors j) ≡ 0
   pub none-lower : (j r : ℕ) → j < 8 → r < 2048 → valueB (2 * j + 1) 12 r ≡ 0 → r ≡ 0
   -- data with its parity bits is an inner code word, and no other 88 bits make one of it

@@ -33,7 +33,8 @@ productOf (suc n) = valueOf (λ v. 2 * v) (productOf n) 12 (at factors n)
 unfoldable pub divisor : ℕ
 divisor = productOf 8
 
--- the remainder of a binary word, the first place at the highest power, after division by the polynomial p of degree m
+-- the remainder of a binary word, the first place at the highest power, after division by the polynomial p of degree m: Horner's rule at z, where a
+-- step takes p away if a term z^m comes up
 abbrev pub remainder : ℕ → ℕ → (ℕ → ℕ) → ℕ → ℕ
 remainder m p = horner (doubled m p)
 

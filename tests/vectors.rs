@@ -202,9 +202,9 @@ fn main() {
 
     made("encode outer, zeros, length", encode_outer, &[], 15);
     made("encode outer, zeros, length", encode_outer, &[0; 1008], 16);
-    made("encode outer, no space and symbols of 1024, length", encode_outer, &[1024; 2], 0);
-    made("encode outer, space of 15 and symbols of 1024, length", encode_outer, &[1024; 2], 15);
-    made("encode outer, space of 17 and symbols of 1024, length", encode_outer, &[1024; 2], 17);
+    made("encode outer, no buffer and symbols of 1024, length", encode_outer, &[1024; 2], 0);
+    made("encode outer, buffer of 15 and symbols of 1024, length", encode_outer, &[1024; 2], 15);
+    made("encode outer, buffer of 17 and symbols of 1024, length", encode_outer, &[1024; 2], 17);
     made("encode outer, symbols of 1024, length", encode_outer, &[1024; 2], 16);
 
     for n in [0, 254, 255, 256] {
@@ -224,7 +224,7 @@ fn main() {
     made("encode inner, zeros, length", encode_inner, &[], 10);
     made("encode inner, zeros, length", encode_inner, &[0; 243], 11);
     made("encode inner, zeros, length", encode_inner, &[0; 245], 11);
-    made("encode inner, no space, length", encode_inner, &[0; 244], 0);
-    made("encode inner, space of 10, length", encode_inner, &[0; 244], 10);
-    made("encode inner, space of 12, length", encode_inner, &[0; 244], 12);
+    made("encode inner, no buffer, length", encode_inner, &[0; 244], 0);
+    made("encode inner, buffer of 10, length", encode_inner, &[0; 244], 10);
+    made("encode inner, buffer of 12, length", encode_inner, &[0; 244], 12);
 }

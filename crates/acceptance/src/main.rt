@@ -132,17 +132,17 @@ fn outer_refusals() {
     encode_outer(b"encode outer, zeros, length ", &[0u16; 0], &mut short);
     encode_outer(b"encode outer, zeros, length ", &[0u16; 1008], &mut right);
     encode_outer(
-        b"encode outer, no space and symbols of 1024, length ",
+        b"encode outer, no buffer and symbols of 1024, length ",
         &[1024u16; 2],
         &mut none,
     );
     encode_outer(
-        b"encode outer, space of 15 and symbols of 1024, length ",
+        b"encode outer, buffer of 15 and symbols of 1024, length ",
         &[1024u16; 2],
         &mut short,
     );
     encode_outer(
-        b"encode outer, space of 17 and symbols of 1024, length ",
+        b"encode outer, buffer of 17 and symbols of 1024, length ",
         &[1024u16; 2],
         &mut long,
     );
@@ -218,14 +218,14 @@ fn inner_refusals() {
     encode_inner(b"encode inner, zeros, length ", &[0u8; 0], &mut short);
     encode_inner(b"encode inner, zeros, length ", &[0u8; 243], &mut right);
     encode_inner(b"encode inner, zeros, length ", &[0u8; 245], &mut right);
-    encode_inner(b"encode inner, no space, length ", &[0u8; 244], &mut none);
+    encode_inner(b"encode inner, no buffer, length ", &[0u8; 244], &mut none);
     encode_inner(
-        b"encode inner, space of 10, length ",
+        b"encode inner, buffer of 10, length ",
         &[0u8; 244],
         &mut short,
     );
     encode_inner(
-        b"encode inner, space of 12, length ",
+        b"encode inner, buffer of 12, length ",
         &[0u8; 244],
         &mut long,
     );

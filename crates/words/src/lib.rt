@@ -19,7 +19,7 @@ mod reed_solomon;
 pub struct Outer;
 
 impl Outer {
-    // The values of a symbol.
+    // How many values a symbol has.
     pub const SYMBOLS: u16 = 1024;
 
     // The roots are a^j for 16 exponents j from this one on.

@@ -167,11 +167,15 @@ fn row(name: &str, n: usize, result: u32) {
     println!("{name} {n}: {result}");
 }
 
+fn list(name: &str, values: &[u32]) {
+    println!("{name}:{}", values.iter().map(|v| format!(" {v}")).collect::<String>());
+}
+
 // A call with a buffer of nines, and what is in it afterwards.
 fn made(name: &str, encode: fn(&[u32], &mut Vec<u32>) -> u32, data: &[u32], space: usize) {
     let mut out = vec![9; space];
     row(name, data.len(), encode(data, &mut out));
-    println!("out:{}", out.iter().map(|v| format!(" {v}")).collect::<String>());
+    list("out", &out);
 }
 
 fn with(n: usize, places: &[(usize, u32)]) -> Vec<u32> {
@@ -191,6 +195,7 @@ fn main() {
     }
     let mut word = vec![2];
     word.extend(outer_parity(&[2]));
+    list("word", &word);
     row("check outer, the data 2 with its parity, length", 17, check_outer(&word));
     word[16] ^= 1;
     row("check outer, its last symbol changed, length", 17, check_outer(&word));
@@ -214,6 +219,7 @@ fn main() {
     let mut word = with(244, &[]);
     word.extend(bytes(&divisor()[1..]));
     word[243] ^= 1;
+    list("last bytes", &word[243..]);
     row("check inner, the divisor, length", 255, check_inner(&word));
     word[254] ^= 1;
     row("check inner, its last place changed, length", 255, check_inner(&word));

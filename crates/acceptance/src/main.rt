@@ -1,5 +1,6 @@
-// The rows of document 01 that are run by a program, so far those on single words, and words whose parity was computed elsewhere.
-// A line names the row and gives its result; `stdout` holds what tests/vectors.rs computes for each from the documents alone.
+// The rows of document 01 that are run by a program, so far those on single words, and some words with their parity.
+// A line names the row and gives its result. `stdout` is what tests/vectors.rs computes from the documents; words written out here are printed
+// too, so that it holds them as well.
 
 fn wide(x: u16) -> u64 {
     x as u64
@@ -107,6 +108,7 @@ fn outer() {
         905,
         761,
     ];
+    symbols(b"word:", &word);
     check_outer(b"check outer, the data 2 with its parity, length ", &word);
     word[16] = 760;
     check_outer(b"check outer, its last symbol changed, length ", &word);
@@ -195,6 +197,7 @@ fn inner() {
     word[252] = 141;
     word[253] = 109;
     word[254] = 211;
+    bytes(b"last bytes:", &word[243..]);
     check_inner(b"check inner, the divisor, length ", &word);
     word[254] = 210;
     check_inner(b"check inner, its last place changed, length ", &word);

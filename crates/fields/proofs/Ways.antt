@@ -38,7 +38,7 @@ pub mod-below : (n k a : ℕ) → k % n ≡ a → k < n → k ≡ a
 mod-below n k a e h = sym (mod-eq-of-lt h) ∙ e
 
 -- the ways through the reading of a power
-past : (es : List ℕ) (k : ℕ) → length es ≤ k → 0 ≡ getD es k 0
+pub past : (es : List ℕ) (k : ℕ) → length es ≤ k → 0 ≡ getD es k 0
 past es k h = sym (List·getD-eq-default es 0 {n = k} h)
 
 pub near-read : (es : List ℕ) (i k : ℕ) → k ≡ wrapped (length es) i → getD es k 0 ≡ powerNear es i

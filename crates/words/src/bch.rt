@@ -1,12 +1,12 @@
 // Inner words: binary polynomials, the divisor that the eight factors make, and the remainder of a word after division by it.
 use crate::Inner;
 ghost use mathlib.Core.Path.{_≡_};
-ghost use Prim.Native.Nat.{ℕ, _+_, _*_, _^_, _<_};
+ghost use Prim.Native.Nat.{_+_, _*_, _^_, _<_};
 ghost use lib.ListN.{length};
 ghost use lib.Dec.{eqb};
 ghost use Rattle.fields.specs.Elements.{xor, scale, doubled};
 ghost use Rattle.words.specs.Places.{at, bitAt, numberOf, bitOf, bytesOf};
-ghost use Rattle.words.specs.InnerCode.{valueOf, factors, productOf, divisor, remainder};
+ghost use Rattle.words.specs.InnerCode.{valueOf, factors, divisor, remainder};
 ghost use Rattle.words.specs.Limbs.{number, Holds};
 
 // Coefficients below z^48, the low ones, stand in one number, the others in another.

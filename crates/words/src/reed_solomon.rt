@@ -1,7 +1,6 @@
 // Outer words over a field that is lent as its two tables: refusals, values at the roots, and division by the generator.
 use crate::Outer;
 ghost use mathlib.Core.Path.{_≡_};
-ghost use Prim.Native.Nat.{ℕ};
 ghost use lib.ListN.{length};
 ghost use Rattle.fields.specs.Lists.{tabulate};
 ghost use Rattle.fields.specs.Elements.{xor};

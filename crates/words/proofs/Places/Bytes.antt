@@ -38,9 +38,9 @@ number-of-bits m x s (suc n) h =
     omega (arith, number-of-bits m x s n (omega arith))
 
 -- past the end of the bytes a bit is 0
-bit-past : (bytes : List ℕ) (i : ℕ) → length bytes ≤ i / 8 → bitAt bytes i ≡ 0
+pub place-past : (bytes : List ℕ) (i : ℕ) → length bytes ≤ i / 8 → 0 ≡ bitAt bytes i
 unfolding bitAt bitOf
-bit-past bytes i h = rw (List·getD-eq-default bytes 0 {n = i / 8} h) (ap (λ (z : ℕ). z % 2) (div-eq-of-lt (pow-pos (8 - suc (i % 8)))))
+place-past bytes i h = sym (rw (List·getD-eq-default bytes 0 {n = i / 8} h) (ap (λ (z : ℕ). z % 2) (div-eq-of-lt (pow-pos (8 - suc (i % 8))))))
 
 -- the places of the bits of bytes
 pub bits-length : (bytes : List ℕ) → length (bitsOf bytes) ≡ 8 * length bytes
@@ -55,21 +55,18 @@ bits-at bytes i = go (decLt i (8 * length bytes))
     go (yes h) = tabulate-at (8 * length bytes) (bitAt bytes) i 0 h
     go (no h) =
         List·getD-eq-default (tabulate (8 * length bytes) (bitAt bytes)) 0 {n = i} (rw (tabulate-length (8 * length bytes) (bitAt bytes)) (omega arith))
-        ∙ sym (bit-past bytes i (omega arith))
+        ∙ place-past bytes i (omega arith)
 
 pub bits-below : (bytes : List ℕ) → allBelow 2 (bitsOf bytes) ≡ true
 bits-below bytes = below-all 2 (bitsOf bytes) (λ i l. rw (bits-at bytes i) (bitAt-lt bytes i))
 
--- the two ways through reading a place
+-- a place read
 pub place-read : (bytes : List ℕ) (i : ℕ) → bitAnd (getD bytes (i / 8) 0 / 2 ^ (7 - i % 8)) 1 ≡ bitAt bytes i
 unfolding bitAt bitOf
 place-read bytes i = let e : 7 - i % 8 ≡ 8 - suc (i % 8) = omega arith in rw e (and-mask (getD bytes (i / 8) 0 / 2 ^ (8 - suc (i % 8))) 1)
 
 pub place-lt : (bytes : List ℕ) (i : ℕ) → bitAnd (getD bytes (i / 8) 0 / 2 ^ (7 - i % 8)) 1 < 2
 place-lt bytes i = rw (place-read bytes i) (bitAt-lt bytes i)
-
-pub place-past : (bytes : List ℕ) (i : ℕ) → length bytes ≤ i / 8 → 0 ≡ bitAt bytes i
-place-past bytes i h = sym (bit-past bytes i h)
 
 -- bytes stored one after the other
 pub bytes-end : (n : ℕ) (b : ℕ → ℕ) (k : ℕ) (out : List ℕ) → Filled n (λ i. numberOf 8 (λ j. b (8 * i + j))) k out → n ≤ k → out ≡ bytesOf n b

@@ -8,7 +8,7 @@ use native.Mathlib.Numerals.{add-one}
 use native.Mathlib.Omega.{arith}
 use borrow.Author.Tests.{lt-ltb, le-ltb}
 use lib.Dec.{ltb}
-use lib.ListN.{length, getD, set, List·getD-eq-default}
+use lib.ListN.{length, getD, set}
 use Rattle.fields.specs.Elements.{xor}
 use Rattle.fields.specs.Lists.{tabulate}
 use Rattle.fields.specs.ByTables.{tableProduct, tablePower}
@@ -39,9 +39,6 @@ module _ (q : ℕ) (w : List ℕ) (i : ℕ) where
     pub below-end : i ≤ length w → length w ≤ i → true ≡ allBelow q w
     unfolding belowUpTo allBelow
     below-end l h = let e : i ≡ length w = omega arith in sym (rw e at so-far)
-
-pub symbol-past : (w : List ℕ) (i : ℕ) → length w ≤ i → 0 ≡ getD w i 0
-symbol-past w i h = sym (List·getD-eq-default w 0 {n = i} h)
 
 -- the value of the first i symbols, by Horner's rule over a lent field
 unfoldable pub valueUpTo : List ℕ → List ℕ → List ℕ → ℕ → ℕ → ℕ

@@ -1,6 +1,6 @@
 -- `words::reed_solomon::symbol` meets its contract. Assumes nothing.
 use borrow.Author.Needs.{needs}
-use Rattle.words.proofs.Steps.Loops.{symbol-past}
+use Rattle.fields.proofs.Ways.{past}
 use Rattle.words.proofs.reed_solomon.symbol.Statement.{statement}
 use Rattle.words.proofs.reed_solomon.symbol.Tie as tie
 
@@ -14,7 +14,7 @@ returns : tie.Need-returns
 returns c = search needs
 
 returns-2 : tie.Need-returns-2
-returns-2 c = search (needs, symbol-past)
+returns-2 c = search (needs, past)
 
 pub symbol-spec : {M : Type 1} → statement M
 symbol-spec = tie.close (tie.spec mul-result shared-slice-read-result returns returns-2)

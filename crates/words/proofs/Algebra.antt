@@ -3,7 +3,9 @@ pub mod Field
 pub mod PowerSums
 pub mod Vandermonde
 pub mod Support
+pub mod Locators
 pub mod Distance
 pub mod Elements
+pub mod Tables
 pub mod Values
 pub mod MinimumDistance

@@ -1,4 +1,4 @@
--- The two codes: division, parity, roots, distance 17.
+-- The two codes: division, parity, roots, distance 17, bounded-distance decoding.
 pub mod Horner
 pub mod Lent
 pub mod Division
@@ -7,4 +7,6 @@ pub mod Squares
 pub mod LeastPolynomials
 pub mod InnerWords
 pub mod InnerParity
+pub mod InnerRoots
+pub mod Nearest
 pub mod Proved

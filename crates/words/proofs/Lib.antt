@@ -2,5 +2,6 @@
 pub mod Places
 pub mod Algebra
 pub mod Codes
+pub mod Decoding
 pub mod Steps
 pub mod Document03

@@ -3,5 +3,10 @@ pub mod Loops
 pub mod Shifting
 pub mod Limbs
 pub mod LimbDivision
+pub mod Rows
+pub mod Errors
+pub mod Inner
 pub mod Refusals
 pub mod Entries
+pub mod Corrections
+pub mod InnerCorrection

@@ -1,12 +1,16 @@
 -- What the entries answer: a refusal's number, or 0, and the output buffer ("lent space").
 use mathlib.Core.Bool.{Bool, true, _&&_, cond}
 use mathlib.Core.List.{List}
+use mathlib.Core.Option.{Option, none, some}
 use Prim.Native.Nat.{ℕ}
 use lib.Dec.{eqb, leb}
 use lib.ListN.{length}
-use Rattle.words.specs.Places.{at, allBelow, bitsOf, bytesOf}
+use Rattle.words.specs.declared.Correction.{Correction}
+use Rattle.words.specs.declared.Correction.the-variants.{Corrected, Refused}
+use Rattle.words.specs.Places.{at, allBelow, bitsOf, bytesOf, apart}
 use Rattle.words.specs.OuterCode.{isOuter, outerParity}
 use Rattle.words.specs.InnerCode.{isInner, innerParity}
+use Rattle.words.specs.Nearest.{nearest}
 
 -- the number n unless the test holds; else what follows
 abbrev pub unless : Bool → ℕ → ℕ → ℕ
@@ -41,3 +45,33 @@ innerChecked w = firstOf (refusal (eqb (length w) 255) true true) (unless (isInn
 
 unfoldable pub innerEncoded : List ℕ → List ℕ → ℕ × List ℕ
 innerEncoded d buffer = answered (refusal (eqb (length d) 244) (eqb (length buffer) 11) true) (bytesOf 11 (at (innerParity (bitsOf d)))) buffer
+
+-- a correction's number, 0 or the refusal's, and how many symbols or places it changed
+abbrev pub refusalOf : Correction → ℕ
+refusalOf (Corrected changed) = 0
+refusalOf (Refused number) = number
+
+abbrev pub changedOf : Correction → ℕ
+changedOf (Corrected changed) = changed
+changedOf (Refused number) = 0
+
+-- the answer for the word w: the code word that was found, as the buffer's content; or 5, none within the radius ("beyond reach")
+unfoldable pub found : (List ℕ → List ℕ) → List ℕ → List ℕ → Option (List ℕ) → ℕ × ℕ × List ℕ
+found content w buffer none = (5, 0, buffer)
+found content w buffer (some c) = (0, apart w c, content c)
+
+-- the refusal n, if it is not 0; else the answer
+unfoldable pub corrected : ℕ → List ℕ → ℕ × ℕ × List ℕ → ℕ × ℕ × List ℕ
+corrected n buffer answer = cond (eqb n 0) answer (n, 0, buffer)
+
+-- number, changes and buffer: the outer code word within eight symbols
+unfoldable pub outerCorrected : List ℕ → List ℕ → ℕ × ℕ × List ℕ
+outerCorrected w buffer =
+    corrected (refusal (within 17 1023 (length w)) (eqb (length buffer) (length w)) (allBelow 1024 w)) buffer
+    (found (λ c. c) w buffer (nearest isOuter 1024 8 w))
+
+-- the inner code word within eight places
+unfoldable pub innerCorrected : List ℕ → List ℕ → ℕ × ℕ × List ℕ
+innerCorrected w buffer =
+    corrected (refusal (eqb (length w) 255) (eqb (length buffer) 255) true) buffer
+    (found (λ c. bytesOf 255 (at c)) (bitsOf w) buffer (nearest isInner 2 8 (bitsOf w)))

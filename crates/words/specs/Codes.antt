@@ -7,6 +7,7 @@ use lib.ListN.{length}
 use Rattle.words.specs.Places.{at, allBelow, apart}
 use Rattle.words.specs.OuterCode.{isOuter, outerParity}
 use Rattle.words.specs.InnerCode.{valueB, factors, isInner, innerParity}
+use Rattle.words.specs.Nearest.{Decodes}
 
 pub record Codes : Type 0 where
   -- data with its parity symbols is an outer code word, and no other sixteen symbols make one of it
@@ -15,6 +16,8 @@ pub record Codes : Type 0 where
   pub outer-only : (d q : List ℕ) → length d ≤ 1007 → length q ≡ 16 → isOuter (d ++ q) ≡ true → q ≡ outerParity d
   -- outer code words of one length that differ in at most 16 symbols are the same
   pub outer-far : (c d : List ℕ) → isOuter c ≡ true → isOuter d ≡ true → length c ≡ length d → length c ≤ 1023 → apart c d ≤ 16 → c ≡ d
+  -- so a word has at most one outer code word within eight symbols, and that is found
+  pub outer-nearest : (n : ℕ) → n ≤ 1023 → Decodes isOuter 1024 8 n
   -- each factor vanishes at its power of a, and no polynomial below degree 11 but 0 does
   pub factor-vanishes : (j : ℕ) → j < 8 → valueB (2 * j + 1) 12 (at factors j) ≡ 0
   pub none-lower : (j r : ℕ) → j < 8 → r < 2048 → valueB (2 * j + 1) 12 r ≡ 0 → r ≡ 0
@@ -24,3 +27,5 @@ pub record Codes : Type 0 where
   pub inner-only : (d q : List ℕ) → length d ≡ 1952 → isInner (d ++ q) ≡ true → q ≡ innerParity d
   -- inner code words that differ in at most 16 places are the same
   pub inner-far : (c d : List ℕ) → isInner c ≡ true → isInner d ≡ true → apart c d ≤ 16 → c ≡ d
+  -- so a word has at most one inner code word within eight places, and that is found
+  pub inner-nearest : Decodes isInner 2 8 2040

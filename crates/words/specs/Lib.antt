@@ -2,8 +2,11 @@
 pub mod Places
 pub mod OuterCode
 pub mod InnerCode
+pub mod Nearest
 pub mod Answers
 pub mod Codes
 -- what the functions below the entries give
 pub mod ByTables
 pub mod Limbs
+pub mod Decoder
+pub mod InnerDecoding

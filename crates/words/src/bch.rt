@@ -1,13 +1,19 @@
 // Inner words: binary polynomials, the divisor that the eight factors make, and the remainder of a word after division by it.
 use crate::Inner;
+use crate::decoder;
+use crate::decoder::Errors;
+use crate::reed_solomon;
 ghost use mathlib.Core.Path.{_≡_};
-ghost use Prim.Native.Nat.{_+_, _*_, _^_, _<_};
+ghost use mathlib.Core.Bool.{cond};
+ghost use Prim.Native.Nat.{ℕ, _+_, _*_, _^_, _≤_, _<_};
 ghost use lib.ListN.{length};
 ghost use lib.Dec.{eqb};
-ghost use Rattle.fields.specs.Elements.{xor, scale, doubled};
-ghost use Rattle.words.specs.Places.{at, bitAt, numberOf, bitOf, bytesOf};
+ghost use Rattle.fields.specs.Elements.{xor, scale, doubled, powersB, exponentsB};
+ghost use Rattle.words.specs.Places.{at, differs, bitAt, bitsOf, numberOf, bitOf, bytesOf};
 ghost use Rattle.words.specs.InnerCode.{valueOf, factors, divisor, remainder};
 ghost use Rattle.words.specs.Limbs.{number, Holds};
+ghost use Rattle.words.specs.Decoder.{withErrors};
+ghost use Rattle.words.specs.InnerDecoding.{polynomialValue, Syndromes, isBit, isBinary, flips, InnerErrors, explains};
 
 // Coefficients below z^48, the low ones, stand in one number, the others in another.
 const LOW_BITS: usize = 48;
@@ -160,6 +166,130 @@ pub fn store(v: Polynomial, out: &mut [u8])
     let mut k: usize = 0;
     while k < Inner::PARITY_BYTES {
         out[k] = byte(v, k);
+        k += 1;
+    }
+}
+
+// Coefficient k of the 88 of v, the highest first.
+fn coefficient(v: Polynomial, k: usize) -> u16
+    requires { ⌜ (v .low < 2 ^ 48) × (k < 88) ⌝ }
+    ensures { λ r. ⌜ r ≡ bitOf 88 (number (v .high) (v .low)) k ⌝ }
+{
+    let shift = Inner::PARITY - 1 - k;
+    if shift < LOW_BITS {
+        return ((v.low >> shift) % 2) as u16;
+    }
+    ((v.high >> (shift - LOW_BITS)) % 2) as u16
+}
+
+// The value of v, of degree below 88, at the element x of a field.
+fn value(exp: &[u16], log: &[u16], v: Polynomial, x: u16) -> u16
+    requires { ⌜ v .low < 2 ^ 48 ⌝ }
+    ensures { λ r. ⌜ r ≡ polynomialValue (now (exp .entry)) (now (log .entry)) (number (v .high) (v .low)) x ⌝ }
+{
+    let mut y = 0;
+    let mut k: usize = 0;
+    while k < Inner::PARITY {
+        y = reed_solomon::sum(fields::product(exp, log, y, x), coefficient(v, k));
+        k += 1;
+    }
+    y
+}
+
+// The values of a word at a, a^2, .. a^16, from its remainder v: at the odd powers they are those of the remainder, at the even powers squares.
+fn syndromes(exp: &[u16], log: &[u16], v: Polynomial) -> [u16; decoder::SYNDROMES]
+    requires { ⌜ v .low < 2 ^ 48 ⌝ }
+    ensures { λ r. ⌜ Syndromes (now (exp .entry)) (now (log .entry)) (number (v .high) (v .low)) 8 r ⌝ }
+{
+    let mut t = [0u16; decoder::SYNDROMES];
+    let mut i: usize = 0;
+    while i < decoder::RADIUS {
+        t[2 * i] = value(exp, log, v, fields::power(exp, 2 * (i as u16) + 1));
+        t[2 * i + 1] = fields::product(exp, log, t[i], t[i]);
+        i += 1;
+    }
+    t
+}
+
+// The value of an error in a place, where a wrong place is one with the value 1: its locator, or 0 for none.
+fn is_bit(value: u16, x: u16) -> bool
+    ensures { λ r. ⌜ r ≡ isBit value x ⌝ }
+{
+    if value == 0 { true } else { value == x }
+}
+
+// Each error's value is that of a wrong place.
+fn is_binary(exp: &[u16], e: Errors) -> bool
+    requires { ⌜ e .places .count ≤ 8 ⌝ }
+    ensures { λ r. ⌜ r ≡ isBinary (now (exp .entry)) (e .places .at) (e .values) (e .places .count) ⌝ }
+{
+    let places = e.places;
+    let mut k: usize = 0;
+    while k < places.count {
+        let x = decoder::locator(exp, Inner::PLACES, places.at[k] as usize);
+        if !is_bit(e.values[k], x) {
+            return false;
+        }
+        k += 1;
+    }
+    true
+}
+
+// The errors in a word, which is a code word with at most eight places wrong only if they explain it.
+pub fn errors(exp: &[u16], log: &[u16], word: &[u8]) -> Errors
+    requires { ⌜ (now exp ≡ powersB) × (now log ≡ exponentsB) ⌝ }
+    ensures { λ r. ⌜ InnerErrors (now (word .entry)) (r .places .at) (r .values) (r .places .count) (r .left) ⌝ }
+{
+    let t = syndromes(exp, log, remainder(divisor(), word));
+    decoder::decode(exp, log, t, Inner::PLACES)
+}
+
+// The errors leave nothing of the syndromes, and each has the value of a wrong place.
+pub fn explains(exp: &[u16], e: Errors) -> bool
+    requires { ⌜ e .places .count ≤ 8 ⌝ }
+    ensures { λ r. ⌜ r ≡ explains (now (exp .entry)) (e .places .at) (e .values) (e .places .count) (e .left) ⌝ }
+{
+    let left = e.left;
+    if reed_solomon::all_below(&left, 1) {
+        is_binary(exp, e)
+    } else {
+        false
+    }
+}
+
+fn copy(word: &[u8], out: &mut [u8])
+    requires { ⌜ length (now out) ≡ length (now word) ⌝ }
+    ensures { λ _. ⌜ now (out .exit) ≡ now (word .entry) ⌝ }
+{
+    let mut i = 0;
+    while i < word.len() {
+        out[i] = word[i];
+        i += 1;
+    }
+}
+
+// Inverts place i, if the value is not zero; a place past the end changes nothing.
+fn flip(out: &mut [u8], i: usize, value: u16)
+    ensures { λ _. ⌜ ((l : ℕ) → l < 8 * length (now (out .entry)) → bitAt (now (out .exit)) l ≡ xor (bitAt (now (out .entry)) l) (cond (eqb i l) (differs value 0) 0)) ⌝ }
+{
+    if value == 0 {
+        return;
+    }
+    if i / 8 < out.len() {
+        out[i / 8] = out[i / 8] ^ (128 >> (i % 8));
+    }
+}
+
+// Writes the word with the wrong places inverted.
+pub fn correct(word: &[u8], e: Errors, out: &mut [u8])
+    requires { ⌜ (length (now out) ≡ length (now word)) × (e .places .count ≤ 8) ⌝ }
+    ensures { λ _. ⌜ bitsOf (now (out .exit)) ≡ withErrors (bitAt (now (word .entry))) (e .places .at) (flips (e .values)) (e .places .count) (8 * length (now (word .entry))) ⌝ }
+{
+    copy(word, out);
+    let places = e.places;
+    let mut k: usize = 0;
+    while k < places.count {
+        flip(out, places.at[k] as usize, e.values[k]);
         k += 1;
     }
 }

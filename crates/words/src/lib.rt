@@ -10,9 +10,10 @@
 // Every input is answered: an entry returns 0, or the number of the refusal; a refusal leaves the output buffer as it was. Where a word has more
 // than one fault, the order is 6 (its length), 3 (the size of the output buffer), 7 (a symbol above 1,023), 4 (no code word).
 ghost use mathlib.Core.Path.{_≡_};
-ghost use Rattle.words.specs.Answers.{outerChecked, outerEncoded, innerChecked, innerEncoded};
+ghost use Rattle.words.specs.Answers.{outerChecked, outerEncoded, innerChecked, innerEncoded, refusalOf, changedOf, outerCorrected, innerCorrected};
 
 mod bch;
+mod decoder;
 mod reed_solomon;
 
 // The outer code. Lengths are counted in symbols.
@@ -57,6 +58,12 @@ impl Inner {
     pub const RADIUS: usize = 8;
 }
 
+// What a correction answers: how many symbols or places it changed, or the refusal's number.
+pub enum Correction {
+    Corrected { changed: u16 },
+    Refused { number: u8 },
+}
+
 // 0 for an outer code word; 6, 7 or 4.
 pub fn check_outer(word: &[u16]) -> u8
     ensures { λ r. ⌜ r ≡ outerChecked (now (word .entry)) ⌝ }
@@ -93,6 +100,29 @@ pub fn encode_outer(data: &[u16], out: &mut [u16]) -> u8
     0
 }
 
+// Writes the code word within eight symbols of the word; 6, 3, 7 or 5.
+pub fn correct_outer(word: &[u16], out: &mut [u16]) -> Correction
+    ensures { λ r. ⌜ (refusalOf r, changedOf r, now (out .exit)) ≡ outerCorrected (now (word .entry)) (now (out .entry)) ⌝ }
+{
+    let fits = out.len() == word.len();
+    let number = reed_solomon::refusal(word, Outer::SHORTEST, Outer::LONGEST, fits);
+    if number != 0 {
+        return Correction::Refused { number };
+    }
+    let exp = fields::exp_a();
+    let log = fields::log_a();
+    let t = reed_solomon::root_values(&exp, &log, word);
+    let e = decoder::decode(&exp, &log, t, word.len());
+    let left = e.left;
+    if !reed_solomon::all_below(&left, 1) {
+        return Correction::Refused { number: 5 };
+    }
+    reed_solomon::correct(word, e, out);
+    Correction::Corrected {
+        changed: decoder::weight(e),
+    }
+}
+
 // 0 for an inner code word; 6 or 4.
 pub fn check_inner(word: &[u8]) -> u8
     ensures { λ r. ⌜ r ≡ innerChecked (now (word .entry)) ⌝ }
@@ -119,4 +149,26 @@ pub fn encode_inner(data: &[u8], out: &mut [u8]) -> u8
     }
     bch::store(bch::remainder(bch::divisor(), data), out);
     0
+}
+
+// Writes the code word within eight places of the word; 6, 3 or 5.
+pub fn correct_inner(word: &[u8], out: &mut [u8]) -> Correction
+    ensures { λ r. ⌜ (refusalOf r, changedOf r, now (out .exit)) ≡ innerCorrected (now (word .entry)) (now (out .entry)) ⌝ }
+{
+    if word.len() != Inner::BYTES {
+        return Correction::Refused { number: 6 };
+    }
+    if out.len() != Inner::BYTES {
+        return Correction::Refused { number: 3 };
+    }
+    let exp = fields::exp_b();
+    let log = fields::log_b();
+    let e = bch::errors(&exp, &log, word);
+    if !bch::explains(&exp, e) {
+        return Correction::Refused { number: 5 };
+    }
+    bch::correct(word, e, out);
+    Correction::Corrected {
+        changed: decoder::weight(e),
+    }
 }

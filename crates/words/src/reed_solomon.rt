@@ -1,6 +1,8 @@
 // Outer words over a field that is lent as its two tables: refusals, values at the roots, and division by the generator.
 use crate::Outer;
+use crate::decoder::Errors;
 ghost use mathlib.Core.Path.{_≡_};
+ghost use Prim.Native.Nat.{_≤_};
 ghost use lib.ListN.{length};
 ghost use Rattle.fields.specs.Lists.{tabulate};
 ghost use Rattle.fields.specs.Elements.{xor};
@@ -9,6 +11,7 @@ ghost use Rattle.words.specs.Places.{at, allBelow};
 ghost use Rattle.words.specs.OuterCode.{generator, shiftedIn, divided};
 ghost use Rattle.words.specs.Answers.{refusal, within};
 ghost use Rattle.words.specs.ByTables.{lentValue, rootValues};
+ghost use Rattle.words.specs.Decoder.{withError, withErrors};
 
 // Each symbol of the word is below q.
 pub fn all_below(word: &[u16], q: u16) -> bool
@@ -44,7 +47,7 @@ pub fn refusal(word: &[u16], shortest: usize, longest: usize, fits: bool) -> u8
     }
 }
 
-fn sum(x: u16, y: u16) -> u16
+pub fn sum(x: u16, y: u16) -> u16
     ensures { λ r. ⌜ r ≡ xor x y ⌝ }
 {
     x ^ y
@@ -104,7 +107,7 @@ pub fn generator() -> [u16; Outer::PARITY + 1]
 }
 
 // The symbol at place i; 0 past the end.
-fn symbol(word: &[u16], i: usize) -> u16
+pub fn symbol(word: &[u16], i: usize) -> u16
     ensures { λ r. ⌜ r ≡ at (now (word .entry)) i ⌝ }
 {
     if i < word.len() { word[i] } else { 0 }
@@ -168,5 +171,39 @@ pub fn store(cells: [u16; Outer::PARITY], out: &mut [u16])
     while i < Outer::PARITY {
         out[i] = cells[i];
         i += 1;
+    }
+}
+
+fn copy(word: &[u16], out: &mut [u16])
+    requires { ⌜ length (now out) ≡ length (now word) ⌝ }
+    ensures { λ _. ⌜ now (out .exit) ≡ now (word .entry) ⌝ }
+{
+    let mut i = 0;
+    while i < word.len() {
+        out[i] = word[i];
+        i += 1;
+    }
+}
+
+// Adds v to the symbol at place i; a place past the end changes nothing.
+fn add(out: &mut [u16], i: usize, v: u16)
+    ensures { λ _. ⌜ now (out .exit) ≡ withError (now (out .entry)) i v ⌝ }
+{
+    if i < out.len() {
+        out[i] = sum(out[i], v);
+    }
+}
+
+// Writes the word with the errors' values added.
+pub fn correct(word: &[u16], e: Errors, out: &mut [u16])
+    requires { ⌜ (length (now out) ≡ length (now word)) × (e .places .count ≤ 8) ⌝ }
+    ensures { λ _. ⌜ now (out .exit) ≡ withErrors (at (now (word .entry))) (e .places .at) (e .values) (e .places .count) (length (now (word .entry))) ⌝ }
+{
+    copy(word, out);
+    let places = e.places;
+    let mut k: usize = 0;
+    while k < places.count {
+        add(out, places.at[k] as usize, e.values[k]);
+        k += 1;
     }
 }

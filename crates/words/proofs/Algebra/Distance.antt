@@ -1,11 +1,10 @@
 -- Words that agree at k successive powers of an element and differ in at most k places are equal. Assumes nothing.
 use mathlib.Core.Path.{_≡_, sym, ap₂, _∙_}
 use mathlib.Core.List.{List}
-use Prim.Native.Nat.{ℕ, zero, suc, _+_, _-_, _≤_, _<_}
-use native.Mathlib.Nat.{le-refl}
+use Prim.Native.Nat.{ℕ, suc, _+_, _-_, _≤_, _<_}
 use native.Mathlib.Omega.{arith}
 use lib.ListN.{length}
-use Rattle.words.proofs.Algebra.Field.{Ops, Laws, All, all-map, Apart, upto, upto-lt, all-upto, add-self, eq-of-add}
+use Rattle.words.proofs.Algebra.Field.{Ops, Laws, All, upto, upto-apart, all-upto, add-self, eq-of-add}
 use Rattle.words.proofs.Algebra.PowerSums.{powerSum, valueAt, powerSum-add, in-powers, horner-sums}
 use Rattle.words.proofs.Algebra.Vandermonde.{vandermonde-from}
 use Rattle.words.proofs.Algebra.Support.{support, all-support, support-apart, support-powerSum}
@@ -18,12 +17,6 @@ module _ {A : Type 0} (O : Ops A) {In : A → Type 0} (K : Laws O In) (dec : (a 
   -- X is the sequence of the powers of a, the first n of them distinct
   module _ (a : A) (X : ℕ → A) (first : X 0 ≡ 𝟙) (next : (i : ℕ) → X (suc i) ≡ a ⊙ X i) (nonzero : (i : ℕ) → ¬ (X i ≡ 𝟘)) (n : ℕ)
       (distinct : (i j : ℕ) → i < j → j < n → ¬ (X i ≡ X j)) where
-    locators-apart : (t : ℕ) → t ≤ n → Apart (λ i. X (n - suc i)) (upto t)
-    unfolding upto
-    locators-apart zero h = tt
-    locators-apart (suc t) h =
-        (all-map (λ k l e. distinct (n - suc t) (n - suc k) (omega arith) (omega arith) (sym e)) (upto t) (upto-lt t), locators-apart t (omega arith))
-
     -- s is the exponent of the first power, k their number, n the length
     pub distance : (s k : ℕ) (b c : ℕ → A) → ((i : ℕ) → In (b i)) → ((i : ℕ) → In (c i)) →
         ((j : ℕ) → j < k → valueAt O (X (s + j)) b n ≡ valueAt O (X (s + j)) c n) → length (support O dec (λ i. b i ⊕ c i) (upto n)) ≤ k →
@@ -51,4 +44,5 @@ module _ {A : Type 0} (O : Ops A) {In : A → Type 0} (K : Laws O In) (dec : (a 
         zero-on : All (λ i. e i ≡ 𝟘) ps
         zero-on =
             vandermonde-from O K Y (λ i. in-powers O K a X first next _) (λ i. nonzero _) s ps
-            (support-apart O dec e Y (upto n) (locators-apart n (le-refl n))) e (λ i. K .in-add _ _ (ib i) (ic i)) sums
+            (support-apart O dec e Y (upto n) (upto-apart Y n (λ i k h l q. distinct (n - suc k) (n - suc i) (omega arith) (omega arith) (sym q))))
+            e (λ i. K .in-add _ _ (ib i) (ic i)) sums

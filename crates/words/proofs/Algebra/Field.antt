@@ -44,6 +44,11 @@ all-upto P (suc n) h i l = go (ℕ-discrete i n) (all-upto P n (h .1) i)
     go (yes e) r = subst P (sym e) (h .0)
     go (no e) r = r (omega arith)
 
+pub upto-apart : {A : Type 0} (X : ℕ → A) (n : ℕ) → ((i k : ℕ) → i < k → k < n → ¬ (X i ≡ X k)) → Apart X (upto n)
+unfolding upto
+upto-apart X zero d = tt
+upto-apart X (suc n) d = (all-map (λ i l. d i n l (le-refl (suc n))) (upto n) (upto-lt n), upto-apart X n (λ i k l h. d i k l (omega arith)))
+
 pub record Ops (A : Type 0) : Type 0 where
   pub _⊕_ : A → A → A
   pub _⊙_ : A → A → A

@@ -1,7 +1,7 @@
 -- The minimum distance of the codes over a binary field: degree, first root, number of roots and length are parameters. Assumes nothing.
 use mathlib.Core.Path.{_≡_, refl, sym, _∙_}
 use mathlib.Core.List.{List}
-use Prim.Native.Nat.{ℕ, zero, suc, _+_, _-_, _^_, _≤_, _<_}
+use Prim.Native.Nat.{ℕ, _+_, _-_, _^_, _≤_, _<_}
 use native.Mathlib.Omega.{arith}
 use borrow.Author.Tests.{eq-eqb, ne-eqb}
 use lib.ListN.{length}
@@ -10,7 +10,7 @@ use Rattle.fields.specs.Elements.{xor, power}
 use Rattle.fields.specs.Field.{Field}
 use Rattle.words.specs.Places.{at, value, sumTo, differs, apart}
 use Rattle.words.proofs.Algebra.Field.{upto, eq-of-add}
-use Rattle.words.proofs.Algebra.Support.{keep, support}
+use Rattle.words.proofs.Algebra.Support.{support, support-count}
 use Rattle.words.proofs.Algebra.Elements.{isZero, ops, laws, power-next, powers-distinct}
 use Rattle.words.proofs.Algebra.Values.{value-abstract}
 use Rattle.words.proofs.Algebra.Distance.{distance}
@@ -18,14 +18,10 @@ use Rattle.words.proofs.Algebra.Distance.{distance}
 module _ (m p : ℕ) (F : Field m p) where
   -- the distance is the size of the sum's support
   distance-support : (b c : ℕ → ℕ) (n : ℕ) → length (support (ops m p) isZero (λ i. xor (b i) (c i)) (upto n)) ≡ sumTo n (λ i. differs (b i) (c i))
-  unfolding upto sumTo support differs
-  distance-support b c zero = refl
-  distance-support b c (suc n) = go (isZero (xor (b n) (c n))) (distance-support b c n)
-    where
-      go : (d : Dec (xor (b n) (c n) ≡ 0)) → length (support (ops m p) isZero (λ i. xor (b i) (c i)) (upto n)) ≡ sumTo n (λ i. differs (b i) (c i)) →
-          length (keep d n (support (ops m p) isZero (λ i. xor (b i) (c i)) (upto n))) ≡ sumTo n (λ i. differs (b i) (c i)) + differs (b n) (c n)
-      go (yes z) r = rw (eq-eqb (b n) (c n) (eq-of-add (ops m p) (laws m p F) z)) (omega arith)
-      go (no z) r = rw (ne-eqb (b n) (c n) (λ e. z (rw e (F .sum-self (c n))))) (omega arith)
+  unfolding differs
+  distance-support b c n =
+      support-count (ops m p) isZero (λ i. xor (b i) (c i)) (λ i. differs (b i) (c i)) (λ i z. rw (eq-eqb (b i) (c i) (eq-of-add (ops m p) (laws m p F) z)))
+      (λ i z. rw (ne-eqb (b i) (c i) (λ e. z (rw e (F .sum-self (c i)))))) n
 
   -- words of n elements with the same values at a^s .. a^(s+k-1) that differ in at most k places are equal
   pub far : (s k n : ℕ) → n ≤ 2 ^ m - 1 → (b c : ℕ → ℕ) → ((i : ℕ) → b i < 2 ^ m) → ((i : ℕ) → c i < 2 ^ m) →

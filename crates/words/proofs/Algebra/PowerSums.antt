@@ -2,9 +2,10 @@
 use mathlib.Core.Path.{_≡_, refl, ap, ap₂, sym, _∙_, fun-ext}
 use mathlib.Core.List.{List, [], _∷_}
 use Prim.Native.Nat.{ℕ, zero, suc, _-_, _<_}
+use native.Mathlib.Decide.{ℕ-discrete}
+use native.Mathlib.Nat.{le-refl, not-suc-le-zero}
 use native.Mathlib.Omega.{arith}
-use native.Mathlib.Nat.{le-refl}
-use Rattle.words.proofs.Algebra.Field.{Ops, Laws, All, upto, add-comm, zero-add, mul-comm, mul-assoc, mul-left, mul-add, mul-zero, ring}
+use Rattle.words.proofs.Algebra.Field.{Ops, Laws, All, all-map, upto, upto-lt, add-comm, add-mul, add-self, add-same, add-zero, zero-add, mul-comm, mul-assoc, mul-left, mul-add, mul-zero, ring}
 
 module _ {A : Type 0} (O : Ops A) where
   open Ops O using (_⊕_, _⊙_, 𝟘, 𝟙)
@@ -28,12 +29,12 @@ module _ {A : Type 0} (O : Ops A) where
 
   module _ {In : A → Type 0} (K : Laws O In) where
     module _ {I : Type 0} where
-      sum-add : (ps : List I) (f g : I → A) → sum (λ i. f i ⊕ g i) ps ≡ sum f ps ⊕ sum g ps
+      pub sum-add : (ps : List I) (f g : I → A) → sum (λ i. f i ⊕ g i) ps ≡ sum f ps ⊕ sum g ps
       unfolding sum
       sum-add [] f g = simp (ring, K)
       sum-add (i ∷ ps) f g = simp (sum, sum-add ps f g, ring, K)
 
-      sum-mul : (ps : List I) (c : A) (f : I → A) → sum (λ i. c ⊙ f i) ps ≡ c ⊙ sum f ps
+      pub sum-mul : (ps : List I) (c : A) (f : I → A) → sum (λ i. c ⊙ f i) ps ≡ c ⊙ sum f ps
       unfolding sum
       sum-mul [] c f = simp (ring, K)
       sum-mul (i ∷ ps) c f = rw (sum, sum-mul ps c f) (simp (ring, K))
@@ -54,13 +55,38 @@ module _ {A : Type 0} (O : Ops A) where
       powerSum-mul X zero ps c f = sum-mul ps c f
       powerSum-mul X (suc j) ps c f = rw (fun-ext (λ i. mul-left O K (X i) c (f i))) (powerSum-mul X j ps c _)
 
+      -- x is filtered out: the next power sum plus x times the power sum is that of e times the sum of locator and x
+      pub powerSum-filter : (X : I → A) (j : ℕ) (ps : List I) (x : A) (e : I → A) →
+          powerSum X (λ i. (X i ⊕ x) ⊙ e i) ps j ≡ powerSum X e ps (suc j) ⊕ x ⊙ powerSum X e ps j
+      unfolding powerSum
+      powerSum-filter X j ps x e =
+          ap (λ f. powerSum X f ps j) (fun-ext (λ i. add-mul O K (X i) x (e i))) ∙ powerSum-add X j ps _ _
+          ∙ ap (λ s. powerSum X e ps (suc j) ⊕ s) (powerSum-mul X j ps x e)
+
       -- a position where e is zero
       pub powerSum-skip : (X : I → A) (j : ℕ) (i : I) (ps : List I) (e : I → A) → e i ≡ 𝟘 → powerSum X e (i ∷ ps) j ≡ powerSum X e ps j
       unfolding powerSum sum
       powerSum-skip X zero i ps e h = rw (powerSum, sum, h) (zero-add O K _)
       powerSum-skip X (suc j) i ps e h = powerSum-skip X j i ps _ (rw h (mul-zero O K _))
 
-    value-in : (x : A) (b : ℕ → A) → ((i : ℕ) → In (b i)) → (n : ℕ) → In (valueAt x b n)
+    -- a sum with one term, and a sum with one term more
+    pub sum-at : (f : ℕ → A) (k n : ℕ) → k < n → ((i : ℕ) → ¬ (i ≡ k) → f i ≡ 𝟘) → sum f (upto n) ≡ f k
+    unfolding sum upto
+    sum-at f k zero h z = absurd (not-suc-le-zero h)
+    sum-at f k (suc n) h z = go (ℕ-discrete n k) (sum-at f k n)
+      where
+        go : Dec (n ≡ k) → (k < n → ((i : ℕ) → ¬ (i ≡ k) → f i ≡ 𝟘) → sum f (upto n) ≡ f k) → f n ⊕ sum f (upto n) ≡ f k
+        go (yes e) r =
+            ap (λ x. f n ⊕ x) (sum-zero (upto n) f (all-map (λ i l. z i (λ q. omega arith)) (upto n) (upto-lt n))) ∙ add-zero O K (f n) ∙ ap f e
+        go (no e) r = ap (λ x. x ⊕ sum f (upto n)) (z n e) ∙ zero-add O K _ ∙ r (omega arith) z
+
+    pub sum-put : (f g : ℕ → A) (k n : ℕ) → k < n → f k ≡ 𝟘 → ((i : ℕ) → ¬ (i ≡ k) → g i ≡ f i) → sum g (upto n) ≡ sum f (upto n) ⊕ g k
+    sum-put f g k n h z same =
+        let both : sum f (upto n) ⊕ sum g (upto n) ≡ g k =
+        sym (sum-add (upto n) f g) ∙ sum-at (λ i. f i ⊕ g i) k n h (λ i q. rw (same i q) (add-self O K (f i))) ∙ ap (λ x. x ⊕ g k) z ∙ zero-add O K (g k) in
+        rw (← both) (sym (add-same O K _ _))
+
+    pub value-in : (x : A) (b : ℕ → A) → ((i : ℕ) → In (b i)) → (n : ℕ) → In (valueAt x b n)
     unfolding valueAt
     value-in x b h zero = K .in-zero
     value-in x b h (suc n) = K .in-add _ _ (K .in-mul _ _) (h n)

@@ -1,8 +1,11 @@
 -- The support of e: the positions of a list at which it is not zero. Assumes nothing.
 use mathlib.Core.Path.{_≡_, refl, ap}
 use mathlib.Core.List.{List, [], _∷_}
-use Prim.Native.Nat.{ℕ, zero, suc}
-use Rattle.words.proofs.Algebra.Field.{Ops, Laws, All, Apart, zero-add, mul-zero}
+use Prim.Native.Nat.{ℕ, zero, suc, _+_}
+use native.Mathlib.Omega.{arith}
+use lib.ListN.{length}
+use Rattle.words.specs.Places.{sumTo}
+use Rattle.words.proofs.Algebra.Field.{Ops, Laws, All, Apart, upto, zero-add, mul-zero}
 use Rattle.words.proofs.Algebra.PowerSums.{sum, powerSum}
 
 -- the list ps, with i before it unless P holds
@@ -26,6 +29,15 @@ module _ {A : Type 0} (O : Ops A) (dec : (a : A) → Dec (a ≡ O .𝟘)) {I : T
       go : (d : Dec (e i ≡ 𝟘)) → All P (support ps) → All P (keep d i (support ps))
       go (yes _) r = r
       go (no _) r = (h .0, r)
+
+  pub support-nonzero : (ps : List I) → All (λ i. ¬ (e i ≡ 𝟘)) (support ps)
+  unfolding support
+  support-nonzero [] = tt
+  support-nonzero (i ∷ ps) = go (dec (e i)) (support-nonzero ps)
+    where
+      go : (d : Dec (e i ≡ 𝟘)) → All (λ i. ¬ (e i ≡ 𝟘)) (support ps) → All (λ i. ¬ (e i ≡ 𝟘)) (keep d i (support ps))
+      go (yes _) r = r
+      go (no z) r = (z, r)
 
   -- what holds on the support, and where e is zero, holds on the list
   pub all-support : (P : I → Type 0) → ((i : I) → e i ≡ 𝟘 → P i) → (ps : List I) → All P (support ps) → All P ps
@@ -62,3 +74,14 @@ module _ {A : Type 0} (O : Ops A) (dec : (a : A) → Dec (a ≡ O .𝟘)) {I : T
     unfolding powerSum
     support-powerSum X zero f h ps = support-sum f h ps
     support-powerSum X (suc j) f h ps = support-powerSum X j _ (λ i z. rw (h i z) (mul-zero O K (X i))) ps
+
+-- how many of n positions are in the support, where d counts 1 for each
+pub support-count : {A : Type 0} (O : Ops A) (dec : (a : A) → Dec (a ≡ O .𝟘)) (e : ℕ → A) (d : ℕ → ℕ) → ((i : ℕ) → e i ≡ O .𝟘 → d i ≡ 0) →
+    ((i : ℕ) → ¬ (e i ≡ O .𝟘) → d i ≡ 1) → (n : ℕ) → length (support O dec e (upto n)) ≡ sumTo n d
+unfolding support upto sumTo
+support-count O dec e d none one zero = refl
+support-count O dec e d none one (suc n) = go (dec (e n)) (support-count O dec e d none one n)
+  where
+    go : (b : Dec (e n ≡ O .𝟘)) → length (support O dec e (upto n)) ≡ sumTo n d → length (keep b n (support O dec e (upto n))) ≡ sumTo n d + d n
+    go (yes z) r = omega (arith, none n z)
+    go (no z) r = omega (arith, one n z)

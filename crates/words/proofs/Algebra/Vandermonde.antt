@@ -5,8 +5,8 @@ use Prim.Native.Nat.{ℕ, zero, suc, _+_, _<_}
 use native.Mathlib.Omega.{arith}
 use native.Mathlib.Nat as N
 use lib.ListN.{length}
-use Rattle.words.proofs.Algebra.Field.{Ops, Laws, All, all-map, all-zip, Apart, add-mul, add-zero, zero-add, mul-zero, ring, eq-of-add, cancel}
-use Rattle.words.proofs.Algebra.PowerSums.{sum, powerSum, sum-zero, powerSum-add, powerSum-mul, powerSum-skip}
+use Rattle.words.proofs.Algebra.Field.{Ops, Laws, All, all-map, all-zip, Apart, add-zero, zero-add, mul-zero, ring, eq-of-add, cancel}
+use Rattle.words.proofs.Algebra.PowerSums.{sum, powerSum, sum-zero, powerSum-filter, powerSum-skip}
 
 module _ {A : Type 0} (O : Ops A) {In : A → Type 0} (K : Laws O In) where
   open Ops O using (_⊕_, _⊙_, 𝟘)
@@ -21,8 +21,8 @@ module _ {A : Type 0} (O : Ops A) {In : A → Type 0} (K : Laws O In) where
     vandermonde [] d e ie h = tt
     vandermonde (i ∷ ps) d e ie h =
         let sums : (j : ℕ) → j < length ps → powerSum O X (λ k. (X k ⊕ X i) ⊙ e k) ps j ≡ 𝟘 = λ j l.
-        sym (powerSum-skip O K X j i ps _ (simp (ring, K))) ∙ simp (add-mul, powerSum-add, powerSum-mul, K)
-        (cc (h (suc j) (omega arith), h j (omega arith), mul-zero O K (X i), zero-add O K 𝟘)) in
+        sym (powerSum-skip O K X j i ps _ (simp (ring, K))) ∙ powerSum-filter O K X j (i ∷ ps) (X i) e
+        ∙ (cc (h (suc j) (omega arith), h j (omega arith), mul-zero O K (X i), zero-add O K 𝟘)) in
         let rest : All (λ k. e k ≡ 𝟘) ps =
         all-zip (λ k n z. cancel O K (ie k) (K .in-add _ _ (in-X k) (in-X i)) (λ q. n (eq-of-add O K q)) z) ps (d .0)
         (vandermonde ps (d .1) (λ k. (X k ⊕ X i) ⊙ e k) (λ k. K .in-mul _ _) sums) in

@@ -112,7 +112,7 @@ module _ (f : ℕ → ℕ) (f-sum : Additive f) where
         rw (h, l) (xor-zero-r _)
 
     -- more digits than the number has
-    valueOf-more : (n r : ℕ) → r < 2 ^ n → valueOf f y (suc n) r ≡ valueOf f y n r
+    pub valueOf-more : (n r : ℕ) → r < 2 ^ n → valueOf f y (suc n) r ≡ valueOf f y n r
     unfolding valueOf scale
     valueOf-more zero r h = rw (lt-one h) (rw f-zero (xor-self 0))
     valueOf-more (suc n) r h = ap (λ (x : ℕ). xor (f x) (scale (r % 2) y)) (valueOf-more n (r / 2) (omega arith))

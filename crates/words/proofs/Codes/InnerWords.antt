@@ -34,28 +34,30 @@ pub remainder-value : (i m p : ℕ) → 0 < m → p / 2 ^ m ≡ 1 → valueB i (
 remainder-value i m p positive degree root b bits n =
     value-remainder _ (times-power-sum i) 1 m p positive degree root b bits n ∙ horner-same _ _ _ n (λ k l. scale-one (b k) (bits k))
 
--- a binary word that the divisor divides is zero at a, a^3, .. a^15, and at the square of each element where it is zero
-module _ (b : ℕ → ℕ) (bits : (i : ℕ) → b i < 2) (n : ℕ) (divides : remainder 88 divisor b n ≡ 0) where
-  abbrev Root : ℕ → Type 0
-  Root e = value 11 2053 (powerB e) b n ≡ 0
+-- what holds of the odd numbers below 16, and with a number of twice that number, holds of 1 to 16
+module _ (P : ℕ → Type 0) (odd : (j : ℕ) → j < 8 → P (2 * j + 1)) (twice : (e : ℕ) → 0 < e → e ≤ 8 → P e → P (e + e)) where
+  by-half : (e t : ℕ) → e % 2 ≡ t → (0 < e / 2 → e / 2 ≤ 16 → P (e / 2)) → 0 < e → e ≤ 16 → P e
+  by-half e zero q half h l = let d : e / 2 + e / 2 ≡ e = omega arith in subst P d (twice (e / 2) (omega arith) (omega arith) (half (omega arith) (omega arith)))
+  by-half e (suc zero) q half h l = let d : 2 * (e / 2) + 1 ≡ e = omega arith in subst P d (odd (e / 2) (omega arith))
+  by-half e (suc (suc t)) q half h l = absurd (omega arith)
 
-  root-odd : (j : ℕ) → j < 8 → Root (2 * j + 1)
-  root-odd j h =
-      sym (remainder-value (2 * j + 1) 88 divisor (lit< tt) divisor-degree (divisor-vanishes j h) b bits n)
-      ∙ rw divides (valueOf-zero _ (times-power-sum (2 * j + 1)) 1 89)
+  pub by-doubling : (e : ℕ) → 0 < e → e ≤ 16 → P e
+  by-doubling = bin-ind (λ (e : ℕ). 0 < e → e ≤ 16 → P e) (λ h l. absurd (omega arith)) (λ e half. by-half e (e % 2) refl half)
 
-  root-twice : (e : ℕ) → Root e → Root (e + e)
+-- a binary word that is zero at an element is zero at its square; one that the divisor divides is zero at a, a^3, .. a^15
+abbrev pub Root : (ℕ → ℕ) → ℕ → ℕ → Type 0
+Root b n e = value 11 2053 (powerB e) b n ≡ 0
+
+module _ (b : ℕ → ℕ) (bits : (i : ℕ) → b i < 2) (n : ℕ) where
+  pub root-twice : (e : ℕ) → Root b n e → Root b n (e + e)
   root-twice e z =
       ap (λ (x : ℕ). value 11 2053 x b n) (sym (field-b .power-sum e e)) ∙ squares 11 2053 field-b (powerB e) (field-b .power-lt e) b bits n
       ∙ rw z (field-b .times-zero 0)
 
-  by-half : (e t : ℕ) → e % 2 ≡ t → (0 < e / 2 → e / 2 ≤ 16 → Root (e / 2)) → 0 < e → e ≤ 16 → Root e
-  by-half e zero q half h l = let d : e / 2 + e / 2 ≡ e = omega arith in subst Root d (root-twice (e / 2) (half (omega arith) (omega arith)))
-  by-half e (suc zero) q half h l = let d : 2 * (e / 2) + 1 ≡ e = omega arith in subst Root d (root-odd (e / 2) (omega arith))
-  by-half e (suc (suc t)) q half h l = absurd (omega arith)
+  root-odd : remainder 88 divisor b n ≡ 0 → (j : ℕ) → j < 8 → Root b n (2 * j + 1)
+  root-odd divides j h =
+      sym (remainder-value (2 * j + 1) 88 divisor (lit< tt) divisor-degree (divisor-vanishes j h) b bits n)
+      ∙ rw divides (valueOf-zero _ (times-power-sum (2 * j + 1)) 1 89)
 
-  roots : (e : ℕ) → 0 < e → e ≤ 16 → Root e
-  roots = bin-ind (λ (e : ℕ). 0 < e → e ≤ 16 → Root e) (λ h l. absurd (omega arith)) (λ e half. by-half e (e % 2) refl half)
-
-pub inner-roots : (w : List ℕ) → Inner w → (e : ℕ) → 0 < e → e ≤ 16 → value 11 2053 (powerB e) (at w) 2040 ≡ 0
-inner-roots w c = roots (at w) (c .bits) 2040 (c .divides)
+pub inner-roots : (w : List ℕ) → Inner w → (e : ℕ) → 0 < e → e ≤ 16 → Root (at w) 2040 e
+inner-roots w c = by-doubling _ (root-odd (at w) (c .bits) 2040 (c .divides)) (λ e h l. root-twice (at w) (c .bits) 2040 e)

@@ -16,10 +16,10 @@ use Rattle.words.specs.ByTables.{lentValue}
 use Rattle.words.proofs.Algebra.Values.{value-lt}
 
 module _ (m p : ℕ) (F : Field m p) where
-  product-same : (x y : ℕ) → x < 2 ^ m → y < 2 ^ m → tableProduct (powers m p) (exponents m p) x y ≡ times m p x y
+  pub product-same : (x y : ℕ) → x < 2 ^ m → y < 2 ^ m → tableProduct (powers m p) (exponents m p) x y ≡ times m p x y
   product-same x y hx hy = table-product m p F x y ∙ ap₂ (times m p) (mod-eq-of-lt hx) (mod-eq-of-lt hy)
 
-  horner-lent : (x : ℕ) → x < 2 ^ m → (b : ℕ → ℕ) → ((i : ℕ) → b i < 2 ^ m) → (n : ℕ) → horner (λ v. tableProduct (powers m p) (exponents m p) v x) b n ≡ value m p x b n
+  pub horner-lent : (x : ℕ) → x < 2 ^ m → (b : ℕ → ℕ) → ((i : ℕ) → b i < 2 ^ m) → (n : ℕ) → horner (λ v. tableProduct (powers m p) (exponents m p) v x) b n ≡ value m p x b n
   unfolding horner
   horner-lent x hx b h zero = refl
   horner-lent x hx b h (suc n) =

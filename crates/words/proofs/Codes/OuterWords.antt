@@ -9,13 +9,15 @@ use borrow.Author.Tests.{eq-eqb, eqb-true}
 use lib.Dec.{eqb, lit<}
 use lib.ListN.{length, drop, length-append, List·getD-append}
 use lib.Seq.{drop-append-seam}
-use Rattle.fields.specs.Elements.{xor, scale, doubled, timesFrom, times, power, timesA}
+use Rattle.fields.specs.Elements.{xor, scale, doubled, timesFrom, times, power, timesA, powersA, exponentsA}
 use Rattle.fields.specs.Lists.{tabulate}
+use Rattle.fields.proofs.ByTables.{table-power}
 use Rattle.fields.proofs.Instances.{field-a}
 use Rattle.words.specs.Places.{at, every, allBelow, horner, value, apart}
 use Rattle.words.specs.OuterCode.{powerA, outerValue, isOuter, withRoot, withRoots, generator, outerParity}
+use Rattle.words.specs.ByTables.{lentValue, rootValue}
 use Rattle.words.proofs.Places.Tests.{every-at, every-true, below-at, below-all, below-append}
-use Rattle.words.proofs.Codes.Lent.{divided-lt}
+use Rattle.words.proofs.Codes.Lent.{value-lent, divided-lt}
 use Rattle.words.proofs.Codes.Division.{divided-length, completed-value}
 use Rattle.words.proofs.Places.Counting.{apart-append}
 use Rattle.words.proofs.Algebra.MinimumDistance.{far-lists}
@@ -29,6 +31,13 @@ unfolding isOuter
 outer-is w h =
     let a = and-eq-true-iff (allBelow 1024 w) (every 16 (λ j. eqb (outerValue w j) 0)) .0 h in
     record { symbols = below-at 1024 w (lit< tt) (a .0); roots = λ j l. eqb-true _ _ (every-at 16 (λ j. eqb (outerValue w j) 0) (a .1) j l) }
+
+-- the values at the roots over the lent tables of field A
+pub root-is : (w : List ℕ) → allBelow 1024 w ≡ true → (j : ℕ) → rootValue powersA exponentsA w j ≡ outerValue w j
+unfolding rootValue outerValue
+root-is w h j =
+    ap (lentValue powersA exponentsA w) (table-power 10 1033 field-a j)
+    ∙ value-lent 10 1033 field-a (powerA j) (field-a .power-lt j) w (below-at 1024 w (lit< tt) h)
 
 -- code words of one length that differ in at most 16 symbols are the same: sixteen roots from a^0 on
 pub outer-far : (c d : List ℕ) → isOuter c ≡ true → isOuter d ≡ true → length c ≡ length d → length c ≤ 1023 → apart c d ≤ 16 → c ≡ d

@@ -7,13 +7,17 @@ use native.Mathlib.Omega.{arith}
 use lib.ListN.{length}
 use Rattle.fields.proofs.Instances.{field-b}
 use Rattle.words.specs.Places.{at, apart, value}
+use Rattle.words.specs.OuterCode.{isOuter}
 use Rattle.words.specs.InnerCode.{powerB, isInner}
+use Rattle.words.specs.Nearest.{Decodes}
 use Rattle.words.specs.Codes.{Codes}
+use Rattle.words.proofs.Places.Tests.{below-all}
 use Rattle.words.proofs.Algebra.MinimumDistance.{far-lists}
-use Rattle.words.proofs.Codes.OuterWords.{outer-length, outer-made, outer-only, outer-far}
+use Rattle.words.proofs.Codes.OuterWords.{outer-is, outer-length, outer-made, outer-only, outer-far}
 use Rattle.words.proofs.Codes.LeastPolynomials.{factor-vanishes, none-lower}
 use Rattle.words.proofs.Codes.InnerWords.{Inner, inner-is, inner-roots}
 use Rattle.words.proofs.Codes.InnerParity.{inner-length, inner-made, inner-only}
+use Rattle.words.proofs.Codes.Nearest.{decodes}
 
 -- inner code words that differ in at most 16 places are the same: sixteen roots from a^1 on
 inner-far : (c d : List ℕ) → isInner c ≡ true → isInner d ≡ true → apart c d ≤ 16 → c ≡ d
@@ -26,6 +30,13 @@ inner-far c d hc hd =
     zero : (w : List ℕ) → Inner w → (j : ℕ) → j < 16 → value 11 2053 (powerB (1 + j)) (at w) (length w) ≡ 0
     zero w i j l = rw (i .long) (inner-roots w i (1 + j) (omega arith) (omega arith))
 
+outer-nearest : (n : ℕ) → n ≤ 1023 → Decodes isOuter 1024 8 n
+outer-nearest n short =
+    decodes isOuter 1024 8 n (λ c h. below-all 1024 c (λ i l. outer-is c h .symbols i)) (λ c d hc hd lc ld. outer-far c d hc hd (lc ∙ sym ld) (omega arith))
+
+inner-nearest : Decodes isInner 2 8 2040
+inner-nearest = decodes isInner 2 8 2040 (λ c h. below-all 2 c (λ i l. inner-is c h .bits i)) (λ c d hc hd lc ld. inner-far c d hc hd)
+
 pub codes : Codes
 codes =
     record {
@@ -33,10 +44,12 @@ codes =
       outer-made = outer-made;
       outer-only = outer-only;
       outer-far = outer-far;
+      outer-nearest = outer-nearest;
       factor-vanishes = factor-vanishes;
       none-lower = none-lower;
       inner-length = inner-length;
       inner-made = inner-made;
       inner-only = inner-only;
       inner-far = inner-far;
+      inner-nearest = inner-nearest;
     }

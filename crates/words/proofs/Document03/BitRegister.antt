@@ -18,6 +18,7 @@ use Rattle.fields.proofs.Lists.{tabulate-length, tabulate-at, tabulate-is, tabu
 use Rattle.fields.proofs.Statements.{xor}
 use Rattle.words.specs.Places.{at, bitOf, horner}
 use Rattle.words.specs.InnerCode.{remainder}
+use Rattle.words.proofs.Places.Filling.{zeros-at}
 use Rattle.words.proofs.Places.Numbers.{bitOf-lt, bitOf-last}
 use Rattle.words.proofs.Codes.Horner.{iter, iter-in, iter-sum, horner-zeros}
 use Rattle.words.proofs.Document03.ShiftedBits.{bitOf-sum, bitOf-zero, bitOf-scale, bitOf-twice, bitOf-top, bitOf-first, bitOf-other}
@@ -36,11 +37,6 @@ bits-at (suc n) v zero h = let e : n ≡ suc n - 1 = omega arith in ap (λ (k : 
 bits-at (suc n) v (suc i) h =
     let e : n - suc i ≡ suc n - suc (suc i) = omega arith in
     bits-at n v i (le-of-suc-le-suc h) ∙ ap (λ (k : ℕ). v / 2 ^ k % 2) e
-
-zeros-at : (n i : ℕ) → at (replicate n 0) i ≡ 0
-zeros-at zero i = refl
-zeros-at (suc n) zero = refl
-zeros-at (suc n) (suc i) = zeros-at n i
 
 scaled-at : (t : ℕ) (bs : List ℕ) (i : ℕ) → at (bitScaled t bs) i ≡ scale t (at bs i)
 unfolding scale

@@ -1,10 +1,12 @@
--- What the entries answer is what document 03 asks of the calls that check and encode single words. Assumes nothing.
+-- What the entries answer is what document 03 asks of the calls that check, encode and correct single words. Assumes nothing.
 use mathlib.Core.Path.{_≡_, refl, sym, ap, ap₂, _∙_, subst}
-use mathlib.Core.Bool.{Bool, true, false, not, _||_, cond}
+use mathlib.Core.Bool.{Bool, true, false, not, _&&_, _||_, cond, and-eq-true-iff}
 use mathlib.Core.List.{List}
-use Prim.Native.Nat.{ℕ, zero, suc}
+use mathlib.Core.Logic.{inl, inr}
+use mathlib.Core.Option.{Option, none, some}
+use Prim.Native.Nat.{ℕ, zero, suc, _≤_, _<_}
 use native.Mathlib.Omega.{arith}
-use borrow.Author.Tests.{eqb-true, leb-true, leb-false, lt-ltb, le-ltb, le-leb}
+use borrow.Author.Tests.{eq-eqb, eqb-true, leb-true, leb-false, lt-ltb, le-ltb, le-leb, lt-leb}
 use lib.Dec.{eqb, ltb, leb, eqb·suc-zero}
 use lib.ListN.{length}
 use Rattle.fields.proofs.Statements.{pick}
@@ -14,12 +16,15 @@ use Rattle.words.specs.OuterCode.{outerParity}
 use Rattle.words.specs.OuterCode as Outer
 use Rattle.words.specs.InnerCode.{innerParity}
 use Rattle.words.specs.InnerCode as Inner
-use Rattle.words.specs.Answers.{unless, refusal, within, answered, outerChecked, outerEncoded, innerChecked, innerEncoded}
+use Rattle.words.specs.Nearest.{nearest, Decodes}
+use Rattle.words.specs.Answers.{unless, refusal, within, answered, outerChecked, outerEncoded, innerChecked, innerEncoded, found, corrected, outerCorrected, innerCorrected}
 use Rattle.words.specs.Answers as Answers
 use Rattle.words.proofs.Places.Bytes.{bits-below, bits-length}
 use Rattle.words.proofs.Codes.InnerParity.{inner-length}
-use Rattle.words.proofs.Document03.Statements.{when, outerChecks, innerChecks}
-use Rattle.words.proofs.Document03.Says.{firstOf, bitsOf, bytesOf, outerLong, OuterCheckSays, OuterMakeSays, InnerCheckSays, InnerMakeSays}
+use Rattle.words.proofs.Codes.Proved.{codes}
+use Rattle.words.proofs.Document03.Statements.{when, outerChecks, isOuter, innerChecks, isInner, apart, isNear}
+use Rattle.words.proofs.Document03.Says.{firstOf, bitsOf, bytesOf, outerLong, OuterCheckSays, OuterMakeSays, InnerCheckSays, InnerMakeSays, Nearest, MendedWith, OuterMendSays, InnerMendSays}
+use Rattle.words.proofs.Document03.WordsAgree.{apart-agrees}
 use Rattle.words.proofs.Document03.OuterAgrees.{symbols-agree, outer-agrees, parity-agrees}
 use Rattle.words.proofs.Document03.InnerAgrees as InnerAgrees
 use Rattle.words.proofs.Document03.BytesAgree.{bits-agree, bytes-agree}
@@ -104,3 +109,64 @@ inner-make-says d o o′ r e =
     let fits = eqb (length o) 11 in
     make-says _ (bytesOf (innerChecks (bitsOf d))) o o′ r long fits true e (λ l s. bytes-says d (eqb-true (length d) 244 l)) _
     (refusal-says long fits true ∙ ap (firstOf (when (not long) 6)) (firstOf-zero (when (not fits) 3)))
+
+-- ---- corrections
+
+near-says : (w c : List ℕ) → length c ≡ length w → Places.apart w c ≤ 8 → isNear w c ≡ true
+near-says w c e h = rw (eq-eqb (length w) (length c) (sym e), apart-agrees w c (sym e)) (le-leb (Places.apart w c) 8 h)
+
+far-says : (w c : List ℕ) → (length c ≡ length w → 8 < Places.apart w c) → isNear w c ≡ false
+far-says w c h = go (eqb (length w) (length c)) refl
+  where
+    go : (b : Bool) → eqb (length w) (length c) ≡ b → (b && leb (apart w c) 8) ≡ false
+    go false e = refl
+    go true e = let l : length w ≡ length c = eqb-true (length w) (length c) e in rw (apart-agrees w c l) (lt-leb (Places.apart w c) 8 (h (sym l)))
+
+-- a word w and the buffer o; our test of code words and the document's; what is stored of a code word, by ours and by the document
+module _ (isCode isCode′ : List ℕ → Bool) (agree : (c : List ℕ) → isCode′ c ≡ isCode c) (q : ℕ) (content out : List ℕ → List ℕ) (w o : List ℕ) where
+  -- what holds of words of the right length
+  abbrev Ready : Type 0
+  Ready = Decodes isCode q 8 (length w) × ((c : List ℕ) → length c ≡ length w → content c ≡ out c)
+
+  nearest-says : Ready → (a : Option (List ℕ)) → nearest isCode q 8 w ≡ a → (let r = found content w o a in Nearest isCode′ w o (r .2) out (r .0) (r .1))
+  unfolding found
+  nearest-says (D, stores) none e = inr (λ c h. far-says w c (λ l. D .none-means-none w c refl e l (sym (agree c) ∙ h)), refl, refl, refl)
+  nearest-says (D, stores) (some c) e =
+      let s = D .sound w c refl e in
+      inl (c, agree c ∙ s .1, near-says w c (s .0) (s .2), refl, sym (apart-agrees w c (sym (s .0))), stores c (s .0))
+
+  mended-says : (long fits symbols : Bool) → (long ≡ true → Ready) →
+      (let f = refusal long fits symbols in let r = corrected f o (found content w o (nearest isCode q 8 w)) in MendedWith f isCode′ w o (r .2) out (r .0) (r .1))
+  unfolding refusal corrected
+  mended-says true true true h = nearest-says (h refl) (nearest isCode q 8 w) refl
+  mended-says true true false h = (refl, refl, refl)
+  mended-says true false symbols h = (refl, refl, refl)
+  mended-says false fits symbols h = (refl, refl, refl)
+
+  mend-says : (long fits symbols : Bool) → (long ≡ true → Ready) → (f : ℕ) → refusal long fits symbols ≡ f → (o′ : List ℕ) (number changed : ℕ) →
+      _≡_ {A = ℕ × ℕ × List ℕ} (number, changed, o′) (corrected (refusal long fits symbols) o (found content w o (nearest isCode q 8 w))) → MendedWith f isCode′ w o o′ out number changed
+  mend-says long fits symbols h f same o′ number changed e =
+      subst (λ (f : ℕ). MendedWith f isCode′ w o o′ out number changed) same
+      (subst (λ (r : ℕ × ℕ × List ℕ). MendedWith (refusal long fits symbols) isCode′ w o (r .2) out (r .0) (r .1)) (sym e) (mended-says long fits symbols h))
+
+pub outer-mend-says : (w o o′ : List ℕ) (number changed : ℕ) → _≡_ {A = ℕ × ℕ × List ℕ} (number, changed, o′) (outerCorrected w o) → OuterMendSays w o o′ number changed
+unfolding outerCorrected within
+outer-mend-says w o o′ number changed e =
+    let fits = eqb (length o) (length w) in
+    let symbols = allBelow 1024 w in
+    mend-says Outer.isOuter isOuter outer-agrees 1024 (λ c. c) (λ c. c) w o (outerLong w) fits symbols
+    (λ l. (codes .outer-nearest (length w) (leb-true (length w) 1023 (and-eq-true-iff (leb 17 (length w)) (leb (length w) 1023) .0 l .1)), λ c same. refl)) _
+    (refusal-says (outerLong w) fits symbols ∙ ap (λ (s : Bool). firstOf (when (not (outerLong w)) 6) (firstOf (when (not fits) 3) (when (not s) 7))) (sym (symbols-agree w)))
+    o′ number changed e
+
+pub inner-mend-says : (w o o′ : List ℕ) (number changed : ℕ) → _≡_ {A = ℕ × ℕ × List ℕ} (number, changed, o′) (innerCorrected w o) → InnerMendSays w o o′ number changed
+unfolding innerCorrected
+inner-mend-says w o o′ number changed e =
+    let long = eqb (length w) 255 in
+    let fits = eqb (length o) 255 in
+    let bits = Places.bitsOf w in
+    subst (λ (b : List ℕ). MendedWith (firstOf (when (not long) 6) (when (not fits) 3)) isInner b o o′ bytesOf number changed) (sym (bits-agree w))
+    (mend-says Inner.isInner isInner InnerAgrees.inner-agrees 2 (λ c. Places.bytesOf 255 (at c)) bytesOf bits o long fits true
+    (λ l. let k : length bits ≡ 2040 = bits-length w ∙ omega (arith, eqb-true (length w) 255 l) in
+    (rw k (codes .inner-nearest), λ c same. sym (bytes-agree 255 c (same ∙ k)))) _
+    (refusal-says long fits true ∙ ap (firstOf (when (not long) 6)) (firstOf-zero (when (not fits) 3))) o′ number changed e)

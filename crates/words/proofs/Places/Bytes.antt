@@ -4,17 +4,16 @@ use mathlib.Core.Bool.{true}
 use mathlib.Core.List.{List}
 use Prim.Native.Nat.{ℕ, zero, suc, _+_, _-_, _*_, _/_, _%_, _^_, _≤_, _<_}
 use native.Mathlib.Decide.{decLt}
-use native.Mathlib.Nat.{div-eq-of-lt}
 use native.Mathlib.Numerals.{add-one}
 use native.Mathlib.Omega.{arith}
 use lib.Bits.{bitAnd, and-mask}
 use lib.ListN.{length, getD, List·getD-eq-default}
-use lib.Pow.{field, mod-mod-pow, pow-pos, shr-shr}
+use lib.Pow.{field, mod-mod-pow, shr-shr}
 use Rattle.fields.specs.Lists.{tabulate}
-use Rattle.fields.proofs.Lists.{tabulate-at, tabulate-length}
+use Rattle.fields.proofs.Lists.{tabulate-at, tabulate-is, tabulate-length}
 use Rattle.words.specs.Places.{at, allBelow, bitOf, numberOf, bitAt, bitsOf, bytesOf}
 use Rattle.words.proofs.Places.Tests.{below-all}
-use Rattle.words.proofs.Places.Numbers.{bitOf-lt}
+use Rattle.words.proofs.Places.Numbers.{bitOf-lt, bitOf-zero, numberOf-same, numberOf-bits}
 use Rattle.words.proofs.Places.Filling.{Filled, filled-end}
 
 pub bitAt-lt : (bytes : List ℕ) (i : ℕ) → bitAt bytes i < 2
@@ -39,8 +38,8 @@ number-of-bits m x s (suc n) h =
 
 -- past the end of the bytes a bit is 0
 pub place-past : (bytes : List ℕ) (i : ℕ) → length bytes ≤ i / 8 → 0 ≡ bitAt bytes i
-unfolding bitAt bitOf
-place-past bytes i h = sym (rw (List·getD-eq-default bytes 0 {n = i / 8} h) (ap (λ (z : ℕ). z % 2) (div-eq-of-lt (pow-pos (8 - suc (i % 8))))))
+unfolding bitAt
+place-past bytes i h = sym (rw (List·getD-eq-default bytes 0 {n = i / 8} h) (bitOf-zero 8 (i % 8)))
 
 -- the places of the bits of bytes
 pub bits-length : (bytes : List ℕ) → length (bitsOf bytes) ≡ 8 * length bytes
@@ -72,3 +71,15 @@ place-lt bytes i = rw (place-read bytes i) (bitAt-lt bytes i)
 pub bytes-end : (n : ℕ) (b : ℕ → ℕ) (k : ℕ) (out : List ℕ) → Filled n (λ i. numberOf 8 (λ j. b (8 * i + j))) k out → n ≤ k → out ≡ bytesOf n b
 unfolding bytesOf
 bytes-end n b k out h l = filled-end h l
+
+-- the bits of bytes make these bytes
+pub bytes-again : (n : ℕ) (bytes : List ℕ) → length bytes ≡ n → ((k : ℕ) → at bytes k < 256) → bytes ≡ bytesOf n (at (bitsOf bytes))
+unfolding bytesOf bitAt
+bytes-again n bytes long small =
+    tabulate-is n _ bytes 0 long (λ k l. sym (numberOf-same 8 _ (bitOf 8 (at bytes k)) (λ j h. bits-at bytes (8 * k + j) ∙ within k j h) ∙ numberOf-bits 8 (at bytes k) (small k)))
+  where
+    within : (k j : ℕ) → j < 8 → bitOf 8 (at bytes ((8 * k + j) / 8)) ((8 * k + j) % 8) ≡ bitOf 8 (at bytes k) j
+    within k j h =
+        let q : (8 * k + j) / 8 ≡ k = omega arith in
+        let r : (8 * k + j) % 8 ≡ j = omega arith in
+        rw (q, r)

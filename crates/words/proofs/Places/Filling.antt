@@ -1,14 +1,20 @@
 -- Loops that store the places of a list one after the other. Assumes nothing.
-use mathlib.Core.Path.{_≡_, sym, _∙_}
+use mathlib.Core.Path.{_≡_, refl, sym, _∙_}
 use mathlib.Core.List.{List}
-use Prim.Native.Nat.{ℕ, _+_, _≤_, _<_, zero-le}
+use Prim.Native.Nat.{ℕ, zero, suc, _+_, _≤_, _<_, zero-le}
 use native.Mathlib.Decide.{ℕ-discrete}
 use native.Mathlib.Nat.{not-suc-le-zero}
 use native.Mathlib.Omega.{arith}
-use lib.ListN.{length, getD, set, length-set}
+use lib.ListN.{length, getD, set, replicate, length-set}
 use lib.Seq.{ext-getD, getD-set-same, getD-set-other}
 use Rattle.fields.specs.Lists.{tabulate}
 use Rattle.fields.proofs.Lists.{tabulate-is}
+
+-- a list of zeros is zero everywhere, past its end too
+pub zeros-at : (n i : ℕ) → _≡_ {A = ℕ} (getD (replicate n 0) i 0) 0
+zeros-at zero i = refl
+zeros-at (suc n) zero = refl
+zeros-at (suc n) (suc i) = zeros-at n i
 
 -- the invariant: the first k of n places hold f 0, f 1, .. f (k - 1)
 pub record Filled (n : ℕ) (f : ℕ → ℕ) (k : ℕ) (out : List ℕ) : Type 0 where

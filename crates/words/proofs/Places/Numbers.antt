@@ -2,7 +2,7 @@
 use mathlib.Core.Path.{_≡_, refl, sym, ap, ap₂, _∙_}
 use mathlib.Core.Logic.{_⊎_, inl, inr}
 use Prim.Native.Nat.{ℕ, zero, suc, _+_, _-_, _*_, _/_, _%_, _^_, _<_}
-use native.Mathlib.Nat.{eq-or-lt-of-le, le-of-suc-le-suc, le-refl, not-suc-le-zero}
+use native.Mathlib.Nat.{div-eq-of-lt, eq-or-lt-of-le, le-of-suc-le-suc, le-refl, not-suc-le-zero}
 use native.Mathlib.Omega.{arith}
 use lib.Arith.{lt-one}
 use lib.Pow.{pow-pos, shr-shr}
@@ -11,6 +11,10 @@ use Rattle.words.specs.Places.{bitOf, numberOf}
 pub bitOf-lt : (n x i : ℕ) → bitOf n x i < 2
 unfolding bitOf
 bitOf-lt n x i = omega arith
+
+pub bitOf-zero : (n i : ℕ) → bitOf n 0 i ≡ 0
+unfolding bitOf
+bitOf-zero n i = ap (λ (z : ℕ). z % 2) (div-eq-of-lt (pow-pos (n - suc i)))
 
 -- all bits but the last are those of the half
 pub bitOf-half : (n x i : ℕ) → i < n → bitOf (suc n) x i ≡ bitOf n (x / 2) i

@@ -42,7 +42,7 @@ unfolding every
 every-same zero f g h = refl
 every-same (suc n) f g h = rw (every-same n f g (λ i l. h i (omega arith)), h n (le-refl (suc n)))
 
-below-lt : (q : ℕ) (w : List ℕ) → allBelow q w ≡ true → (i : ℕ) → i < length w → at w i < q
+pub below-lt : (q : ℕ) (w : List ℕ) → allBelow q w ≡ true → (i : ℕ) → i < length w → at w i < q
 unfolding allBelow
 below-lt q w t i h = ltb-true (at w i) q (every-at (length w) (λ j. ltb (at w j) q) t i h)
 

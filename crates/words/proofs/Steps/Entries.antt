@@ -10,26 +10,25 @@ use lib.ListN.{length}
 use Rattle.fields.specs.Elements.{doubled, powersA, exponentsA}
 use Rattle.fields.specs.ByTables.{tableProduct}
 use Rattle.fields.specs.Lists.{tabulate}
-use Rattle.fields.proofs.ByTables.{table-power}
 use Rattle.fields.proofs.Instances.{field-a}
 use Rattle.fields.proofs.Lists.{tabulate-at, tabulate-length, tabulate-same}
 use Rattle.words.specs.Places.{at, every, allBelow, bitOf, numberOf, bitAt, bitsOf, bytesOf}
-use Rattle.words.specs.OuterCode.{powerA, outerValue, isOuter, generator, divided, outerParity}
+use Rattle.words.specs.OuterCode.{outerValue, isOuter, generator, divided, outerParity}
 use Rattle.words.specs.InnerCode.{divisor, remainder, isInner, innerRemainder, innerParity}
 use Rattle.words.specs.Answers.{refusal, within, answered, firstOf, outerChecked, outerEncoded, innerChecked, innerEncoded}
-use Rattle.words.specs.ByTables.{lentValue, rootValue, rootValues}
+use Rattle.words.specs.ByTables.{rootValue, rootValues}
 use Rattle.words.specs.Limbs.{number, Holds}
 use Rattle.words.proofs.Places.Tests.{every-same, below-at}
 use Rattle.words.proofs.Places.Numbers.{numberOf-same}
 use Rattle.words.proofs.Places.Bytes.{bits-at, bits-below, bits-length}
 use Rattle.words.proofs.Codes.Horner.{horner-same}
-use Rattle.words.proofs.Codes.Lent.{value-lent, divided-lent}
-use Rattle.words.proofs.Codes.OuterWords.{generator-lt}
+use Rattle.words.proofs.Codes.Lent.{divided-lent}
+use Rattle.words.proofs.Codes.OuterWords.{generator-lt, root-is}
 
--- what no refusal tells: the buffer fits, and the symbols are below 1,024
-passed : (long fits symbols : Bool) → refusal long fits symbols ≡ 0 → (fits ≡ true) × (symbols ≡ true)
+-- what no refusal tells: the length is right, the buffer fits, and the symbols are below 1,024
+pub passed : (long fits symbols : Bool) → refusal long fits symbols ≡ 0 → (long ≡ true) × (fits ≡ true) × (symbols ≡ true)
 unfolding refusal
-passed true true true e = (refl, refl)
+passed true true true e = (refl, refl, refl)
 passed true true false e = absurd (omega arith)
 passed true false symbols e = absurd (omega arith)
 passed false fits symbols e = absurd (omega arith)
@@ -40,13 +39,6 @@ unfolding answered
 refused n answer buffer h = rw (ne-eqb n 0 h)
 
 -- ---- outer words
-
--- the values at the roots over the lent tables of field A
-root-is : (w : List ℕ) → allBelow 1024 w ≡ true → (j : ℕ) → rootValue powersA exponentsA w j ≡ outerValue w j
-unfolding rootValue outerValue
-root-is w h j =
-    ap (lentValue powersA exponentsA w) (table-power 10 1033 field-a j)
-    ∙ value-lent 10 1033 field-a (powerA j) (field-a .power-lt j) w (below-at 1024 w (lit< tt) h)
 
 below-one : (x : ℕ) → ltb x 1 ≡ eqb x 0
 below-one zero = refl
@@ -67,7 +59,7 @@ module _ (w : List ℕ) (r : ℕ) (told : r ≡ refusal (within 17 1023 (length 
     code-tested : b ≡ isOuter w
     unfolding isOuter
     code-tested =
-        let symbols : allBelow 1024 w ≡ true = passed _ _ _ (sym told ∙ none) .1 in
+        let symbols : allBelow 1024 w ≡ true = passed _ _ _ (sym told ∙ none) .2 in
         test ∙ ap (allBelow 1) (v ∙ ap₂ (λ (e l : List ℕ). rootValues e l w) exp log) ∙ roots-tested w symbols ∙ rw symbols
 
     pub outer-accepted : b ≡ true → 0 ≡ outerChecked w
@@ -85,13 +77,13 @@ module _ (d o : List ℕ) (r : ℕ) (told : r ≡ refusal (within 1 1007 (length
 
   module _ (none : r ≡ 0) where
     pub outer-fits : length o ≡ 16
-    outer-fits = eqb-true _ _ (passed _ _ _ (sym told ∙ none) .0)
+    outer-fits = eqb-true _ _ (passed _ _ _ (sym told ∙ none) .1)
 
     pub outer-encoded : (es ls g cells out : List ℕ) → es ≡ powersA → ls ≡ exponentsA → g ≡ generator → cells ≡ divided (tableProduct es ls) 16 (at g) (at d) (length d) → out ≡ cells →
         _≡_ {A = ℕ × List ℕ} (0, out) (outerEncoded d o)
     unfolding outerEncoded answered outerParity
     outer-encoded es ls g cells out exp log gen e s =
-        let symbols : allBelow 1024 d ≡ true = passed _ _ _ (sym told ∙ none) .1 in
+        let symbols : allBelow 1024 d ≡ true = passed _ _ _ (sym told ∙ none) .2 in
         let parity : out ≡ outerParity d = s ∙ e ∙ rw (exp, log, gen) (divided-lent 10 1033 field-a 16 (at generator) (at d) generator-lt (below-at 1024 d (lit< tt) symbols) (length d)) in
         rw (← told, none, parity)
 

@@ -1,0 +1,10 @@
+-- The decoder: a polynomial that annihilates the syndromes, its roots, the values of the errors there; that up to eight errors are found, and that what
+-- is found is the nearest code word.
+pub mod Elimination
+pub mod RootPlaces
+pub mod Values
+pub mod Changes
+pub mod Completeness
+pub mod Outer
+pub mod InnerSyndromes
+pub mod Inner

@@ -1,0 +1,111 @@
+-- Errors are added to a word one after the other; what `correct_outer` answers, on each way through it. Assumes nothing.
+use mathlib.Core.Path.{_≡_, refl, sym, ap, _∙_}
+use mathlib.Core.Bool.{Bool, true, false, not, cond, and-eq-true-iff}
+use mathlib.Core.List.{List}
+use Prim.Native.Nat.{ℕ, _+_, _≤_, _<_}
+use native.Mathlib.Decide.{ℕ-discrete}
+use native.Mathlib.Numerals.{add-one}
+use native.Mathlib.Omega.{arith}
+use borrow.Author.Tests.{eq-eqb, eqb-true, leb-true, ne-eqb, not-false, not-true}
+use lib.Dec.{eqb, leb}
+use lib.ListN.{length, getD, set, length-set}
+use lib.Seq.{getD-set-same, getD-set-other}
+use Rattle.fields.specs.Elements.{xor, powersA, exponentsA}
+use Rattle.fields.proofs.Instances.{field-a}
+use Rattle.fields.proofs.Lists.{tabulate-is, tabulate-same}
+use Rattle.fields.proofs.Xor.{xor-assoc, xor-zero-r}
+use Rattle.words.specs.Places.{at, allBelow}
+use Rattle.words.specs.Answers.{refusal, within, found, corrected, outerCorrected}
+use Rattle.words.specs.ByTables.{rootValues}
+use Rattle.words.specs.Decoder.{Tables, xorTo, errorAt, Decoded, weightOf, withError, withErrors}
+use Rattle.words.proofs.Algebra.Tables.{powers-length}
+use Rattle.words.proofs.Decoding.Changes.{errors-length, errors-at}
+use Rattle.words.proofs.Decoding.Outer.{tables-a, outer-changes, outer-found, outer-lost}
+use Rattle.words.proofs.Steps.Entries.{passed}
+
+-- v is added to the symbol at place i
+module _ (out : List ℕ) (i v : ℕ) where
+  pub added-here : (r : ℕ) → i < length out → r ≡ xor (getD out i 0) v → set out i r ≡ withError out i v
+  unfolding withError
+  added-here r b e = tabulate-is (length out) _ (set out i r) 0 (length-set out i r) (λ l h. go l (ℕ-discrete l i))
+    where
+      go : (l : ℕ) → Dec (l ≡ i) → getD (set out i r) l 0 ≡ xor (getD out l 0) (cond (eqb i l) v 0)
+      go l (yes q) = rw (q, eq-eqb i i refl) (getD-set-same out i r 0 b ∙ e)
+      go l (no q) = rw (ne-eqb i l (λ h. q (sym h)), xor-zero-r) (getD-set-other out i l r 0 q)
+
+  pub added-past : length out ≤ i → out ≡ withError out i v
+  unfolding withError
+  added-past b = tabulate-is (length out) _ out 0 refl (λ l h. rw (ne-eqb i l (λ q. omega arith), xor-zero-r))
+
+-- the word with the first k errors added
+unfoldable pub errorsAdded : List ℕ → List ℕ → List ℕ → ℕ → List ℕ
+errorsAdded w places values k = withErrors (at w) places values k (length w)
+
+module _ (w places values out : List ℕ) where
+  pub errors-start : out ≡ w → out ≡ errorsAdded w places values 0
+  unfolding errorsAdded withErrors errorAt xorTo
+  errors-start e = e ∙ tabulate-is (length w) _ w 0 refl (λ i l. sym (xor-zero-r (at w i)))
+
+  module _ (k : ℕ) (so-far : out ≡ errorsAdded w places values k) where
+    long : length out ≡ length w
+    unfolding errorsAdded
+    long = ap length so-far ∙ errors-length places values (length w) k (at w)
+
+    -- the buffer keeps its length
+    pub errors-fit : (buffer : List ℕ) → length buffer ≡ length w → length out ≡ length buffer
+    errors-fit buffer e = long ∙ sym e
+
+    pub errors-next : (next : List ℕ) → next ≡ withError out (getD places k 0) (getD values k 0) → next ≡ errorsAdded w places values (k + 1)
+    unfolding errorsAdded withError withErrors errorAt xorTo
+    errors-next next e =
+        rw (add-one, ← long)
+        (e ∙ tabulate-same (length out) _ _ (λ i l. let added = cond (eqb (at places k) i) (at values k) 0 in
+        ap (λ (o : List ℕ). xor (at o i) added) so-far ∙ ap (λ (x : ℕ). xor x added) (errors-at places values (length w) k (at w) i (rw long at l)) ∙ xor-assoc (at w i) _ added))
+
+    pub errors-end : (n : ℕ) → k ≤ n → n ≤ k → out ≡ withErrors (at w) places values n (length w)
+    unfolding errorsAdded
+    errors-end n l h = let e : k ≡ n = omega arith in rw e at so-far
+
+-- ---- outer words
+
+pub tables-lent : (es ls : List ℕ) → es ≡ powersA → ls ≡ exponentsA → Tables es ls
+tables-lent es ls exp log = rw (exp, log) tables-a
+
+module _ (w o : List ℕ) (r : ℕ) (told : r ≡ refusal (within 17 1023 (length w)) (eqb (length o) (length w)) (allBelow 1024 w)) where
+  pub correct-outer-refused : (r ≡ 0 → ⊥) → _≡_ {A = ℕ × ℕ × List ℕ} (r, 0, o) (outerCorrected w o)
+  unfolding outerCorrected corrected
+  correct-outer-refused n = rw (← told, ne-eqb r 0 n)
+
+  module _ (none : r ≡ 0) where
+    word-short : length w ≤ 1023
+    unfolding within
+    word-short = leb-true _ 1023 (and-eq-true-iff (leb 17 (length w)) (leb (length w) 1023) .0 (passed _ _ _ (sym told ∙ none) .0) .1)
+
+    pub correct-outer-fits : length o ≡ length w
+    correct-outer-fits = eqb-true _ _ (passed _ _ _ (sym told ∙ none) .1)
+
+    symbols : allBelow 1024 w ≡ true
+    symbols = passed _ _ _ (sym told ∙ none) .2
+
+    pub word-small : length w < 65536
+    word-small = omega (arith, word-short)
+
+    module _ (es ls : List ℕ) (exp : es ≡ powersA) (log : ls ≡ exponentsA) where
+      pub word-fits : length w ≤ length es
+      word-fits = let l : length es ≡ 1023 = ap length exp ∙ powers-length 10 1033 field-a in omega (arith, word-short)
+
+      module _ (t : List ℕ) (v : t ≡ rootValues es ls w) (places values : List ℕ) (count : ℕ) (left : List ℕ) (D : Decoded es ls t (length w) places values count left)
+          (b : Bool) (test : b ≡ allBelow 1 left) where
+        D′ : Decoded powersA exponentsA (rootValues powersA exponentsA w) (length w) places values count left
+        D′ = rw (v, exp, log) at D
+
+        pub correct-outer-lost : length left ≡ 16 → not b ≡ true → _≡_ {A = ℕ × ℕ × List ℕ} (5, 0, o) (outerCorrected w o)
+        unfolding outerCorrected corrected found
+        correct-outer-lost long n = rw (← told, none, outer-lost w symbols places values count left D′ long (sym test ∙ not-true b n))
+
+        pub correct-outer-found : not b ≡ false → (out : List ℕ) → out ≡ withErrors (at w) places values count (length w) → (changed : ℕ) → changed ≡ weightOf values count →
+            _≡_ {A = ℕ × ℕ × List ℕ} (0, changed, out) (outerCorrected w o)
+        unfolding outerCorrected corrected found
+        correct-outer-found n out e changed c =
+            let zero : allBelow 1 left ≡ true = sym test ∙ not-false b n in
+            rw (← told, none, outer-found w symbols places values count left D′ zero word-short, outer-changes w symbols places values count left D′ zero, e, c)

@@ -1,0 +1,234 @@
+-- The search for the roots and the resolving of the errors: a law for each way through a function and for each step of a loop. Assumes nothing.
+use mathlib.Core.Path.{_≡_, refl, sym, ap, ap₂, _∙_}
+use mathlib.Core.Bool.{Bool, true, false, cond}
+use mathlib.Core.List.{List, _∷_}
+use Prim.Native.Nat.{ℕ, zero, suc, _+_, _-_, _≤_, _<_}
+use native.Mathlib.Decide.{ℕ-discrete, decLt}
+use native.Mathlib.Nat.{le-refl, not-suc-le-zero}
+use native.Mathlib.Numerals.{add-one}
+use native.Mathlib.Omega.{arith}
+use borrow.Author.Tests.{eq-eqb, ne-eqb, lt-ltb, le-ltb}
+use lib.Dec.{eqb, ltb}
+use lib.ListN.{length, getD, set, length-set}
+use lib.Seq.{getD-set-same, getD-set-other}
+use Rattle.fields.specs.Elements.{xor}
+use Rattle.fields.specs.ByTables.{tableProduct, tableInverse, tablePower}
+use Rattle.words.specs.declared.decoder.Errors.{Errors}
+use Rattle.words.specs.declared.decoder.Places.{Places}
+use Rattle.words.specs.Places.{at, sumTo, differs}
+use Rattle.words.specs.ByTables.{lentValue}
+use Rattle.words.specs.Decoder.{locator, timesPower, rootPlaces, backwards, kept, Roots, filtered, filteredBy, filterFactor, errorValue, lessError, resolved, weightOf}
+use Rattle.words.proofs.Places.Filling.{Filled, filled-next, filled-end}
+
+-- the locator of a place, and of a place past the end
+pub locator-inside : (es : List ℕ) (n i r : ℕ) → i < n → r ≡ tablePower es (n - 1 - i) → r ≡ locator es n i
+unfolding locator
+locator-inside es n i r h e = let q : n - 1 - i ≡ n - suc i = omega arith in rw (← q) e
+
+pub locator-past : (es : List ℕ) (n i r : ℕ) → n ≤ i → r ≡ tablePower es 0 → r ≡ locator es n i
+unfolding locator
+locator-past es n i r h e = let q : n - suc i ≡ 0 = omega arith in rw q e
+
+-- ---- the roots
+
+module _ (i value : ℕ) (p : Places) where
+  pub kept-other : (value ≡ 0 → ⊥) → p ≡ kept i value p
+  unfolding kept
+  kept-other n = rw (ne-eqb value 0 n)
+
+  module _ (root : value ≡ 0) where
+    pub kept-full : 8 ≤ p .count → p ≡ kept i value p
+    unfolding kept
+    kept-full h = rw (eq-eqb value 0 root, le-ltb (p .count) 8 h)
+
+    pub kept-new : p .count < 8 → record { at = set (p .at) (p .count) i; count = p .count + 1 } ≡ kept i value p
+    unfolding kept
+    kept-new h = rw (eq-eqb value 0 root, lt-ltb (p .count) 8 h)
+
+-- the first k entries, backwards: how many, and what a later one that is stored changes in them
+backwards-length : (l : List ℕ) (k : ℕ) → length (backwards l k) ≡ k
+unfolding backwards
+backwards-length l zero = refl
+backwards-length l (suc k) = ap suc (backwards-length l k)
+
+backwards-set : (l : List ℕ) (c i k : ℕ) → k ≤ c → backwards (set l c i) k ≡ backwards l k
+unfolding backwards
+backwards-set l c i zero h = refl
+backwards-set l c i (suc k) h = ap₂ (λ (a : ℕ) (r : List ℕ). a ∷ r) (getD-set-other l c k i 0 (λ e. omega arith)) (backwards-set l c i k (omega arith))
+
+pub kept-long : (i value : ℕ) (p q : Places) → length (p .at) ≡ 8 → q ≡ kept i value p → length (q .at) ≡ 8
+unfolding kept
+kept-long i value p q long e = rw e (go (eqb value 0) (ltb (p .count) 8))
+  where
+    go : (b c : Bool) → length (cond b (cond c (record { at = set (p .at) (p .count) i; count = p .count + 1 }) p) p .at) ≡ 8
+    go false c = long
+    go true false = long
+    go true true = length-set (p .at) (p .count) i ∙ long
+
+pub roots-none : (es ls v : List ℕ) (n : ℕ) (places : List ℕ) → Roots es ls v n 0 places 0
+unfolding backwards rootPlaces
+roots-none es ls v n places =
+    record { few = omega arith; below = λ k h. absurd (not-suc-le-zero h); ascending = λ k l h b. absurd (not-suc-le-zero b); all = λ h. refl }
+
+module _ (es ls v : List ℕ) (n i : ℕ) (p : Places) (so-far : Roots es ls v n i (p .at) (p .count)) where
+  -- nothing is kept, and the roots are the same unless there are more than eight
+  stays : (length (rootPlaces es ls v n (suc i)) ≤ 8 → rootPlaces es ls v n (suc i) ≡ rootPlaces es ls v n i) → Roots es ls v n (suc i) (p .at) (p .count)
+  stays h =
+      record {
+        few = so-far .few;
+        below = λ k b. omega (arith, so-far .below k b);
+        ascending = so-far .ascending;
+        all = λ l. let e = h l in so-far .all (rw e at l) ∙ sym e;
+      }
+
+  -- place i is kept
+  grows : length (p .at) ≡ 8 → p .count < 8 → rootPlaces es ls v n (suc i) ≡ i ∷ rootPlaces es ls v n i →
+      Roots es ls v n (suc i) (set (p .at) (p .count) i) (p .count + 1)
+  unfolding backwards
+  grows long room e =
+      record {
+        few = omega arith;
+        below = λ k h. below′ k h (decLt k (p .count));
+        ascending = λ k l h b. ascending′ k l h b (decLt l (p .count));
+        all = λ h. rw (add-one, last, backwards-set (p .at) (p .count) i (p .count) (le-refl (p .count)), e)
+            (ap (λ (r : List ℕ). i ∷ r) (so-far .all (omega (arith, rw e at h))));
+      }
+    where
+      places : List ℕ
+      places = set (p .at) (p .count) i
+
+      before : (k : ℕ) → k < p .count → at places k ≡ at (p .at) k
+      before k h = getD-set-other (p .at) (p .count) k i 0 (λ q. omega arith)
+
+      last : at places (p .count) ≡ i
+      last = getD-set-same (p .at) (p .count) i 0 (omega arith)
+
+      after : (k : ℕ) → k < p .count + 1 → ¬ (k < p .count) → at places k ≡ i
+      after k h g = let q : k ≡ p .count = omega arith in rw q last
+
+      below′ : (k : ℕ) → k < p .count + 1 → Dec (k < p .count) → at places k < suc i
+      below′ k h (yes b) = rw (before k b) (omega (arith, so-far .below k b))
+      below′ k h (no b) = rw (after k h b) (le-refl (suc i))
+
+      ascending′ : (k l : ℕ) → k < l → l < p .count + 1 → Dec (l < p .count) → at places k < at places l
+      ascending′ k l h b (yes y) = rw (before k (omega arith), before l y) (so-far .ascending k l h y)
+      ascending′ k l h b (no y) = rw (before k (omega arith), after l b y) (so-far .below k (omega arith))
+
+  pub roots-next : length (p .at) ≡ 8 → (x value : ℕ) (q : Places) → x ≡ locator es n i → value ≡ lentValue es ls v x → q ≡ kept i value p →
+      Roots es ls v n (i + 1) (q .at) (q .count)
+  unfolding rootPlaces
+  roots-next long x value q ex ev eq = rw (add-one, eq) (go (ℕ-discrete value 0) (decLt (p .count) 8))
+    where
+      tested : value ≡ lentValue es ls v (locator es n i)
+      tested = rw ex at ev
+
+      go : Dec (value ≡ 0) → Dec (p .count < 8) → Roots es ls v n (suc i) (kept i value p .at) (kept i value p .count)
+      go (no z) d = rw (← kept-other i value p z) (stays (λ h. rw (← tested, ne-eqb value 0 z)))
+      go (yes z) (yes room) = rw (← kept-new i value p z room) (grows long room (rw (← tested, eq-eqb value 0 z)))
+      go (yes z) (no full) =
+          rw (← kept-full i value p z (omega arith)) (stays (λ h. absurd (
+          let b : suc (length (rootPlaces es ls v n i)) ≤ 8 = rw (← tested, eq-eqb value 0 z) at h in
+          omega (arith, backwards-length (p .at) (p .count), ap length (so-far .all (omega arith))))))
+
+pub roots-end : (es ls v : List ℕ) (n i : ℕ) (p : Places) → Roots es ls v n i (p .at) (p .count) → i ≤ n → n ≤ i → Roots es ls v n n (p .at) (p .count)
+roots-end es ls v n i p h lo hi = let e : i ≡ n = omega arith in rw e at h
+
+-- ---- the values
+
+-- entry j of a sequence with the powers of x filtered out
+unfoldable pub filteredEntry : List ℕ → List ℕ → ℕ → List ℕ → ℕ → ℕ
+filteredEntry es ls x t j = xor (at t (suc j)) (tableProduct es ls x (at t j))
+
+module _ (es ls : List ℕ) (x : ℕ) (t s : List ℕ) (j : ℕ) (so-far : Filled 16 (filteredEntry es ls x t) j s) where
+  pub filtered-next : (a b r : ℕ) → j < 16 → a ≡ at t (j + 1) → b ≡ tableProduct es ls x (getD t j 0) → r ≡ xor a b →
+      Filled 16 (filteredEntry es ls x t) (j + 1) (set s j r)
+  unfolding filteredEntry
+  filtered-next a b r l ea eb er = filled-next so-far l (er ∙ ap₂ xor (ea ∙ ap (at t) (add-one j)) eb)
+
+  pub filtered-end : 16 ≤ j → s ≡ filtered es ls x t
+  unfolding filtered filteredEntry
+  filtered-end l = filled-end so-far l
+
+pub factor-made : (es ls : List ℕ) (f x y s r : ℕ) → s ≡ xor x y → r ≡ tableProduct es ls f s → r ≡ tableProduct es ls f (xor x y)
+factor-made es ls f x y s r e er = rw e at er
+
+-- the locators of the first i places are filtered out, and the factor of x is known
+module _ (es ls : List ℕ) (n : ℕ) (places t : List ℕ) where
+  pub filter-none : t ≡ filteredBy es ls n places t 0
+  unfolding filteredBy
+  filter-none = refl
+
+  pub filter-next : (i : ℕ) (s : List ℕ) → s ≡ filteredBy es ls n places t i → (y : ℕ) (r : List ℕ) → y ≡ locator es n (getD places i 0) → r ≡ filtered es ls y s →
+      r ≡ filteredBy es ls n places t (i + 1)
+  unfolding filteredBy
+  filter-next i s e y r ey er = rw (add-one, ← e, ← ey) er
+
+module _ (es ls : List ℕ) (n : ℕ) (places : List ℕ) (x : ℕ) where
+  pub factor-none : 1 ≡ filterFactor es ls n places x 0
+  unfolding filterFactor
+  factor-none = refl
+
+  pub factor-next : (i f : ℕ) → f ≡ filterFactor es ls n places x i → (y r : ℕ) → y ≡ locator es n (getD places i 0) → r ≡ tableProduct es ls f (xor x y) →
+      r ≡ filterFactor es ls n places x (i + 1)
+  unfolding filterFactor
+  factor-next i f e y r ey er = rw (add-one, ← e, ← ey) er
+
+pub value-found : (es ls : List ℕ) (n : ℕ) (places t : List ℕ) (k i x : ℕ) (s : List ℕ) (f g r : ℕ) → i ≤ k → k ≤ i → x ≡ locator es n (getD places k 0) →
+    s ≡ filteredBy es ls n places t i → f ≡ filterFactor es ls n places x i → g ≡ tableInverse es ls f → r ≡ tableProduct es ls (getD s 0 0) g →
+    r ≡ errorValue es ls n places t k
+unfolding errorValue
+value-found es ls n places t k i x s f g r lo hi ex es′ ef eg er =
+    let q : i ≡ k = omega arith in
+    er ∙ ap₂ (tableProduct es ls) (ap (λ (u : List ℕ). at u 0) (rw q at es′)) (eg ∙ ap (tableInverse es ls) (rw (q, ex) at ef))
+
+-- entry j of the syndromes with those of the error v at the locator x taken away
+unfoldable pub lessEntry : List ℕ → List ℕ → ℕ → ℕ → List ℕ → ℕ → ℕ
+lessEntry es ls x v t j = xor (at t j) (timesPower (tableProduct es ls) x v j)
+
+pub power-none : (es ls : List ℕ) (x v : ℕ) → v ≡ timesPower (tableProduct es ls) x v 0
+unfolding timesPower
+power-none es ls x v = refl
+
+pub power-next : (es ls : List ℕ) (x v c j r : ℕ) → c ≡ timesPower (tableProduct es ls) x v j → r ≡ tableProduct es ls x c →
+    r ≡ timesPower (tableProduct es ls) x v (j + 1)
+unfolding timesPower
+power-next es ls x v c j r e er = rw (add-one, ← e) er
+
+module _ (es ls : List ℕ) (x v : ℕ) (t s : List ℕ) (j : ℕ) (so-far : Filled 16 (lessEntry es ls x v t) j s) where
+  pub less-next : (c r : ℕ) → j < 16 → c ≡ timesPower (tableProduct es ls) x v j → r ≡ xor (getD t j 0) c →
+      Filled 16 (lessEntry es ls x v t) (j + 1) (set s j r)
+  unfolding lessEntry
+  less-next c r l ec er = filled-next so-far l (rw ec at er)
+
+  pub less-end : 16 ≤ j → s ≡ lessError es ls x v t
+  unfolding lessError lessEntry
+  less-end l = filled-end so-far l
+
+pub resolved-made : (es ls : List ℕ) (n k : ℕ) (e : Errors) (v x : ℕ) (left : List ℕ) → v ≡ errorValue es ls n (e .places .at) (e .left) k →
+    x ≡ locator es n (getD (e .places .at) k 0) → left ≡ lessError es ls x v (e .left) →
+    record { places = e .places; values = set (e .values) k v; left = left } ≡ resolved es ls n k e
+unfolding resolved
+resolved-made es ls n k e v x left ev ex el = rw (el, ex, ev)
+
+-- ---- the weight
+
+pub changes-not : (v : ℕ) → v ≡ 0 → 0 ≡ differs v 0
+unfolding differs
+changes-not v e = rw (eq-eqb v 0 e)
+
+pub changes-so : (v : ℕ) → (v ≡ 0 → ⊥) → 1 ≡ differs v 0
+unfolding differs
+changes-so v n = rw (ne-eqb v 0 n)
+
+module _ (values : List ℕ) where
+  pub weight-none : 0 ≡ weightOf values 0
+  unfolding weightOf sumTo
+  weight-none = refl
+
+  module _ (k n : ℕ) (so-far : n ≡ weightOf values k) where
+    pub weight-next : (r : ℕ) → r ≡ differs (getD values k 0) 0 → n + r ≡ weightOf values (k + 1)
+    unfolding weightOf sumTo
+    weight-next r e = rw (add-one, ← so-far, e)
+
+    pub weight-end : (count : ℕ) → k ≤ count → count ≤ k → n ≡ weightOf values count
+    weight-end count l h = let e : k ≡ count = omega arith in rw e at so-far

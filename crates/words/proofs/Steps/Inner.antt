@@ -1,0 +1,229 @@
+-- The ways through the functions that decode an inner word, and a step of each of their loops. Assumes nothing.
+use mathlib.Core.Path.{_≡_, refl, sym, ap, _∙_}
+use mathlib.Core.Bool.{Bool, true, false, not, cond}
+use mathlib.Core.List.{List}
+use Prim.Native.Nat.{ℕ, suc, _+_, _-_, _*_, _/_, _%_, _^_, _≤_, _<_}
+use native.Mathlib.Decide.{ℕ-discrete}
+use native.Mathlib.Nat.{not-suc-le-zero}
+use native.Mathlib.Numerals.{add-one}
+use native.Mathlib.Omega.{arith}
+use borrow.Author.Tests.{eq-eqb, ne-eqb, eqb-true, not-true, not-false}
+use lib.Bits.{bitXor}
+use lib.Dec.{eqb}
+use lib.ListN.{length, getD, set, length-set}
+use lib.Pow.{field, mod-mod-pow, shr-shr}
+use lib.Seq.{getD-set-same, getD-set-other}
+use Rattle.fields.specs.Elements.{xor, powersB, exponentsB}
+use Rattle.fields.specs.ByTables.{tableProduct, tablePower}
+use Rattle.fields.specs.Lists.{tabulate}
+use Rattle.fields.proofs.Instances.{field-b}
+use Rattle.fields.proofs.Lists.{tabulate-at, tabulate-same}
+use Rattle.fields.proofs.Xor.{xor-zero-r, xor-assoc, xor-high, xor-bit}
+use Rattle.words.specs.Places.{at, every, allBelow, bitOf, bitAt, bitsOf, horner, differs}
+use Rattle.words.specs.InnerCode.{divisor, remainder}
+use Rattle.words.specs.Limbs.{number, Holds}
+use Rattle.words.specs.Decoder.{Tables, locator, xorTo, errorAt, Decoded, withErrors}
+use Rattle.words.specs.InnerDecoding.{polynomialValue, Syndromes, isBit, isBinary, flips, InnerErrors, explains}
+use Rattle.words.proofs.Places.Tests.{every-at, every-false}
+use Rattle.words.proofs.Algebra.Tables.{powers-length}
+use Rattle.words.proofs.Decoding.InnerSyndromes.{tables-b}
+
+-- coefficient k of 88, the highest first: where it is one of the 48 low ones, and where it is not
+module _ (h l k : ℕ) (split : l < 2 ^ 48) (bound : k < 88) where
+  pub coefficient-low : 88 - 1 - k < 48 → l / 2 ^ (88 - 1 - k) % 2 ≡ bitOf 88 (number h l) k
+  unfolding number bitOf
+  coefficient-low low =
+      let x = h * 2 ^ 48 + l in
+      let e = 88 - 1 - k in
+      let n = 47 - e in
+      let sum : n + 1 + e ≡ 48 = omega arith in
+      let u : x % 2 ^ 48 ≡ l = omega arith in
+      let part : x % 2 ^ (n + 1 + e) / 2 ^ e ≡ x / 2 ^ e % 2 ^ (n + 1) = field x (n + 1) e in
+      let same : e ≡ 88 - suc k = omega arith in
+      ap (λ (z : ℕ). z / 2 ^ e % 2) (sym u ∙ ap (λ (z : ℕ). x % 2 ^ z) (sym sum)) ∙ ap (λ (z : ℕ). z % 2) part
+      ∙ mod-mod-pow (x / 2 ^ e) n 1 ∙ ap (λ (z : ℕ). x / 2 ^ z % 2) same
+
+  pub coefficient-high : 48 ≤ 88 - 1 - k → h / 2 ^ (88 - 1 - k - 48) % 2 ≡ bitOf 88 (number h l) k
+  unfolding number bitOf
+  coefficient-high high =
+      let x = h * 2 ^ 48 + l in
+      let e = 88 - 1 - k - 48 in
+      let same : 48 + e ≡ 88 - suc k = omega arith in
+      let u : x / 2 ^ 48 ≡ h = omega arith in
+      ap (λ (z : ℕ). z / 2 ^ e % 2) (sym u) ∙ ap (λ (z : ℕ). z % 2) (shr-shr x 48 e ∙ ap (λ (z : ℕ). x / 2 ^ z) same)
+
+-- the value of the first k coefficients of the polynomial r, by Horner's rule over a lent field
+unfoldable pub polynomialUpTo : List ℕ → List ℕ → ℕ → ℕ → ℕ → ℕ
+polynomialUpTo es ls r x k = horner (λ v. tableProduct es ls v x) (bitOf 88 r) k
+
+module _ (es ls : List ℕ) (r x : ℕ) where
+  pub polynomial-none : 0 ≡ polynomialUpTo es ls r x 0
+  unfolding polynomialUpTo horner
+  polynomial-none = refl
+
+  module _ (k y : ℕ) (so-far : y ≡ polynomialUpTo es ls r x k) where
+    pub polynomial-next : (m c s : ℕ) → m ≡ tableProduct es ls y x → c ≡ bitOf 88 r k → s ≡ xor m c → s ≡ polynomialUpTo es ls r x (k + 1)
+    unfolding polynomialUpTo horner
+    polynomial-next m c s em ec es = rw (add-one, ← so-far, ← em, ← ec) es
+
+    pub polynomial-end : k ≤ 88 → 88 ≤ k → y ≡ polynomialValue es ls r x
+    unfolding polynomialUpTo polynomialValue
+    polynomial-end l h = let e : k ≡ 88 = omega arith in rw e at so-far
+
+-- the syndromes at a^(2i+1) and a^(2i+2), stored
+pub syndromes-none : (es ls : List ℕ) (r : ℕ) (t : List ℕ) → length t ≡ 16 → Syndromes es ls r 0 t
+syndromes-none es ls r t e = record { long = e; odd = λ j h. absurd (not-suc-le-zero h); even = λ j h. absurd (not-suc-le-zero h) }
+
+pub syndromes-next : (es ls : List ℕ) (r i : ℕ) (t : List ℕ) → Syndromes es ls r i t → i < 8 → (x y z : ℕ) → x ≡ tablePower es (2 * i + 1) → y ≡ polynomialValue es ls r x →
+    z ≡ tableProduct es ls (getD (set t (2 * i) y) i 0) (getD (set t (2 * i) y) i 0) → Syndromes es ls r (i + 1) (set (set t (2 * i) y) (2 * i + 1) z)
+syndromes-next es ls r i t so-far l x y z ex ey ez =
+    record { long = length-set u (2 * i + 1) z ∙ same-length; odd = λ j h. odd j (ℕ-discrete j i) h; even = λ j h. even j (ℕ-discrete j i) h }
+  where
+    u : List ℕ
+    u = set t (2 * i) y
+
+    same-length : length u ≡ 16
+    same-length = length-set t (2 * i) y ∙ so-far .long
+
+    stored : (j : ℕ) → ¬ (j ≡ 2 * i + 1) → getD (set u (2 * i + 1) z) j 0 ≡ getD u j 0
+    stored j n = getD-set-other u (2 * i + 1) j z 0 n
+
+    kept : (j : ℕ) → ¬ (j ≡ 2 * i) → ¬ (j ≡ 2 * i + 1) → getD (set u (2 * i + 1) z) j 0 ≡ getD t j 0
+    kept j m n = stored j n ∙ getD-set-other t (2 * i) j y 0 m
+
+    odd : (j : ℕ) → Dec (j ≡ i) → j < i + 1 → getD (set u (2 * i + 1) z) (2 * j) 0 ≡ polynomialValue es ls r (tablePower es (2 * j + 1))
+    odd j (yes e) h = rw e (stored (2 * i) (λ q. omega arith) ∙ getD-set-same t (2 * i) y 0 (omega (arith, so-far .long)) ∙ ey ∙ ap (polynomialValue es ls r) ex)
+    odd j (no n) h = kept (2 * j) (λ q. omega arith) (λ q. omega arith) ∙ so-far .odd j (omega arith)
+
+    even : (j : ℕ) → Dec (j ≡ i) → j < i + 1 →
+        getD (set u (2 * i + 1) z) (2 * j + 1) 0 ≡ tableProduct es ls (getD (set u (2 * i + 1) z) j 0) (getD (set u (2 * i + 1) z) j 0)
+    even j (yes e) h = rw (e, stored i (λ q. omega arith)) (getD-set-same u (2 * i + 1) z 0 (omega (arith, same-length)) ∙ ez)
+    even j (no n) h = rw (kept j (λ q. omega arith) (λ q. omega arith)) (kept (2 * j + 1) (λ q. omega arith) (λ q. omega arith) ∙ so-far .even j (omega arith))
+
+pub syndromes-end : (es ls : List ℕ) (r i : ℕ) (t : List ℕ) → Syndromes es ls r i t → i ≤ 8 → 8 ≤ i → Syndromes es ls r 8 t
+syndromes-end es ls r i t so-far l h = let e : i ≡ 8 = omega arith in rw e at so-far
+
+-- an error's value tested
+module _ (value x : ℕ) where
+  pub bit-none : value ≡ 0 → true ≡ isBit value x
+  unfolding isBit
+  bit-none e = rw (eq-eqb value 0 e)
+
+  pub bit-some : (value ≡ 0 → ⊥) → eqb value x ≡ isBit value x
+  unfolding isBit
+  bit-some n = rw (ne-eqb value 0 n)
+
+-- the first k of the errors' values are those of wrong places
+unfoldable pub binaryUpTo : List ℕ → List ℕ → List ℕ → ℕ → Bool
+binaryUpTo es places values k = isBinary es places values k
+
+pub binary-none : (es places values : List ℕ) → binaryUpTo es places values 0 ≡ true
+unfolding binaryUpTo isBinary every
+binary-none es places values = refl
+
+module _ (es places values : List ℕ) (n k x : ℕ) (ex : x ≡ locator es 2040 (getD places k 0)) (t : Bool) (et : t ≡ isBit (getD values k 0) x) where
+  pub binary-not : k < n → not t ≡ true → false ≡ isBinary es places values n
+  unfolding isBinary
+  binary-not h e = sym (every-false n (λ l. isBit (at values l) (locator es 2040 (at places l))) k h (ap (isBit (getD values k 0)) (sym ex) ∙ sym et ∙ not-true t e))
+
+  pub binary-next : binaryUpTo es places values k ≡ true → not t ≡ false → binaryUpTo es places values (k + 1) ≡ true
+  unfolding binaryUpTo isBinary every
+  binary-next so-far e = rw (add-one, so-far, ← ex, ← et) (not-false t e)
+
+pub binary-end : (es places values : List ℕ) (n k : ℕ) → binaryUpTo es places values k ≡ true → k ≤ n → n ≤ k → true ≡ isBinary es places values n
+unfolding binaryUpTo
+binary-end es places values n k so-far l h = let e : k ≡ n = omega arith in sym (rw e at so-far)
+
+-- the errors of a word
+module _ (es ls : List ℕ) (exp : es ≡ powersB) (log : ls ≡ exponentsB) where
+  pub tables-lent : Tables es ls
+  tables-lent = rw (exp, log) tables-b
+
+  pub places-fit : 2040 ≤ length es
+  places-fit = rw (exp, powers-length 11 2053 field-b) (omega arith)
+
+  pub errors-are : (w : List ℕ) (h l : ℕ) (t places values : List ℕ) (count : ℕ) (left : List ℕ) → Holds h l (remainder 88 divisor (bitAt w) 2040) → Syndromes es ls (number h l) 8 t →
+      Decoded es ls t 2040 places values count left → length left ≡ 16 → InnerErrors w places values count left
+  errors-are w h l t places values count left r S D n =
+      record { t = t; syndromes = rw (exp, log, r .value) at S; decoded = rw (exp, log) at D; left-long = n }
+
+module _ (es places values : List ℕ) (count : ℕ) (left : List ℕ) (t : Bool) (tested : t ≡ allBelow 1 left) where
+  pub explains-rest : t ≡ true → (b : Bool) → b ≡ isBinary es places values count → b ≡ explains es places values count left
+  unfolding explains
+  explains-rest e b q = rw (← tested, e) q
+
+  pub explains-not : t ≡ false → false ≡ explains es places values count left
+  unfolding explains
+  explains-not e = rw (← tested, e)
+
+-- a place inverted
+bits-sum : (n x y j : ℕ) → bitOf n (xor x y) j ≡ xor (bitOf n x j) (bitOf n y j)
+unfolding bitOf
+bits-sum n x y j = rw (xor-high, xor-bit)
+
+-- the byte with a 1 at place a
+one-place : every 8 (λ a. every 8 (λ b. eqb (bitOf 8 (128 / 2 ^ a) b) (cond (eqb a b) 1 0))) ≡ true
+unfolding every bitOf
+one-place = refl
+
+place-one : (a b : ℕ) → a < 8 → b < 8 → bitOf 8 (128 / 2 ^ a) b ≡ cond (eqb a b) 1 0
+place-one a b ha hb =
+    eqb-true _ _ (every-at 8 (λ b. eqb (bitOf 8 (128 / 2 ^ a) b) (cond (eqb a b) 1 0)) (every-at 8 (λ a. every 8 (λ b. eqb (bitOf 8 (128 / 2 ^ a) b) (cond (eqb a b) 1 0))) one-place a ha) b hb)
+
+none-flipped : (t : Bool) (x : ℕ) → x ≡ xor x (cond t 0 0)
+none-flipped true x = sym (xor-zero-r x)
+none-flipped false x = sym (xor-zero-r x)
+
+module _ (out : List ℕ) (i value : ℕ) where
+  pub flip-none : value ≡ 0 → (l : ℕ) → l < 8 * length out → bitAt out l ≡ xor (bitAt out l) (cond (eqb i l) (differs value 0) 0)
+  unfolding differs
+  flip-none e l h = rw (eq-eqb value 0 e) (none-flipped (eqb i l) (bitAt out l))
+
+  module _ (some : value ≡ 0 → ⊥) where
+    pub flip-past : length out ≤ i / 8 → (l : ℕ) → l < 8 * length out → bitAt out l ≡ xor (bitAt out l) (cond (eqb i l) (differs value 0) 0)
+    flip-past p l h = rw (ne-eqb i l (λ e. omega arith)) (sym (xor-zero-r (bitAt out l)))
+
+    pub flip-one : i / 8 < length out → (l : ℕ) → l < 8 * length out →
+        bitAt (set out (i / 8) (bitXor (getD out (i / 8) 0) (128 / 2 ^ (i % 8)))) l ≡ xor (bitAt out l) (cond (eqb i l) (differs value 0) 0)
+    unfolding bitAt differs xor
+    flip-one p l h = rw (ne-eqb value 0 some) (go (ℕ-discrete (l / 8) (i / 8)))
+      where
+        v : ℕ
+        v = bitXor (getD out (i / 8) 0) (128 / 2 ^ (i % 8))
+
+        within : l / 8 ≡ i / 8 → Dec (i % 8 ≡ l % 8) → _≡_ {A = ℕ} (cond (eqb (i % 8) (l % 8)) 1 0) (cond (eqb i l) 1 0)
+        within e (yes q) = rw (eq-eqb _ _ q, eq-eqb i l (omega arith))
+        within e (no n) = rw (ne-eqb _ _ n, ne-eqb i l (λ q. n (ap (λ (z : ℕ). z % 8) q)))
+
+        go : Dec (l / 8 ≡ i / 8) → bitOf 8 (getD (set out (i / 8) v) (l / 8) 0) (l % 8) ≡ xor (bitOf 8 (getD out (l / 8) 0) (l % 8)) (cond (eqb i l) 1 0)
+        go (yes e) =
+            rw (e, getD-set-same out (i / 8) v 0 p)
+            (bits-sum 8 (getD out (i / 8) 0) (128 / 2 ^ (i % 8)) (l % 8)
+            ∙ ap (xor (bitOf 8 (getD out (i / 8) 0) (l % 8))) (place-one (i % 8) (l % 8) (omega arith) (omega arith) ∙ within e (ℕ-discrete (i % 8) (l % 8))))
+        go (no n) = rw (getD-set-other out (i / 8) (l / 8) v 0 n, ne-eqb i l (λ e. n (omega arith))) (sym (xor-zero-r _))
+
+-- the bytes of the word w with the first k of the errors added
+pub record Flipped (w places values : List ℕ) (k : ℕ) (out : List ℕ) : Type 0 where
+  pub long : length out ≡ length w
+  pub places-are : (l : ℕ) → l < 8 * length w → bitAt out l ≡ xor (bitAt w l) (errorAt places (flips values) k l)
+
+module _ (w places values out : List ℕ) where
+  pub flipped-none : out ≡ w → Flipped w places values 0 out
+  unfolding errorAt xorTo
+  flipped-none e = record { long = ap length e; places-are = λ l h. ap (λ (x : List ℕ). bitAt x l) e ∙ sym (xor-zero-r (bitAt w l)) }
+
+  module _ (k n : ℕ) (so-far : Flipped w places values k out) where
+    pub flipped-next : k < n → n ≤ 8 → (next : List ℕ) → length next ≡ length out →
+        ((l : ℕ) → l < 8 * length out → bitAt next l ≡ xor (bitAt out l) (cond (eqb (getD places k 0) l) (differs (getD values k 0) 0) 0)) → Flipped w places values (k + 1) next
+    unfolding errorAt xorTo flips
+    flipped-next h m next same one =
+        let value : getD (tabulate 8 (λ k. differs (at values k) 0)) k 0 ≡ differs (getD values k 0) 0 = tabulate-at 8 (λ k. differs (at values k) 0) k 0 (omega arith) in
+        record {
+          long = same ∙ so-far .long;
+          places-are = λ l b. one l (rw (so-far .long) b) ∙ ap (λ (x : ℕ). xor x (cond (eqb (getD places k 0) l) (differs (getD values k 0) 0) 0)) (so-far .places-are l b)
+              ∙ xor-assoc _ _ _ ∙ rw (add-one, value);
+        }
+
+    pub flipped-end : k ≤ n → n ≤ k → bitsOf out ≡ withErrors (bitAt w) places (flips values) n (8 * length w)
+    unfolding bitsOf withErrors
+    flipped-end l h = let e : k ≡ n = omega arith in rw (← e, so-far .long) (tabulate-same (8 * length w) (bitAt out) _ (so-far .places-are))

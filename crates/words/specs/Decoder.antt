@@ -1,0 +1,168 @@
+-- What the decoder gives, over a field that is lent as its two tables: es the powers, ls the exponents. One decoder serves all codes.
+use mathlib.Core.Path.{_≡_}
+use mathlib.Core.Bool.{cond}
+use mathlib.Core.List.{List, [], _∷_}
+use Prim.Native.Nat.{ℕ, zero, suc, _+_, _-_, _≤_, _<_}
+use lib.Dec.{eqb, ltb}
+use lib.ListN.{length, getD, set}
+use Rattle.fields.specs.Lists.{tabulate}
+use Rattle.fields.specs.Elements.{xor}
+use Rattle.fields.specs.ByTables.{tableProduct, tableInverse, tablePower, Lent}
+use Rattle.words.specs.declared.decoder.Errors.{Errors}
+use Rattle.words.specs.declared.decoder.Places.{Places}
+use Rattle.words.specs.declared.decoder.Row.{Row}
+use Rattle.words.specs.Places.{at, sumTo, differs}
+use Rattle.words.specs.ByTables.{lentValue}
+
+-- the two lists are the tables of some field
+abbrev pub Tables : List ℕ → List ℕ → Type 0
+Tables es ls = (m : ℕ) × (p : ℕ) × Lent m p es ls
+
+-- the locator of place i of a word of n places: a^(n - 1 - i)
+unfoldable pub locator : List ℕ → ℕ → ℕ → ℕ
+locator es n i = tablePower es (n - suc i)
+
+-- f 0 + f 1 + .. + f (n - 1) in the field
+unfoldable pub xorTo : ℕ → (ℕ → ℕ) → ℕ
+xorTo zero f = 0
+xorTo (suc n) f = xor (xorTo n f) (f n)
+
+-- c times the j-th power of x
+unfoldable pub timesPower : (ℕ → ℕ → ℕ) → ℕ → ℕ → ℕ → ℕ
+timesPower mul x c zero = c
+timesPower mul x c (suc j) = mul x (timesPower mul x c j)
+
+-- the j-th syndrome of the errors e in a word of n places: the sum over all places of e times the j-th power of the locator
+unfoldable pub syndrome : List ℕ → List ℕ → ℕ → (ℕ → ℕ) → ℕ → ℕ
+syndrome es ls n e j = xorTo n (λ i. timesPower (tableProduct es ls) (locator es n i) (e i) j)
+
+-- ---- the locator polynomial
+
+-- the polynomial with the coefficients b 0, .. b (n - 1), highest power first, applied to the sequence s: x^k stands for s k
+unfoldable pub applied : (ℕ → ℕ → ℕ) → (ℕ → ℕ) → ℕ → (ℕ → ℕ) → ℕ
+applied mul b zero s = 0
+applied mul b (suc n) s = xor (applied mul b n (λ k. s (suc k))) (mul (b n) (s 0))
+
+-- v is a polynomial of degree at most 8, not zero, that annihilates the syndromes t: applied to t from j on it gives 0, for eight j
+pub record Annihilates (es ls t v : List ℕ) : Type 0 where
+  pub elements : (k : ℕ) → at v k < length ls
+  pub leading : ℕ
+  pub leading-lt : leading < 9
+  pub leading-one : at v leading ≡ 1
+  pub equations : (j : ℕ) → j < 8 → applied (tableProduct es ls) (at v) 9 (λ k. at t (j + k)) ≡ 0
+
+-- rows of the elimination. Cells 0 to 7: a polynomial applied to t from 0, .. 7 on; cells 8 to 16: its coefficients, highest power first.
+-- The row of the polynomial x^d. Times 1: an element, whatever number t holds there
+unfoldable pub powerRow : List ℕ → List ℕ → List ℕ → ℕ → List ℕ
+powerRow es ls t d = tabulate 17 (λ i. cond (ltb i 8) (tableProduct es ls 1 (at t (d + i))) (cond (eqb (i + d) 16) 1 0))
+
+-- u plus c times v
+unfoldable pub plusScaled : List ℕ → List ℕ → List ℕ → ℕ → List ℕ → List ℕ
+plusScaled es ls u c v = tabulate 17 (λ i. xor (at u i) (tableProduct es ls c (at v i)))
+
+-- u with cell j made zero by the pivot v, where cell j of v is not zero; u itself, where v is zero
+unfoldable pub cleared : List ℕ → List ℕ → List ℕ → List ℕ → ℕ → List ℕ
+cleared es ls u v j = plusScaled es ls u (tableProduct es ls (at u j) (tableInverse es ls (at v j))) v
+
+-- the cells of row j of a list of rows
+abbrev pub noRow : Row
+noRow = record { cells = [] }
+
+unfoldable pub cellsOf : List Row → ℕ → List ℕ
+cellsOf rows j = getD rows j noRow .cells
+
+-- u with its first n cells made zero by the pivots of these cells, one after the other
+unfoldable pub reduced : List ℕ → List ℕ → List ℕ → List Row → ℕ → List ℕ
+reduced es ls u pivots zero = u
+reduced es ls u pivots (suc j) = cleared es ls (reduced es ls u pivots j) (cellsOf pivots j) j
+
+-- j is the first of the cells 0 to 7 of u that is not zero; 8, if all are
+pub record FirstNonzero (u : List ℕ) (j : ℕ) : Type 0 where
+  pub most : j ≤ 8
+  pub before : (i : ℕ) → i < j → at u i ≡ 0
+  pub here : j < 8 → at u j ≡ 0 → ⊥
+
+-- ---- its roots
+
+-- the places below i, of n, whose locators are roots of v; the last first
+unfoldable pub rootPlaces : List ℕ → List ℕ → List ℕ → ℕ → ℕ → List ℕ
+rootPlaces es ls v n zero = []
+rootPlaces es ls v n (suc i) =
+    cond (eqb (lentValue es ls v (locator es n i)) 0) (i ∷ rootPlaces es ls v n i) (rootPlaces es ls v n i)
+
+-- the first k entries of a list, the last first
+unfoldable pub backwards : List ℕ → ℕ → List ℕ
+backwards l zero = []
+backwards l (suc k) = at l k ∷ backwards l k
+
+-- place i joins the places if the value there is zero and there is room
+unfoldable pub kept : ℕ → ℕ → Places → Places
+kept i value p = cond (eqb value 0) (cond (ltb (p .count) 8) (record { at = set (p .at) (p .count) i; count = p .count + 1 }) p) p
+
+-- the places among the first i of n that the search keeps: the roots in ascending order, and all of them unless there are more than eight
+pub record Roots (es ls v : List ℕ) (n i : ℕ) (places : List ℕ) (count : ℕ) : Type 0 where
+  pub few : count ≤ 8
+  pub below : (k : ℕ) → k < count → at places k < i
+  pub ascending : (k l : ℕ) → k < l → l < count → at places k < at places l
+  pub all : length (rootPlaces es ls v n i) ≤ 8 → backwards places count ≡ rootPlaces es ls v n i
+
+-- ---- the values of the errors there
+
+-- the sequence t with all multiples of the powers of x taken out: its next entry plus x times the entry itself
+unfoldable pub filtered : List ℕ → List ℕ → ℕ → List ℕ → List ℕ
+filtered es ls x t = tabulate 16 (λ j. xor (at t (suc j)) (tableProduct es ls x (at t j)))
+
+-- the same for the locators of the first k places
+unfoldable pub filteredBy : List ℕ → List ℕ → ℕ → List ℕ → List ℕ → ℕ → List ℕ
+filteredBy es ls n places t zero = t
+filteredBy es ls n places t (suc k) = filtered es ls (locator es n (at places k)) (filteredBy es ls n places t k)
+
+-- the product of x plus each of these locators, by which filtering multiplies the powers of x
+unfoldable pub filterFactor : List ℕ → List ℕ → ℕ → List ℕ → ℕ → ℕ → ℕ
+filterFactor es ls n places x zero = 1
+filterFactor es ls n places x (suc k) = tableProduct es ls (filterFactor es ls n places x k) (xor x (locator es n (at places k)))
+
+-- the value of the error at place k of those listed, where t are the syndromes of the errors at the places up to k
+unfoldable pub errorValue : List ℕ → List ℕ → ℕ → List ℕ → List ℕ → ℕ → ℕ
+errorValue es ls n places t k =
+    tableProduct es ls (at (filteredBy es ls n places t k) 0) (tableInverse es ls (filterFactor es ls n places (locator es n (at places k)) k))
+
+-- the syndromes t, with those of the error v at the locator x taken away
+unfoldable pub lessError : List ℕ → List ℕ → ℕ → ℕ → List ℕ → List ℕ
+lessError es ls x v t = tabulate 16 (λ j. xor (at t j) (timesPower (tableProduct es ls) x v j))
+
+-- the error at place k of those listed is found and taken away
+unfoldable pub resolved : List ℕ → List ℕ → ℕ → ℕ → Errors → Errors
+resolved es ls n k e =
+    let v = errorValue es ls n (e .places .at) (e .left) k in
+    record { places = e .places; values = set (e .values) k v; left = lessError es ls (locator es n (at (e .places .at) k)) v (e .left) }
+
+-- ---- all together
+
+-- the error at place i, where the first k places listed have the given values
+unfoldable pub errorAt : List ℕ → List ℕ → ℕ → ℕ → ℕ
+errorAt places values k i = xorTo k (λ l. cond (eqb (at places l) i) (at values l) 0)
+
+-- what is found for the syndromes t of a word of n places: `count` errors with their values, and what their syndromes leave of t
+pub record Decoded (es ls t : List ℕ) (n : ℕ) (places values : List ℕ) (count : ℕ) (left : List ℕ) : Type 0 where
+  pub few : count ≤ 8
+  pub below : (k : ℕ) → k < count → at places k < n
+  pub ascending : (k l : ℕ) → k < l → l < count → at places k < at places l
+  pub elements : (k : ℕ) → k < count → at values k < length ls
+  -- what is left is the difference of t and the syndromes of the errors found
+  pub left-is : (j : ℕ) → j < 16 → at left j ≡ xor (at t j) (syndrome es ls n (errorAt places values count) j)
+  -- if t are the syndromes of some errors in at most eight places, these are found
+  pub complete : (e : ℕ → ℕ) → ((i : ℕ) → e i < length ls) → ((j : ℕ) → j < 16 → at t j ≡ syndrome es ls n e j) → sumTo n (λ i. differs (e i) 0) ≤ 8 →
+      (i : ℕ) → i < n → errorAt places values count i ≡ e i
+
+-- how many of the first k values are not zero
+unfoldable pub weightOf : List ℕ → ℕ → ℕ
+weightOf values k = sumTo k (λ l. differs (at values l) 0)
+
+-- a word with v added to the symbol at place i, if there is one
+unfoldable pub withError : List ℕ → ℕ → ℕ → List ℕ
+withError w i v = tabulate (length w) (λ l. xor (at w l) (cond (eqb i l) v 0))
+
+-- the word of n symbols w 0, w 1, .. with the errors' values added
+unfoldable pub withErrors : (ℕ → ℕ) → List ℕ → List ℕ → ℕ → ℕ → List ℕ
+withErrors w places values k n = tabulate n (λ i. xor (w i) (errorAt places values k i))

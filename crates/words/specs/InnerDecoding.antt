@@ -1,0 +1,45 @@
+-- What the functions give that decode an inner word by its remainder.
+use mathlib.Core.Path.{_≡_}
+use mathlib.Core.Bool.{Bool, _&&_, _||_}
+use mathlib.Core.List.{List}
+use Prim.Native.Nat.{ℕ, _+_, _*_, _<_}
+use lib.Dec.{eqb}
+use lib.ListN.{length}
+use Rattle.fields.specs.Lists.{tabulate}
+use Rattle.fields.specs.Elements.{powersB, exponentsB}
+use Rattle.fields.specs.ByTables.{tableProduct, tablePower}
+use Rattle.words.specs.Places.{at, every, allBelow, bitOf, bitAt, horner, differs}
+use Rattle.words.specs.InnerCode.{divisor, remainder}
+use Rattle.words.specs.Decoder.{locator, Decoded}
+
+-- the value at x of the binary polynomial r of degree below 88, over a lent field
+unfoldable pub polynomialValue : List ℕ → List ℕ → ℕ → ℕ → ℕ
+polynomialValue es ls r x = horner (λ v. tableProduct es ls v x) (bitOf 88 r) 88
+
+-- the first 2 n of the values t at a, a^2, .. a^16: those of the polynomial r at odd powers, squares at even powers
+pub record Syndromes (es ls : List ℕ) (r n : ℕ) (t : List ℕ) : Type 0 where
+  pub long : length t ≡ 16
+  pub odd : (i : ℕ) → i < n → at t (2 * i) ≡ polynomialValue es ls r (tablePower es (2 * i + 1))
+  pub even : (i : ℕ) → i < n → at t (2 * i + 1) ≡ tableProduct es ls (at t i) (at t i)
+
+-- an error's value is 0 or the locator x, as that of a wrong place is; and all of the first k are
+unfoldable pub isBit : ℕ → ℕ → Bool
+isBit value x = eqb value 0 || eqb value x
+
+unfoldable pub isBinary : List ℕ → List ℕ → List ℕ → ℕ → Bool
+isBinary es places values k = every k (λ l. isBit (at values l) (locator es 2040 (at places l)))
+
+-- 1 for each value that is not zero
+unfoldable pub flips : List ℕ → List ℕ
+flips values = tabulate 8 (λ k. differs (at values k) 0)
+
+-- the errors found in the 2,040 places of a word lent as bytes
+pub record InnerErrors (w places values : List ℕ) (count : ℕ) (left : List ℕ) : Type 0 where
+  pub t : List ℕ
+  pub syndromes : Syndromes powersB exponentsB (remainder 88 divisor (bitAt w) 2040) 8 t
+  pub decoded : Decoded powersB exponentsB t 2040 places values count left
+  pub left-long : length left ≡ 16
+
+-- they leave nothing of the syndromes, and each has the value of a wrong place
+unfoldable pub explains : List ℕ → List ℕ → List ℕ → ℕ → List ℕ → Bool
+explains es places values count left = allBelow 1 left && isBinary es places values count

@@ -1,0 +1,329 @@
+// Bounded-distance decoding, one text for all codes: the code's field is lent as its two tables, its word is known by sixteen syndromes.
+//
+//     annihilator   a polynomial of degree at most 8 that annihilates the syndromes, by elimination: the locators of up to eight errors are its roots
+//     roots         the places of the word, never of the omitted front, whose locators are roots
+//     values        the value of the error at each of them, the last first: the locators before it are filtered out of the syndromes, which leaves a
+//                   multiple of the value; then the error's own syndromes are taken away
+//     test          if nothing is left of the syndromes, the word less these errors is a code word, near enough; else there is none
+//
+// The elimination stops at the number of errors, so that few errors are cheap. Any polynomial that annihilates will do: the values tell which of its
+// roots are errors.
+use crate::reed_solomon;
+ghost use mathlib.Core.Path.{_≡_};
+ghost use Prim.Native.Nat.{_+_, _-_, _≤_, _<_};
+ghost use lib.ListN.{length};
+ghost use Rattle.fields.specs.Lists.{tabulate};
+ghost use Rattle.fields.specs.Elements.{xor};
+ghost use Rattle.fields.specs.ByTables.{tableProduct};
+ghost use Rattle.words.specs.Places.{at, differs};
+ghost use Rattle.words.specs.Decoder.{Tables, locator, Annihilates, powerRow, plusScaled, cleared, reduced, FirstNonzero, kept, Roots, filtered, filteredBy, filterFactor, errorValue, lessError, resolved, Decoded, weightOf};
+
+// Errors in up to so many places are found.
+pub const RADIUS: usize = 8;
+
+pub const SYNDROMES: usize = 2 * RADIUS;
+
+const COEFFICIENTS: usize = RADIUS + 1;
+
+const CELLS: usize = RADIUS + COEFFICIENTS;
+
+// A row of the elimination. Cells 0 to 7: what a polynomial makes of the syndromes from 0, .. 7 on. Cells 8 to 16: its coefficients, highest power
+// first.
+pub struct Row {
+    pub cells: [u16; CELLS],
+}
+
+// The row of the polynomial x^d. Times 1: an element, whatever number t holds there.
+fn power_row(exp: &[u16], log: &[u16], t: [u16; SYNDROMES], d: usize) -> Row
+    requires { ⌜ d < 9 ⌝ }
+    ensures { λ r. ⌜ r .cells ≡ powerRow (now (exp .entry)) (now (log .entry)) t d ⌝ }
+{
+    let mut cells = [0u16; CELLS];
+    let mut i: usize = 0;
+    while i < RADIUS {
+        cells[i] = fields::product(exp, log, 1, t[d + i]);
+        i += 1;
+    }
+    cells[CELLS - 1 - d] = 1;
+    Row { cells }
+}
+
+// u plus c times v.
+fn plus_scaled(exp: &[u16], log: &[u16], u: Row, c: u16, v: Row) -> Row
+    ensures { λ r. ⌜ r .cells ≡ plusScaled (now (exp .entry)) (now (log .entry)) (u .cells) c (v .cells) ⌝ }
+{
+    let mut cells = [0u16; CELLS];
+    let mut i: usize = 0;
+    while i < CELLS {
+        cells[i] = reed_solomon::sum(u.cells[i], fields::product(exp, log, c, v.cells[i]));
+        i += 1;
+    }
+    Row { cells }
+}
+
+// Cell j of u is made zero by the pivot v of that cell. A pivot that is missing is all zero and changes nothing.
+fn cleared(exp: &[u16], log: &[u16], u: Row, v: Row, j: usize) -> Row
+    requires { ⌜ j < 8 ⌝ }
+    ensures { λ r. ⌜ r .cells ≡ cleared (now (exp .entry)) (now (log .entry)) (u .cells) (v .cells) j ⌝ }
+{
+    let c = fields::product(exp, log, u.cells[j], fields::inverse(exp, log, v.cells[j]));
+    plus_scaled(exp, log, u, c, v)
+}
+
+fn reduced(exp: &[u16], log: &[u16], u: Row, pivots: [Row; RADIUS]) -> Row
+    ensures { λ r. ⌜ r .cells ≡ reduced (now (exp .entry)) (now (log .entry)) (u .cells) pivots 8 ⌝ }
+{
+    let mut row = u;
+    let mut j: usize = 0;
+    while j < RADIUS {
+        row = cleared(exp, log, row, pivots[j], j);
+        j += 1;
+    }
+    row
+}
+
+// The first of the cells 0 to 7 that is not zero, or 8.
+fn first_nonzero(u: Row) -> usize
+    ensures { λ r. ⌜ FirstNonzero (u .cells) r ⌝ }
+{
+    let mut j: usize = 0;
+    while j < RADIUS {
+        if u.cells[j] != 0 {
+            return j;
+        }
+        j += 1;
+    }
+    RADIUS
+}
+
+fn coefficients(u: Row) -> [u16; COEFFICIENTS]
+    ensures { λ r. ⌜ r ≡ tabulate 9 (λ k. at (u .cells) (8 + k)) ⌝ }
+{
+    let mut v = [0u16; COEFFICIENTS];
+    let mut k: usize = 0;
+    while k < COEFFICIENTS {
+        v[k] = u.cells[RADIUS + k];
+        k += 1;
+    }
+    v
+}
+
+// A polynomial that annihilates the syndromes. The rows of 1, x, x^2, .. are reduced one after the other; one with a cell left that is not zero becomes
+// the pivot of that cell, and the first with none is the answer. There are eight cells, so the ninth row has none left.
+fn annihilator(exp: &[u16], log: &[u16], t: [u16; SYNDROMES]) -> [u16; COEFFICIENTS]
+    requires { ⌜ Tables (now exp) (now log) ⌝ }
+    ensures { λ r. ⌜ Annihilates (now (exp .entry)) (now (log .entry)) t r ⌝ }
+{
+    let mut pivots = [Row {
+        cells: [0u16; CELLS],
+    }; RADIUS];
+    let mut d: usize = 0;
+    while d < COEFFICIENTS {
+        let row = reduced(exp, log, power_row(exp, log, t, d), pivots);
+        let j = first_nonzero(row);
+        if j == RADIUS {
+            return coefficients(row);
+        }
+        pivots[j] = row;
+        d += 1;
+    }
+    [0; COEFFICIENTS]
+}
+
+// The locator of place i of a word of n places.
+pub fn locator(exp: &[u16], n: usize, i: usize) -> u16
+    requires { ⌜ n < 65536 ⌝ }
+    ensures { λ r. ⌜ r ≡ locator (now (exp .entry)) n i ⌝ }
+{
+    if i < n {
+        return fields::power(exp, (n - 1 - i) as u16);
+    }
+    fields::power(exp, 0)
+}
+
+// The first `count` of `at` are places of a word, in ascending order.
+pub struct Places {
+    pub at: [u16; RADIUS],
+    pub count: usize,
+}
+
+// Place i is kept if it is a root, and if there is room.
+fn keep(p: Places, i: u16, value: u16) -> Places
+    requires { ⌜ p .count ≤ 8 ⌝ }
+    ensures { λ r. ⌜ r ≡ kept i value p ⌝ }
+{
+    if value != 0 {
+        return p;
+    }
+    let count = p.count;
+    if RADIUS <= count {
+        return p;
+    }
+    let mut at = p.at;
+    at[count] = i;
+    Places {
+        at,
+        count: count + 1,
+    }
+}
+
+// The places of a word of n places whose locators are roots of the polynomial.
+fn roots(exp: &[u16], log: &[u16], polynomial: [u16; COEFFICIENTS], n: usize) -> Places
+    requires { ⌜ n < 65536 ⌝ }
+    ensures { λ r. ⌜ Roots (now (exp .entry)) (now (log .entry)) polynomial n n (r .at) (r .count) ⌝ }
+{
+    let mut p = Places {
+        at: [0u16; RADIUS],
+        count: 0,
+    };
+    let mut i: usize = 0;
+    while i < n {
+        let x = locator(exp, n, i);
+        p = keep(p, i as u16, reed_solomon::value(exp, log, &polynomial, x));
+        i += 1;
+    }
+    p
+}
+
+// The powers of x are filtered out of the sequence t.
+fn filtered(exp: &[u16], log: &[u16], x: u16, t: [u16; SYNDROMES]) -> [u16; SYNDROMES]
+    ensures { λ r. ⌜ r ≡ filtered (now (exp .entry)) (now (log .entry)) x t ⌝ }
+{
+    let mut s = [0u16; SYNDROMES];
+    let mut j: usize = 0;
+    while j < SYNDROMES {
+        s[j] = reed_solomon::sum(
+            reed_solomon::symbol(&t, j + 1),
+            fields::product(exp, log, x, t[j]),
+        );
+        j += 1;
+    }
+    s
+}
+
+// A sequence from which the powers of some locators are filtered out, and the factor by which that multiplied the powers of another.
+struct Filter {
+    sequence: [u16; SYNDROMES],
+    factor: u16,
+}
+
+// The powers of y are filtered out too; x is the other locator.
+fn extended(exp: &[u16], log: &[u16], f: Filter, x: u16, y: u16) -> Filter
+    ensures { λ r. ⌜ (r .sequence ≡ filtered (now (exp .entry)) (now (log .entry)) y (f .sequence)) × (r .factor ≡ tableProduct (now (exp .entry)) (now (log .entry)) (f .factor) (xor x y)) ⌝ }
+{
+    let t = f.sequence;
+    let sequence = filtered(exp, log, y, t);
+    Filter {
+        sequence,
+        factor: fields::product(exp, log, f.factor, reed_solomon::sum(x, y)),
+    }
+}
+
+// The value of the error at place k of those listed, where t are the syndromes of the errors at the places up to k.
+fn error_value(
+    exp: &[u16],
+    log: &[u16],
+    n: usize,
+    places: Places,
+    t: [u16; SYNDROMES],
+    k: usize,
+) -> u16
+    requires { ⌜ (n < 65536) × (k < 8) ⌝ }
+    ensures { λ r. ⌜ r ≡ errorValue (now (exp .entry)) (now (log .entry)) n (places .at) t k ⌝ }
+{
+    let x = locator(exp, n, places.at[k] as usize);
+    let mut f = Filter {
+        sequence: t,
+        factor: 1,
+    };
+    let mut i: usize = 0;
+    while i < k {
+        f = extended(exp, log, f, x, locator(exp, n, places.at[i] as usize));
+        i += 1;
+    }
+    fields::product(exp, log, f.sequence[0], fields::inverse(exp, log, f.factor))
+}
+
+// The syndromes t, with those of the error v at the locator x taken away.
+fn less_error(exp: &[u16], log: &[u16], x: u16, v: u16, t: [u16; SYNDROMES]) -> [u16; SYNDROMES]
+    ensures { λ r. ⌜ r ≡ lessError (now (exp .entry)) (now (log .entry)) x v t ⌝ }
+{
+    let mut s = [0u16; SYNDROMES];
+    let mut c = v;
+    let mut j: usize = 0;
+    while j < SYNDROMES {
+        s[j] = reed_solomon::sum(t[j], c);
+        c = fields::product(exp, log, x, c);
+        j += 1;
+    }
+    s
+}
+
+// The errors found: their places, and the values to be added there. `left` is what they leave of the word's syndromes: all zero, if the word with the
+// values added is a code word.
+pub struct Errors {
+    pub places: Places,
+    pub values: [u16; RADIUS],
+    pub left: [u16; SYNDROMES],
+}
+
+// The error at place k of those listed is found and taken away.
+fn resolved(exp: &[u16], log: &[u16], n: usize, e: Errors, k: usize) -> Errors
+    requires { ⌜ (n < 65536) × (k < 8) ⌝ }
+    ensures { λ r. ⌜ r ≡ resolved (now (exp .entry)) (now (log .entry)) n k e ⌝ }
+{
+    let places = e.places;
+    let t = e.left;
+    let v = error_value(exp, log, n, places, t, k);
+    let left = less_error(exp, log, locator(exp, n, places.at[k] as usize), v, t);
+    let mut values = e.values;
+    values[k] = v;
+    Errors {
+        places,
+        values,
+        left,
+    }
+}
+
+// The errors in a word of n places that has the syndromes t.
+pub fn decode(exp: &[u16], log: &[u16], t: [u16; SYNDROMES], n: usize) -> Errors
+    requires { ⌜ Tables (now exp) (now log) ⌝ }
+    requires { ⌜ (n ≤ length (now exp)) × (n < 65536) ⌝ }
+    ensures { λ r. ⌜ Decoded (now (exp .entry)) (now (log .entry)) t n (r .places .at) (r .values) (r .places .count) (r .left) ⌝ }
+{
+    let polynomial = annihilator(exp, log, t);
+    let places = roots(exp, log, polynomial, n);
+    let mut e = Errors {
+        places,
+        values: [0u16; RADIUS],
+        left: t,
+    };
+    let mut k = places.count;
+    while 0 < k {
+        k -= 1;
+        e = resolved(exp, log, n, e, k);
+    }
+    e
+}
+
+// 1 for a value that is not zero.
+fn changes(value: u16) -> u16
+    ensures { λ r. ⌜ (r ≡ differs value 0) × (r ≤ 1) ⌝ }
+{
+    if value == 0 { 0 } else { 1 }
+}
+
+// How many of the errors are not zero: the number of places that they change.
+pub fn weight(e: Errors) -> u16
+    requires { ⌜ e .places .count ≤ 8 ⌝ }
+    ensures { λ r. ⌜ r ≡ weightOf (e .values) (e .places .count) ⌝ }
+{
+    let places = e.places;
+    let mut n: u16 = 0;
+    let mut k: usize = 0;
+    while k < places.count {
+        n += changes(e.values[k]);
+        k += 1;
+    }
+    n
+}

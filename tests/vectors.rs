@@ -1,5 +1,7 @@
 // The rows of crates/acceptance, computed a second time from documents 01 and 002 alone, by other means than the library's: products without
-// tables, values as sums of powers, long division over a list of coefficients, least polynomials as products over the conjugates.
+// tables, values as sums of powers, long division over a list of coefficients, least polynomials as products over the conjugates. What a correction
+// gives comes from how the word was made: up to eight errors are taken away. Where there are nine, a decoder of another kind (Peterson, Gorenstein and
+// Zierler: systems of linear equations for locators and values) tells whether a code word is within eight; it must agree on all other words too.
 
 // The field of 2^m elements from the polynomial p.
 struct Field {
@@ -161,7 +163,139 @@ fn encode_inner(data: &[u32], out: &mut Vec<u32>) -> u32 {
     }
 }
 
+// ---- correction
+
+// The solution of a square system of linear equations, each row followed by its right side; none where there is not exactly one.
+fn solve(f: &Field, mut rows: Vec<Vec<u32>>) -> Option<Vec<u32>> {
+    let n = rows.len();
+    for c in 0..n {
+        let pivot = (c..n).find(|r| rows[*r][c] != 0)?;
+        rows.swap(c, pivot);
+        let one_over = (1..1 << f.m).find(|y| f.times(rows[c][c], *y) == 1)?;
+        rows[c] = rows[c].iter().map(|x| f.times(*x, one_over)).collect();
+        let row = rows[c].clone();
+        for r in (0..n).filter(|r| *r != c) {
+            let q = rows[r][c];
+            for (x, y) in rows[r].iter_mut().zip(&row) {
+                *x ^= f.times(q, *y);
+            }
+        }
+    }
+    Some(rows.iter().map(|r| r[n]).collect())
+}
+
+// Errors in at most eight of the places with the given locators that have the sixteen power sums s, as pairs of place and value.
+fn errors(f: &Field, locators: &[u32], s: &[u32]) -> Option<Vec<(usize, u32)>> {
+    if s.iter().all(|x| *x == 0) {
+        return Some(vec![]);
+    }
+    for n in (1..=8).rev() {
+        // x^n + l[n-1] x^(n-1) + .. + l[0] has the locators for roots: s[j+n] = sum of l[k] s[j+k]
+        let Some(l) = solve(f, (0..n).map(|j| (0..=n).map(|k| s[j + k]).collect()).collect()) else { continue };
+        let value = |x: u32| l.iter().rev().fold(1, |v, c| f.times(v, x) ^ c);
+        let places: Vec<usize> = (0..locators.len()).filter(|i| value(locators[*i]) == 0).collect();
+        if places.len() != n {
+            return None;
+        }
+        let power = |x: u32, j: usize| (0..j).fold(1, |y, _| f.times(y, x));
+        let row = |j: usize| places.iter().map(|i| power(locators[*i], j)).chain([s[j]]).collect();
+        let values = solve(f, (0..n).map(row).collect())?;
+        let sum = |j: usize| places.iter().zip(&values).fold(0, |v, (i, e)| v ^ f.times(*e, power(locators[*i], j)));
+        return if (0..16).all(|j| sum(j) == s[j]) { Some(places.into_iter().zip(values).collect()) } else { None };
+    }
+    None
+}
+
+// The locators of n places, and the word's values at sixteen powers of a from `first` on.
+fn locators(f: &Field, n: usize) -> Vec<u32> {
+    let mut powers = vec![1];
+    for i in 1..n {
+        powers.push(f.times(powers[i - 1], 2));
+    }
+    powers.reverse();
+    powers
+}
+
+fn sums(f: &Field, first: usize, locators: &[u32], word: &[u32]) -> Vec<u32> {
+    let mut terms: Vec<u32> = word.to_vec();
+    let mut s = vec![];
+    for j in 0..first + 16 {
+        if j >= first {
+            s.push(terms.iter().fold(0, |v, t| v ^ t));
+        }
+        for (t, x) in terms.iter_mut().zip(locators) {
+            *t = f.times(*t, *x);
+        }
+    }
+    s
+}
+
+// The code word within eight, by the decoder.
+fn nearest_outer(word: &[u32]) -> Option<Vec<u32>> {
+    let x = locators(&A, word.len());
+    let mut c = word.to_vec();
+    for (i, e) in errors(&A, &x, &sums(&A, 0, &x, word))? {
+        c[i] ^= e;
+    }
+    Some(c)
+}
+
+fn nearest_inner(word: &[u32]) -> Option<Vec<u32>> {
+    let x = locators(&B, 2040);
+    let mut c = bits(word);
+    for (i, e) in errors(&B, &x, &sums(&B, 1, &x, &bits(word)))? {
+        // The power sums from a^1 on are those of the locators themselves.
+        if e != x[i] {
+            return None;
+        }
+        c[i] ^= 1;
+    }
+    Some(bytes(&c))
+}
+
 // ---- rows
+
+fn corrected(name: &str, n: usize, number: u32, changed: usize, same: bool) {
+    println!("{name} {n}: {number} {changed} {}", same as u32);
+}
+
+// A word made of the sent one by `changed` errors.
+fn correction(name: &str, n: usize, nearest: fn(&[u32]) -> Option<Vec<u32>>, sent: &[u32], word: &[u32], changed: usize) {
+    match nearest(word) {
+        Some(c) => {
+            assert!(changed <= 8 && c == sent);
+            corrected(name, n, 0, changed, true);
+        }
+        None => {
+            assert!(changed == 9);
+            corrected(name, n, 5, 0, false);
+        }
+    }
+}
+
+// One error at each of three places; then zero to nine errors.
+fn corrections(name: &str, nearest: fn(&[u32]) -> Option<Vec<u32>>, sent: &[u32], damage: fn(&mut [u32], usize, u32), single: &[usize], places: [usize; 9]) {
+    let mut word = sent.to_vec();
+    for i in single {
+        damage(&mut word, *i, 1023);
+        correction(&format!("{name}, an error at place"), *i, nearest, sent, &word, 1);
+        damage(&mut word, *i, 1023);
+    }
+    for k in 0..10 {
+        correction(&format!("{name}, errors"), k, nearest, sent, &word, k);
+        if k < 9 {
+            damage(&mut word, places[k], 100 * k as u32 + 1);
+        }
+    }
+}
+
+fn damage_symbol(word: &mut [u32], i: usize, v: u32) {
+    word[i] ^= v;
+}
+
+fn damage_place(word: &mut [u32], i: usize, _: u32) {
+    word[i / 8] ^= 128 >> (i % 8);
+}
 
 fn row(name: &str, n: usize, result: u32) {
     println!("{name} {n}: {result}");
@@ -233,4 +367,41 @@ fn main() {
     made("encode inner, no buffer, length", encode_inner, &[0; 244], 0);
     made("encode inner, buffer of 10, length", encode_inner, &[0; 244], 10);
     made("encode inner, buffer of 12, length", encode_inner, &[0; 244], 12);
+
+    let name = "correct outer";
+    println!("shortest outer word");
+    let mut sent = vec![2];
+    sent.extend(outer_parity(&[2]));
+    corrections(name, nearest_outer, &sent, damage_symbol, &[0, 8, 16], [0, 16, 8, 1, 15, 9, 2, 14, 10]);
+    let mut word = sent[..9].to_vec();
+    word.extend([0; 8]);
+    correction("correct outer, zeros but for the first", 9, nearest_outer, &sent, &word, 8);
+    println!("outer word of a frame");
+    let mut sent = vec![1023; 765];
+    sent.extend(outer_parity(&sent));
+    corrections(name, nearest_outer, &sent, damage_symbol, &[0, 390, 780], [0, 780, 390, 1, 779, 391, 2, 778, 392]);
+    println!("longest outer word");
+    let mut sent = vec![1; 1007];
+    sent.extend(outer_parity(&sent));
+    corrections(name, nearest_outer, &sent, damage_symbol, &[0, 511, 1022], [0, 1022, 511, 1, 1021, 512, 2, 1020, 513]);
+    for (n, number) in [(0, 6), (16, 6), (17, 0), (1024, 6)] {
+        corrected("correct outer, zeros, length", n, number, 0, number == 0);
+    }
+    for (n, number) in [(16, 3), (17, 7)] {
+        corrected("correct outer, symbols of 1024, buffer of", n, number, 0, false);
+    }
+
+    let name = "correct inner";
+    println!("inner word");
+    let mut sent = vec![255; 244];
+    sent.extend(inner_parity(&sent));
+    corrections(name, nearest_inner, &sent, damage_place, &[0, 1020, 2039], [0, 2039, 1020, 1, 2038, 1021, 2, 2037, 1022]);
+    println!("inner word, parity places only");
+    corrections(name, nearest_inner, &sent, damage_place, &[], [1952, 2039, 1995, 1953, 2038, 1996, 1954, 2037, 1997]);
+    for (n, number) in [(0, 6), (254, 6), (255, 0), (256, 6)] {
+        corrected("correct inner, zeros, length", n, number, 0, number == 0);
+    }
+    for n in [254, 256] {
+        corrected("correct inner, zeros, buffer of", n, 3, 0, false);
+    }
 }

@@ -1,2 +1,3 @@
 -- The laws that the kernels' proofs cite.
 pub mod Chains
+pub mod Corrections

@@ -1,2 +1,3 @@
 -- What the kernels of bench/ compute.
 pub mod Chains
+pub mod Corrections

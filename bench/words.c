@@ -1,0 +1,168 @@
+// Correction of single words: the proved corrector of crates/words against libfec (outer words of 781 symbols) and the Linux kernel's lib/bch.c (inner
+// words of 2,040 places), turn by turn in one run. The sent words are made by the peers' encoders; each answer is compared with the sent word.
+#include <fec.h>
+#include <linux/bch.h>
+#include <stdint.h>
+#include <stdio.h>
+#include <stdlib.h>
+#include <string.h>
+#include <time.h>
+
+uint8_t timing_correct_outer(const uint16_t *word, size_t word_len, uint16_t *out, size_t out_len);
+uint8_t timing_correct_inner(const uint8_t *word, size_t word_len, uint8_t *out, size_t out_len);
+
+enum { ROUNDS = 2001, SYMBOLS = 781, DATA = 765, BYTES = 255, DATA_BYTES = 244, PLACES = 2040 };
+
+static uint64_t state = 88172645463325252u;
+
+static uint32_t next_random(uint32_t below)
+{
+	state ^= state << 13;
+	state ^= state >> 7;
+	state ^= state << 17;
+	return (uint32_t)(state >> 20) % below;
+}
+
+// n distinct places below `below`
+static void choose(uint32_t *places, int n, uint32_t below)
+{
+	for (int i = 0; i < n; i++) {
+		int again = 1;
+		while (again) {
+			places[i] = next_random(below);
+			again = 0;
+			for (int k = 0; k < i; k++)
+				again |= places[k] == places[i];
+		}
+	}
+}
+
+static double now(void)
+{
+	struct timespec t;
+	clock_gettime(CLOCK_MONOTONIC, &t);
+	return t.tv_sec * 1e9 + t.tv_nsec;
+}
+
+static int by_size(const void *a, const void *b)
+{
+	double x = *(const double *)a, y = *(const double *)b;
+	return (x > y) - (x < y);
+}
+
+static double median(double *times)
+{
+	qsort(times, ROUNDS, sizeof(double), by_size);
+	return times[ROUNDS / 2];
+}
+
+static double ours[ROUNDS], theirs[ROUNDS];
+
+static void report(const char *word, const char *peer, int errors)
+{
+	double a = median(ours), b = median(theirs);
+	printf("%s, %d errors: proved %.2f us, %s %.2f us, ratio %.2f\n", word, errors, a / 1000, peer, b / 1000, a / b);
+}
+
+// Nine errors are beyond every code word here: whoever takes a word has made a wrong repair.
+static void report_taken(const char *peer, int taken)
+{
+	printf("    of %d words with nine errors the proved corrector took 0, %s %d\n", ROUNDS, peer, taken);
+}
+
+static void require(int condition, const char *what, int errors)
+{
+	if (!condition) {
+		printf("%s: wrong answer at %d errors\n", what, errors);
+		exit(1);
+	}
+}
+
+static void outer(void *rs, int errors)
+{
+	int taken = 0;
+	for (int round = 0; round < ROUNDS; round++) {
+		unsigned int sent[SYMBOLS], peer[SYMBOLS];
+		uint16_t word[SYMBOLS], out[SYMBOLS];
+		uint32_t places[9];
+		for (int i = 0; i < DATA; i++)
+			sent[i] = next_random(1024);
+		encode_rs_int(rs, sent, sent + DATA);
+		memcpy(peer, sent, sizeof sent);
+		choose(places, errors, SYMBOLS);
+		for (int k = 0; k < errors; k++)
+			peer[places[k]] ^= 1 + next_random(1023);
+		for (int i = 0; i < SYMBOLS; i++)
+			word[i] = peer[i];
+		memset(out, 0, sizeof out);
+		double start = now();
+		uint8_t number = timing_correct_outer(word, SYMBOLS, out, SYMBOLS);
+		double middle = now();
+		int found = decode_rs_int(rs, peer, NULL, 0);
+		theirs[round] = now() - middle;
+		ours[round] = middle - start;
+		if (errors <= 8) {
+			require(number == 0, "proved, outer", errors);
+			for (int i = 0; i < SYMBOLS; i++)
+				require(out[i] == sent[i], "proved, outer", errors);
+			require(found == errors && !memcmp(peer, sent, sizeof sent), "libfec", errors);
+		} else {
+			require(number == 5, "proved, outer", errors);
+			taken += found >= 0;
+		}
+	}
+	report("outer word", "libfec", errors);
+	if (errors == 9)
+		report_taken("libfec", taken);
+}
+
+static void inner(struct bch_control *bch, int errors)
+{
+	int taken = 0;
+	for (int round = 0; round < ROUNDS; round++) {
+		uint8_t sent[BYTES], word[BYTES], out[BYTES];
+		uint32_t places[9];
+		unsigned int wrong[8];
+		for (int i = 0; i < DATA_BYTES; i++)
+			sent[i] = next_random(256);
+		memset(sent + DATA_BYTES, 0, BYTES - DATA_BYTES);
+		bch_encode(bch, sent, DATA_BYTES, sent + DATA_BYTES);
+		memcpy(word, sent, BYTES);
+		choose(places, errors, PLACES);
+		for (int k = 0; k < errors; k++)
+			word[places[k] / 8] ^= 128 >> places[k] % 8;
+		memset(out, 0, sizeof out);
+		double start = now();
+		uint8_t number = timing_correct_inner(word, BYTES, out, BYTES);
+		double middle = now();
+		int found = bch_decode(bch, word, DATA_BYTES, word + DATA_BYTES, NULL, NULL, wrong);
+		for (int k = 0; k < found; k++)
+			word[wrong[k] / 8] ^= 1 << wrong[k] % 8;
+		theirs[round] = now() - middle;
+		ours[round] = middle - start;
+		if (errors <= 8) {
+			require(number == 0 && !memcmp(out, sent, BYTES), "proved, inner", errors);
+			require(found == errors && !memcmp(word, sent, BYTES), "kernel", errors);
+		} else {
+			require(number == 5, "proved, inner", errors);
+			taken += found >= 0;
+		}
+	}
+	report("inner word", "kernel", errors);
+	if (errors == 9)
+		report_taken("kernel", taken);
+}
+
+int main(void)
+{
+	// field A, roots a^0 to a^15, 242 symbols omitted; field B, eight errors
+	void *rs = init_rs_int(10, 1033, 0, 1, 16, 1023 - SYMBOLS);
+	struct bch_control *bch = bch_init(11, 8, 2053, false);
+	int errors[] = { 0, 1, 4, 8, 9 };
+	printf("medians of %d words\n", ROUNDS);
+	for (int k = 0; k < 5; k++)
+		outer(rs, errors[k]);
+	for (int k = 0; k < 5; k++)
+		inner(bch, errors[k]);
+	return 0;
+}

@@ -1,14 +1,19 @@
-// Single words of the two codes of an I.4 frame: whether a word is a code word, and the parity that completes data to one.
+// Single words of the two codes of an I.4 frame: whether a word is a code word, the parity that completes data to one, and the code word within eight
+// symbols or places of a word.
 //
 // Outer words (module reed_solomon), Reed-Solomon over field A, lent as 16-bit symbols:
 //     check    length and symbols, then the word's values at the sixteen roots, all zero for a code word
 //     encode   the data goes symbol by symbol through the division register; what the register then holds is the parity
+//     correct  the values at the sixteen roots are the syndromes, from which the decoder finds the errors
 // Inner words (module bch), binary BCH over field B, lent as bytes, place 0 the highest bit of the first:
 //     check    the remainder of the 2,040 places after division by the divisor, zero for a code word
 //     encode   the same remainder of the data followed by 88 zeros is the parity
+//     correct  the remainder gives the syndromes, from which the decoder finds the wrong places
+// The decoder (module decoder) is one for both codes.
 //
 // Every input is answered: an entry returns 0, or the number of the refusal; a refusal leaves the output buffer as it was. Where a word has more
-// than one fault, the order is 6 (its length), 3 (the size of the output buffer), 7 (a symbol above 1,023), 4 (no code word).
+// than one fault, the order is 6 (its length), 3 (the size of the output buffer), 7 (a symbol above 1,023), then 4 (no code word) or 5 (no code word
+// within eight).
 ghost use mathlib.Core.Path.{_≡_};
 ghost use Rattle.words.specs.Answers.{outerChecked, outerEncoded, innerChecked, innerEncoded, refusalOf, changedOf, outerCorrected, innerCorrected};
 
@@ -36,8 +41,8 @@ impl Outer {
 
     pub const LONGEST_DATA: usize = Outer::LONGEST - Outer::PARITY;
 
-    // A word within so many symbols of a code word can be corrected ("reach").
-    pub const RADIUS: usize = 8;
+    // A word within so many symbols of a code word is corrected ("reach").
+    pub const RADIUS: usize = decoder::RADIUS;
 }
 
 // The inner code. A word is lent as bytes of eight places each.
@@ -54,8 +59,8 @@ impl Inner {
 
     pub const DATA_BYTES: usize = Inner::BYTES - Inner::PARITY_BYTES;
 
-    // A word within so many places of a code word can be corrected.
-    pub const RADIUS: usize = 8;
+    // A word within so many places of a code word is corrected.
+    pub const RADIUS: usize = decoder::RADIUS;
 }
 
 // What a correction answers: how many symbols or places it changed, or the refusal's number.

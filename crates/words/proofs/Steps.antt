@@ -2,7 +2,8 @@
 pub mod Loops
 pub mod Shifting
 pub mod Limbs
-pub mod LimbDivision
+pub mod LimbProducts
+pub mod FourPlaces
 pub mod Rows
 pub mod Errors
 pub mod Inner

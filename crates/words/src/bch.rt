@@ -5,13 +5,13 @@ use crate::decoder::Errors;
 use crate::reed_solomon;
 ghost use mathlib.Core.Path.{_≡_};
 ghost use mathlib.Core.Bool.{cond};
-ghost use Prim.Native.Nat.{ℕ, _+_, _*_, _^_, _≤_, _<_};
+ghost use Prim.Native.Nat.{ℕ, _+_, _*_, _/_, _%_, _^_, _≤_, _<_};
 ghost use lib.ListN.{length};
 ghost use lib.Dec.{eqb};
 ghost use Rattle.fields.specs.Elements.{xor, scale, doubled, powersB, exponentsB};
 ghost use Rattle.words.specs.Places.{at, differs, bitAt, bitsOf, numberOf, bitOf, bytesOf};
 ghost use Rattle.words.specs.InnerCode.{valueOf, factors, divisor, remainder};
-ghost use Rattle.words.specs.Limbs.{number, Holds};
+ghost use Rattle.words.specs.Limbs.{number, Holds, residue, Residues};
 ghost use Rattle.words.specs.Decoder.{withErrors};
 ghost use Rattle.words.specs.InnerDecoding.{polynomialValue, Syndromes, isBit, isBinary, flips, InnerErrors, explains};
 
@@ -19,6 +19,11 @@ ghost use Rattle.words.specs.InnerDecoding.{polynomialValue, Syndromes, 
 const LOW_BITS: usize = 48;
 
 const LOW_VALUES: u64 = 1 << LOW_BITS;
+
+// A remainder, of degree below 88, has so many coefficients that are not low.
+const HIGH_BITS: usize = Inner::PARITY - LOW_BITS;
+
+const HIGH_VALUES: u64 = 1 << HIGH_BITS;
 
 // A binary polynomial: bit i of `low` is the coefficient of z^i, bit i of `high` that of z^(48 + i).
 pub struct Polynomial {
@@ -110,31 +115,92 @@ fn doubled(v: Polynomial, d: Polynomial) -> Polynomial
     ensures { λ r. ⌜ Holds (r .high) (r .low) (doubled 88 (number (d .high) (d .low)) (number (v .high) (v .low))) ⌝ }
 {
     let t = times_z(v);
-    if (t.high >> (Inner::PARITY - LOW_BITS)) % 2 == 0 {
+    if (t.high >> HIGH_BITS) % 2 == 0 {
         return t;
     }
     plus(t, d)
 }
 
-// Place i of the bytes; 0 past the end.
-fn place(bytes: &[u8], i: usize) -> u8
-    ensures { λ r. ⌜ (r ≡ bitAt (now (bytes .entry)) i) × (r < 2) ⌝ }
+// A division takes so many places a step.
+const STEP: usize = 4;
+
+const STEP_VALUES: usize = 1 << STEP;
+
+const STEP_MASK: u8 = (1 << STEP) - 1;
+
+const STEPS: usize = Inner::PLACES / STEP;
+
+// The remainder of k z^88 after division by the divisor d, where k is a polynomial of degree below 4.
+fn residue(d: Polynomial, k: usize) -> Polynomial
+    requires { ⌜ Holds (d .high) (d .low) divisor × (k < 16) ⌝ }
+    ensures { λ r. ⌜ Holds (r .high) (r .low) (residue divisor k) ⌝ }
 {
-    if i / 8 < bytes.len() {
-        return (bytes[i / 8] >> (7 - i % 8)) & 1;
+    let mut v = Polynomial {
+        high: (k as u64) << (HIGH_BITS - STEP),
+        low: 0,
+    };
+    let mut i: usize = 0;
+    while i < STEP {
+        v = doubled(v, d);
+        i += 1;
+    }
+    v
+}
+
+// The table of the division by d: entry k is the remainder of k z^88.
+fn residues(d: Polynomial) -> [Polynomial; STEP_VALUES]
+    requires { ⌜ Holds (d .high) (d .low) divisor ⌝ }
+    ensures { λ t. ⌜ Residues divisor 16 t ⌝ }
+{
+    let mut t = [constant(0); STEP_VALUES];
+    let mut k: usize = 0;
+    while k < STEP_VALUES {
+        t[k] = residue(d, k);
+        k += 1;
+    }
+    t
+}
+
+// The coefficients of z^84 to z^87 of v, as a number: z^4 takes them to z^88 and above.
+fn leading(v: Polynomial) -> usize
+    requires { ⌜ v .low < 2 ^ 48 ⌝ }
+    ensures { λ r. ⌜ r ≡ number (v .high) (v .low) / 2 ^ 84 % 16 ⌝ }
+{
+    (v.high >> (HIGH_BITS - STEP)) as usize % STEP_VALUES
+}
+
+// z^4 times v, without the terms from z^88 on, plus x.
+fn shifted(v: Polynomial, x: u8) -> Polynomial
+    requires { ⌜ (v .low < 2 ^ 48) × (x < 16) ⌝ }
+    ensures { λ r. ⌜ Holds (r .high) (r .low) (16 * number (v .high) (v .low) % 2 ^ 88 + x) ⌝ }
+{
+    Polynomial {
+        high: (v.high << STEP) % HIGH_VALUES + (v.low >> (LOW_BITS - STEP)),
+        low: (v.low << STEP) % LOW_VALUES + (x as u64),
+    }
+}
+
+// The four places from place 4 i on, half a byte, as a number; 0 past the end.
+fn four_places(bytes: &[u8], i: usize) -> u8
+    ensures { λ r. ⌜ (r ≡ numberOf 4 (λ j. bitAt (now (bytes .entry)) (4 * i + j))) × (r < 16) ⌝ }
+{
+    if i / 2 < bytes.len() {
+        return (bytes[i / 2] >> (STEP - STEP * (i % 2))) & STEP_MASK;
     }
     0
 }
 
-// The remainder of 2,040 places after division by the divisor d; places past the end of the bytes are 0.
+// The remainder of 2,040 places after division by the divisor d; places past the end of the bytes are 0. It takes four places a step, and so a
+// quarter of the steps: for the terms that come to z^88 and above, a step adds their remainder, which the table has.
 pub fn remainder(d: Polynomial, bytes: &[u8]) -> Polynomial
     requires { ⌜ Holds (d .high) (d .low) divisor ⌝ }
     ensures { λ r. ⌜ Holds (r .high) (r .low) (remainder 88 divisor (bitAt (now (bytes .entry))) 2040) ⌝ }
 {
+    let t = residues(d);
     let mut v = constant(0);
     let mut i: usize = 0;
-    while i < Inner::PLACES {
-        v = plus(doubled(v, d), constant(place(bytes, i)));
+    while i < STEPS {
+        v = plus(t[leading(v)], shifted(v, four_places(bytes, i)));
         i += 1;
     }
     v

@@ -23,14 +23,14 @@ use Rattle.words.proofs.Codes.LeastPolynomials.{divisor-degree}
 use Rattle.words.proofs.Codes.InnerWords.{inner-is}
 
 -- a word of at most m bits is its own remainder
-short : (m p : ℕ) (b : ℕ → ℕ) → ((i : ℕ) → b i < 2) → (n : ℕ) → n ≤ m → remainder m p b n ≡ numberOf n b
+pub remainder-short : (m p : ℕ) (b : ℕ → ℕ) → ((i : ℕ) → b i < 2) → (n : ℕ) → n ≤ m → remainder m p b n ≡ numberOf n b
 unfolding horner numberOf
-short m p b bits zero h = refl
-short m p b bits (suc n) h =
+remainder-short m p b bits zero h = refl
+remainder-short m p b bits (suc n) h =
     let k : 2 ^ suc n ≤ 2 ^ m = pow-mono h in
     let v = numberOf n b in
     let e : 2 * v ≡ v * 2 ^ 1 = omega arith in
-    rw (short m p b bits n (omega arith), doubled-below m p v (omega (arith, numberOf-lt b bits n)), e) (xor-shifted v 1 (b n) (bits n))
+    rw (remainder-short m p b bits n (omega arith), doubled-below m p v (omega (arith, numberOf-lt b bits n)), e) (xor-shifted v 1 (b n) (bits n))
 
 pub inner-remainder-lt : (b : ℕ → ℕ) → ((i : ℕ) → b i < 2) → (n : ℕ) → remainder 88 divisor b n < 2 ^ 88
 inner-remainder-lt = remainder-lt 88 divisor (lit< tt) divisor-degree
@@ -50,7 +50,7 @@ parity-remainder : (d : List ℕ) → allBelow 2 d ≡ true → remainder 88 div
 unfolding innerParity innerRemainder
 parity-remainder d h =
     let r = innerRemainder d in
-    horner-same (doubled 88 divisor) _ _ 88 (λ i l. tabulate-at 88 (bitOf 88 r) i 0 l) ∙ short 88 divisor (bitOf 88 r) (bitOf-lt 88 r) 88 (le-refl 88)
+    horner-same (doubled 88 divisor) _ _ 88 (λ i l. tabulate-at 88 (bitOf 88 r) i 0 l) ∙ remainder-short 88 divisor (bitOf 88 r) (bitOf-lt 88 r) 88 (le-refl 88)
     ∙ numberOf-bits 88 r (inner-remainder-lt (at d) (below-at 2 d (lit< tt) h) 2040)
 
 parity-bits : (d : List ℕ) → allBelow 2 (innerParity d) ≡ true
@@ -71,7 +71,7 @@ inner-only d q long h =
     let w = inner-is (d ++ q) h in
     let s = innerRemainder d in
     let bits : (i : ℕ) → at q i < 2 = λ i. rw (getD-append-add d q i 0) at (w .bits (length d + i)) in
-    let sum : xor s (numberOf 88 (at q)) ≡ 0 = ap (xor s) (sym (short 88 divisor (at q) bits 88 (le-refl 88))) ∙ sym (followed d q long) ∙ w .divides in
+    let sum : xor s (numberOf 88 (at q)) ≡ 0 = ap (xor s) (sym (remainder-short 88 divisor (at q) bits 88 (le-refl 88))) ∙ sym (followed d q long) ∙ w .divides in
     let r : numberOf 88 (at q) ≡ s = sym (xor-cancel s _) ∙ ap (xor s) sum ∙ xor-zero-r s in
     let e : length d + length q ≡ 2040 = sym (length-append d q) ∙ w .long in
     tabulate-is 88 _ q 0 (omega arith) (λ i l. rw (← r) (sym (bitOf-number (at q) bits 88 i l)))

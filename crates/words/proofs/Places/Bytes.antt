@@ -4,9 +4,10 @@ use mathlib.Core.Bool.{true}
 use mathlib.Core.List.{List}
 use Prim.Native.Nat.{ℕ, zero, suc, _+_, _-_, _*_, _/_, _%_, _^_, _≤_, _<_}
 use native.Mathlib.Decide.{decLt}
+use native.Mathlib.Nat.{zero-div}
 use native.Mathlib.Numerals.{add-one}
 use native.Mathlib.Omega.{arith}
-use lib.Bits.{bitAnd, and-mask}
+use lib.Bits.{bitAnd, and-mask, mask-lt}
 use lib.ListN.{length, getD, List·getD-eq-default}
 use lib.Pow.{field, mod-mod-pow, shr-shr}
 use Rattle.fields.specs.Lists.{tabulate}
@@ -59,13 +60,34 @@ bits-at bytes i = go (decLt i (8 * length bytes))
 pub bits-below : (bytes : List ℕ) → allBelow 2 (bitsOf bytes) ≡ true
 bits-below bytes = below-all 2 (bitsOf bytes) (λ i l. rw (bits-at bytes i) (bitAt-lt bytes i))
 
--- a place read
-pub place-read : (bytes : List ℕ) (i : ℕ) → bitAnd (getD bytes (i / 8) 0 / 2 ^ (7 - i % 8)) 1 ≡ bitAt bytes i
-unfolding bitAt bitOf
-place-read bytes i = let e : 7 - i % 8 ≡ 8 - suc (i % 8) = omega arith in rw e (and-mask (getD bytes (i / 8) 0 / 2 ^ (8 - suc (i % 8))) 1)
+-- n places of one byte, from place i on, make a part of it
+places-read : (bytes : List ℕ) (i n : ℕ) → i % 8 + n ≤ 8 → numberOf n (λ j. bitAt bytes (i + j)) ≡ at bytes (i / 8) / 2 ^ (8 - (i % 8 + n)) % 2 ^ n
+unfolding bitAt
+places-read bytes i n h = numberOf-same n _ _ place ∙ number-of-bits 8 (at bytes (i / 8)) (i % 8) n h
+  where
+    place : (j : ℕ) → j < n → bitOf 8 (at bytes ((i + j) / 8)) ((i + j) % 8) ≡ bitOf 8 (at bytes (i / 8)) (i % 8 + j)
+    place j l =
+        let q : (i + j) / 8 ≡ i / 8 = omega arith in
+        let r : (i + j) % 8 ≡ i % 8 + j = omega arith in
+        rw (q, r)
 
-pub place-lt : (bytes : List ℕ) (i : ℕ) → bitAnd (getD bytes (i / 8) 0 / 2 ^ (7 - i % 8)) 1 < 2
-place-lt bytes i = rw (place-read bytes i) (bitAt-lt bytes i)
+-- four places, half a byte: by a shift and a mask; past the end they are 0
+module _ (bytes : List ℕ) (i : ℕ) where
+  half : numberOf 4 (λ j. bitAt bytes (4 * i + j)) ≡ at bytes (i / 2) / 2 ^ (4 - 4 * (i % 2)) % 2 ^ 4
+  half =
+      let q : 4 * i / 8 ≡ i / 2 = omega arith in
+      let r : 4 * i % 8 ≡ 4 * (i % 2) = omega arith in
+      let e : 8 - (4 * (i % 2) + 4) ≡ 4 - 4 * (i % 2) = omega arith in
+      rw (q, r, e) at (places-read bytes (4 * i) 4 (omega arith))
+
+  pub half-read : bitAnd (getD bytes (i / 2) 0 / 2 ^ (4 - 4 * (i % 2))) 15 ≡ numberOf 4 (λ j. bitAt bytes (4 * i + j))
+  half-read = and-mask (getD bytes (i / 2) 0 / 2 ^ (4 - 4 * (i % 2))) 4 ∙ sym half
+
+  pub half-past : length bytes ≤ i / 2 → 0 ≡ numberOf 4 (λ j. bitAt bytes (4 * i + j))
+  half-past h = sym (half ∙ rw (List·getD-eq-default bytes 0 {n = i / 2} h, zero-div))
+
+pub half-lt : (x : ℕ) → bitAnd x 15 < 16
+half-lt x = mask-lt x 4
 
 -- bytes stored one after the other
 pub bytes-end : (n : ℕ) (b : ℕ → ℕ) (k : ℕ) (out : List ℕ) → Filled n (λ i. numberOf 8 (λ j. b (8 * i + j))) k out → n ≤ k → out ≡ bytesOf n b

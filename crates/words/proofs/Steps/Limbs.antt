@@ -21,9 +21,9 @@ pub plus-made : (a b c d : ℕ) → b < 2 ^ 48 → d < 2 ^ 48 → Holds (bitXor 
 unfolding number xor
 plus-made a b c d hb hd = record { value = sym (xor-block 48 a c b d hb hd); split = xor-lt 48 b d hb hd }
 
-pub shifted-made : (h l : ℕ) → l < 2 ^ 48 → Holds (2 * h + l / 2 ^ 47) (2 * l % 281474976710656) (2 * number h l)
+pub times-z-made : (h l : ℕ) → l < 2 ^ 48 → Holds (2 * h + l / 2 ^ 47) (2 * l % 281474976710656) (2 * number h l)
 unfolding number
-shifted-made h l b = record { value = omega arith; split = omega arith }
+times-z-made h l b = record { value = omega arith; split = omega arith }
 
 -- times a bit
 pub scaled-none : (b h l x : ℕ) → b ≡ 0 → Holds h l 0 → Holds h l (scale b x)
@@ -35,16 +35,16 @@ unfolding scale
 scaled-one zero h l n s = absurd (n refl)
 scaled-one (suc b) h l n s = record { value = refl; split = s }
 
--- the term z^88 is bit 40 of the upper number
-top : (h l : ℕ) → l < 2 ^ 48 → number h l / 2 ^ 88 ≡ h / 2 ^ 40
+-- the terms from z^(48 + k) on are those of the upper number from bit k on
+top : (h l k : ℕ) → l < 2 ^ 48 → number h l / 2 ^ (48 + k) ≡ h / 2 ^ k
 unfolding number
-top h l s =
+top h l k s =
     let e : (h * 2 ^ 48 + l) / 2 ^ 48 ≡ h = omega arith in
-    sym (shr-shr (h * 2 ^ 48 + l) 48 40) ∙ ap (λ (x : ℕ). x / 2 ^ 40) e
+    sym (shr-shr (h * 2 ^ 48 + l) 48 k) ∙ ap (λ (x : ℕ). x / 2 ^ k) e
 
 module _ (h l x : ℕ) (twice : Holds h l (2 * x)) (d : ℕ) where
   top-bit : 2 * x / 2 ^ 88 % 2 ≡ h / 2 ^ 40 % 2
-  top-bit = ap (λ (y : ℕ). y / 2 ^ 88 % 2) (sym (twice .value)) ∙ ap (λ (y : ℕ). y % 2) (top h l (twice .split))
+  top-bit = ap (λ (y : ℕ). y / 2 ^ 88 % 2) (sym (twice .value)) ∙ ap (λ (y : ℕ). y % 2) (top h l 40 (twice .split))
 
   pub doubled-below : h / 2 ^ 40 % 2 ≡ 0 → Holds h l (doubled 88 d x)
   unfolding doubled scale
@@ -59,6 +59,16 @@ module _ (h l x : ℕ) (twice : Holds h l (2 * x)) (d : ℕ) where
         value = s .value ∙ ap (λ (y : ℕ). xor y d) (twice .value) ∙ xor-comm (2 * x) d ∙ sym (ap (λ (t : ℕ). xor (scale t d) (2 * x)) (top-bit ∙ e));
         split = s .split;
       }
+
+-- times z^4: the terms from z^88 on, and the others
+module _ (h l : ℕ) (s : l < 2 ^ 48) where
+  pub leading-made : h / 2 ^ 36 % 16 ≡ number h l / 2 ^ 84 % 16
+  leading-made = ap (λ (x : ℕ). x % 16) (sym (top h l 36 s))
+
+  pub shifted-made : (x : ℕ) → x < 16 →
+      Holds (h * 2 ^ 4 % 2 ^ 64 % 2 ^ 40 + l / 2 ^ 44) (l * 2 ^ 4 % 2 ^ 64 % 2 ^ 48 + x) (16 * number h l % 2 ^ 88 + x)
+  unfolding number
+  shifted-made x b = record { value = omega arith; split = omega arith }
 
 pub zero-high : (h l : ℕ) → h ≡ 0 → eqb l 0 ≡ eqb (number h l) 0
 unfolding number

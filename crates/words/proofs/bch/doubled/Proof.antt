@@ -7,9 +7,6 @@ use Rattle.words.proofs.bch.doubled.Tie as tie
 times-z-requires : tie.Need-times-z-requires
 times-z-requires c κs = search needs
 
-sub-if1 : tie.Need-sub-if1
-sub-if1 c = search needs
-
 shr-if1 : tie.Need-shr-if1
 shr-if1 c = search needs
 
@@ -23,5 +20,4 @@ returns-2 : tie.Need-returns-2
 returns-2 c = search (needs, doubled-above)
 
 pub doubled-spec : {M : Type 1} → statement M
-doubled-spec =
-    tie.close (tie.spec times-z-requires sub-if1 shr-if1 returns plus-requires returns-2)
+doubled-spec = tie.close (tie.spec times-z-requires shr-if1 returns plus-requires returns-2)

@@ -2,7 +2,7 @@
 use Prim.Native.Nat.{_-_, _≤_}
 use borrow.Author.Needs.{needs}
 use Rattle.words.specs.Limbs.{number, Holds}
-use Rattle.words.proofs.Steps.LimbDivision.{productSoFar, product-none, product-room, product-next, product-end}
+use Rattle.words.proofs.Steps.LimbProducts.{productSoFar, product-none, product-room, product-next, product-end}
 use Rattle.words.proofs.bch.times.Statement.{statement}
 use Rattle.words.proofs.bch.times.Tie as tie
 

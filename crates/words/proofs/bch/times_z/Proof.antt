@@ -1,6 +1,6 @@
 -- `words::bch::times_z` meets its contract. Assumes nothing.
 use borrow.Author.Needs.{needs}
-use Rattle.words.proofs.Steps.Limbs.{shifted-made}
+use Rattle.words.proofs.Steps.Limbs.{times-z-made}
 use Rattle.words.proofs.bch.times_z.Statement.{statement}
 use Rattle.words.proofs.bch.times_z.Tie as tie
 
@@ -20,7 +20,7 @@ mul-t7 : tie.Need-mul-t7
 mul-t7 c = search needs
 
 returns : tie.Need-returns
-returns c = search (needs, shifted-made)
+returns c = search (needs, times-z-made)
 
 pub times-z-spec : {M : Type 1} → statement M
 times-z-spec = tie.close (tie.spec mul-t2 sub-t3 shr-t5 add-t6 mul-t7 returns)

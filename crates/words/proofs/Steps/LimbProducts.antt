@@ -1,7 +1,6 @@
--- Loops over binary polynomials kept in two numbers: a product, the divisor formed from its factors, the remainder of a word. Assumes nothing.
+-- Loops over binary polynomials kept in two numbers: a product, and the divisor formed from its factors. Assumes nothing.
 use mathlib.Core.Path.{_≡_, refl, sym, ap, ap₂, _∙_}
 use mathlib.Core.Bool.{true}
-use mathlib.Core.List.{List}
 use Prim.Native.Nat.{ℕ, zero, suc, _+_, _-_, _*_, _/_, _%_, _^_, _≤_, _<_}
 use native.Mathlib.Nat.{add-suc, pow-suc}
 use native.Mathlib.Numerals.{add-one}
@@ -9,15 +8,13 @@ use native.Mathlib.Omega.{arith}
 use borrow.Author.Tests.{ltb-true}
 use lib.Dec.{ltb}
 use lib.Pow.{pow-mono, pow-pos, shr-shr}
-use Rattle.fields.specs.Elements.{xor, scale, doubled}
+use Rattle.fields.specs.Elements.{xor, scale}
 use Rattle.fields.proofs.Doubling.{scale-lt}
 use Rattle.fields.proofs.Xor.{xor-lt}
-use Rattle.words.specs.Places.{at, every, bitAt, horner}
-use Rattle.words.specs.InnerCode.{valueOf, factors, productOf, divisor, remainder}
+use Rattle.words.specs.Places.{at, every}
+use Rattle.words.specs.InnerCode.{valueOf, factors, productOf, divisor}
 use Rattle.words.specs.Limbs.{number, Holds}
 use Rattle.words.proofs.Places.Tests.{every-at}
-use Rattle.words.proofs.Places.Bytes.{bitAt-lt}
-use Rattle.words.proofs.Codes.InnerParity.{inner-remainder-lt}
 
 -- a product by a polynomial of twelve coefficients, the highest first
 product-lt : (y n r : ℕ) → y < 2 ^ 88 → valueOf (λ u. 2 * u) y n r < 2 ^ (88 + n)
@@ -94,29 +91,3 @@ module _ (h l i : ℕ) where
     pub factors-end : i ≤ 8 → 8 ≤ i → Holds h l divisor
     unfolding divisor
     factors-end lo hi = let e : i ≡ 8 = omega arith in rw e at so-far
-
--- the remainder of the first i places
-module _ (bytes : List ℕ) (h l i : ℕ) where
-  pub remainder-none : Holds h l 0 → Holds h l (remainder 88 divisor (bitAt bytes) 0)
-  unfolding horner
-  remainder-none z = z
-
-  module _ (so-far : Holds h l (remainder 88 divisor (bitAt bytes) i)) where
-    pub remainder-room : h < 2 ^ 60
-    unfolding number
-    remainder-room =
-        let v : h * 2 ^ 48 + l ≡ remainder 88 divisor (bitAt bytes) i = so-far .value in
-        let s = inner-remainder-lt (bitAt bytes) (bitAt-lt bytes) i in
-        omega arith
-
-    pub remainder-next : (dh dl th tl b ch cl a c : ℕ) → Holds dh dl divisor → Holds th tl (doubled 88 (number dh dl) (number h l)) → b ≡ bitAt bytes i → Holds ch cl b →
-        Holds a c (xor (number th tl) (number ch cl)) → Holds a c (remainder 88 divisor (bitAt bytes) (i + 1))
-    unfolding horner
-    remainder-next dh dl th tl b ch cl a c d t e u r =
-        record {
-          value = r .value ∙ ap₂ xor (t .value ∙ ap₂ (doubled 88) (d .value) (so-far .value)) (u .value ∙ e) ∙ sym (ap (remainder 88 divisor (bitAt bytes)) (add-one i));
-          split = r .split;
-        }
-
-    pub remainder-end : i ≤ 2040 → 2040 ≤ i → Holds h l (remainder 88 divisor (bitAt bytes) 2040)
-    remainder-end lo hi = let e : i ≡ 2040 = omega arith in rw e at so-far

@@ -2,24 +2,31 @@
 use mathlib.Core.Path.{_≡_}
 use mathlib.Core.Bool.{Bool, _&&_, _||_}
 use mathlib.Core.List.{List}
-use Prim.Native.Nat.{ℕ, _+_, _*_, _<_}
+use Prim.Native.Nat.{ℕ, _+_, _-_, _*_, _<_}
 use lib.Dec.{eqb}
 use lib.ListN.{length}
 use Rattle.fields.specs.Lists.{tabulate}
-use Rattle.fields.specs.Elements.{powersB, exponentsB}
+use Rattle.fields.specs.Elements.{xor, powersB, exponentsB}
 use Rattle.fields.specs.ByTables.{tableProduct, tablePower}
-use Rattle.words.specs.Places.{at, every, allBelow, bitOf, bitAt, horner, differs}
+use Rattle.words.specs.Places.{at, every, allBelow, bitOf, bitAt, differs}
 use Rattle.words.specs.InnerCode.{divisor, remainder}
-use Rattle.words.specs.Decoder.{locator, Decoded}
+use Rattle.words.specs.Decoder.{locator, xorTo, Decoded}
 
--- the value at x of the binary polynomial r of degree below 88, over a lent field
-unfoldable pub polynomialValue : List ℕ → List ℕ → ℕ → ℕ → ℕ
-polynomialValue es ls r x = horner (λ v. tableProduct es ls v x) (bitOf 88 r) 88
+-- the value at a^e of the binary polynomial r of degree below 88, over a lent field: the sum of a^(e i) over its coefficients i that are 1
+unfoldable pub powersValue : List ℕ → ℕ → ℕ → ℕ
+powersValue es r e = xorTo 88 (λ i. bitOf 88 r (87 - i) * tablePower es (e * i))
 
--- the first 2 n of the values t at a, a^2, .. a^16: those of the polynomial r at odd powers, squares at even powers
-pub record Syndromes (es ls : List ℕ) (r n : ℕ) (t : List ℕ) : Type 0 where
+-- its values at a, a^3, .. a^15; and such values w with those of the term c z^i added
+unfoldable pub oddValues : List ℕ → ℕ → List ℕ
+oddValues es r = tabulate 8 (λ j. powersValue es r (2 * j + 1))
+
+unfoldable pub plusTerm : List ℕ → List ℕ → ℕ → ℕ → List ℕ
+plusTerm es w c i = tabulate 8 (λ j. xor (at w j) (c * tablePower es ((2 * j + 1) * i)))
+
+-- the first 2 n of the values t at a, a^2, .. a^16: those in w at odd powers, squares at even powers
+pub record Syndromes (es ls w : List ℕ) (n : ℕ) (t : List ℕ) : Type 0 where
   pub long : length t ≡ 16
-  pub odd : (i : ℕ) → i < n → at t (2 * i) ≡ polynomialValue es ls r (tablePower es (2 * i + 1))
+  pub odd : (i : ℕ) → i < n → at t (2 * i) ≡ at w i
   pub even : (i : ℕ) → i < n → at t (2 * i + 1) ≡ tableProduct es ls (at t i) (at t i)
 
 -- an error's value is 0 or the locator x, as that of a wrong place is; and all of the first k are
@@ -36,7 +43,7 @@ flips values = tabulate 8 (λ k. differs (at values k) 0)
 -- the errors found in the 2,040 places of a word lent as bytes
 pub record InnerErrors (w places values : List ℕ) (count : ℕ) (left : List ℕ) : Type 0 where
   pub t : List ℕ
-  pub syndromes : Syndromes powersB exponentsB (remainder 88 divisor (bitAt w) 2040) 8 t
+  pub syndromes : Syndromes powersB exponentsB (oddValues powersB (remainder 88 divisor (bitAt w) 2040)) 8 t
   pub decoded : Decoded powersB exponentsB t 2040 places values count left
   pub left-long : length left ≡ 16
 

@@ -13,7 +13,7 @@ ghost use Rattle.words.specs.Places.{at, differs, bitAt, bitsOf, numberO
 ghost use Rattle.words.specs.InnerCode.{valueOf, factors, divisor, remainder};
 ghost use Rattle.words.specs.Limbs.{number, Holds, residue, Residues};
 ghost use Rattle.words.specs.Decoder.{withErrors};
-ghost use Rattle.words.specs.InnerDecoding.{polynomialValue, Syndromes, isBit, isBinary, flips, InnerErrors, explains};
+ghost use Rattle.words.specs.InnerDecoding.{oddValues, plusTerm, Syndromes, isBit, isBinary, flips, InnerErrors, explains};
 
 // Coefficients below z^48, the low ones, stand in one number, the others in another.
 const LOW_BITS: usize = 48;
@@ -239,7 +239,7 @@ pub fn store(v: Polynomial, out: &mut [u8])
 // Coefficient k of the 88 of v, the highest first.
 fn coefficient(v: Polynomial, k: usize) -> u16
     requires { ⌜ (v .low < 2 ^ 48) × (k < 88) ⌝ }
-    ensures { λ r. ⌜ r ≡ bitOf 88 (number (v .high) (v .low)) k ⌝ }
+    ensures { λ r. ⌜ (r ≡ bitOf 88 (number (v .high) (v .low)) k) × (r < 2) ⌝ }
 {
     let shift = Inner::PARITY - 1 - k;
     if shift < LOW_BITS {
@@ -248,29 +248,52 @@ fn coefficient(v: Polynomial, k: usize) -> u16
     ((v.high >> (shift - LOW_BITS)) % 2) as u16
 }
 
-// The value of v, of degree below 88, at the element x of a field.
-fn value(exp: &[u16], log: &[u16], v: Polynomial, x: u16) -> u16
-    requires { ⌜ v .low < 2 ^ 48 ⌝ }
-    ensures { λ r. ⌜ r ≡ polynomialValue (now (exp .entry)) (now (log .entry)) (number (v .high) (v .low)) x ⌝ }
+// The values of a polynomial at a, a^3, .. a^15.
+struct OddValues {
+    at: [u16; decoder::RADIUS],
+}
+
+// The values w with those of the term c z^i added. A product by the bit c, not a branch on it: coefficients cannot be predicted.
+fn plus_term(exp: &[u16], w: OddValues, c: u16, i: usize) -> OddValues
+    requires { ⌜ (c < 2) × (i < 88) ⌝ }
+    ensures { λ r. ⌜ r .at ≡ plusTerm (now (exp .entry)) (w .at) c i ⌝ }
 {
-    let mut y = 0;
-    let mut k: usize = 0;
-    while k < Inner::PARITY {
-        y = reed_solomon::sum(fields::product(exp, log, y, x), coefficient(v, k));
-        k += 1;
+    let mut at = [0u16; decoder::RADIUS];
+    let mut j: usize = 0;
+    while j < decoder::RADIUS {
+        let x = fields::power(exp, (2 * (j as u16) + 1) * (i as u16));
+        at[j] = reed_solomon::sum(w.at[j], c * x);
+        j += 1;
     }
-    y
+    OddValues { at }
+}
+
+// The values of v, of degree below 88: at a^e the sum of a^(e i) over its coefficients i that are 1.
+fn odd_values(exp: &[u16], v: Polynomial) -> OddValues
+    requires { ⌜ v .low < 2 ^ 48 ⌝ }
+    ensures { λ r. ⌜ r .at ≡ oddValues (now (exp .entry)) (number (v .high) (v .low)) ⌝ }
+{
+    let mut w = OddValues {
+        at: [0u16; decoder::RADIUS],
+    };
+    let mut i: usize = 0;
+    while i < Inner::PARITY {
+        w = plus_term(exp, w, coefficient(v, Inner::PARITY - 1 - i), i);
+        i += 1;
+    }
+    w
 }
 
 // The values of a word at a, a^2, .. a^16, from its remainder v: at the odd powers they are those of the remainder, at the even powers squares.
 fn syndromes(exp: &[u16], log: &[u16], v: Polynomial) -> [u16; decoder::SYNDROMES]
     requires { ⌜ v .low < 2 ^ 48 ⌝ }
-    ensures { λ r. ⌜ Syndromes (now (exp .entry)) (now (log .entry)) (number (v .high) (v .low)) 8 r ⌝ }
+    ensures { λ r. ⌜ Syndromes (now (exp .entry)) (now (log .entry)) (oddValues (now (exp .entry)) (number (v .high) (v .low))) 8 r ⌝ }
 {
+    let odd = odd_values(exp, v);
     let mut t = [0u16; decoder::SYNDROMES];
     let mut i: usize = 0;
     while i < decoder::RADIUS {
-        t[2 * i] = value(exp, log, v, fields::power(exp, 2 * (i as u16) + 1));
+        t[2 * i] = odd.at[i];
         t[2 * i + 1] = fields::product(exp, log, t[i], t[i]);
         i += 1;
     }

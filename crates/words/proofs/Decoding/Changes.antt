@@ -108,7 +108,7 @@ module _ (places values : List ℕ) where
 
 -- ---- syndromes
 
-xorTo-same : (n : ℕ) (f g : ℕ → ℕ) → ((i : ℕ) → i < n → f i ≡ g i) → xorTo n f ≡ xorTo n g
+pub xorTo-same : (n : ℕ) (f g : ℕ → ℕ) → ((i : ℕ) → i < n → f i ≡ g i) → xorTo n f ≡ xorTo n g
 unfolding xorTo
 xorTo-same zero f g h = refl
 xorTo-same (suc n) f g h = ap₂ xor (xorTo-same n f g (λ i l. h i (omega arith))) (h n (le-refl (suc n)))

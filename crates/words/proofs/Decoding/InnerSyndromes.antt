@@ -4,28 +4,33 @@ use mathlib.Core.Bool.{Bool, true, false, _||_, cond}
 use mathlib.Core.List.{List}
 use Prim.Native.Nat.{ℕ, zero, suc, _+_, _-_, _*_, _^_, _≤_, _<_}
 use native.Mathlib.Decide.{ℕ-discrete}
+use native.Mathlib.Nat.{mul-suc, one-mul, sub-self, zero-mul}
 use native.Mathlib.Omega.{arith}
 use borrow.Author.Tests.{eq-eqb, eqb-true, ne-eqb}
 use lib.Dec.{eqb}
 use lib.ListN.{length}
-use Rattle.fields.specs.Elements.{xor, powersB, exponentsB}
+use Rattle.fields.specs.Elements.{xor, times, power, powersB, exponentsB}
+use Rattle.fields.specs.Field.{Field}
 use Rattle.fields.specs.ByTables.{tableProduct, tablePower}
 use Rattle.fields.proofs.ByTables.{table-power}
 use Rattle.fields.proofs.Instances.{field-b, lent-b}
+use Rattle.fields.proofs.Lists.{tabulate-at}
+use Rattle.fields.proofs.Xor.{xor-comm, additive-zero}
 use Rattle.words.specs.Places.{at, bitOf, horner, value, differs}
 use Rattle.words.specs.InnerCode.{powerB, divisor, remainder}
-use Rattle.words.specs.Decoder.{Tables, locator, syndrome}
-use Rattle.words.specs.InnerDecoding.{polynomialValue, Syndromes, isBit}
+use Rattle.words.specs.Decoder.{Tables, locator, xorTo, syndrome}
+use Rattle.words.specs.InnerDecoding.{powersValue, oddValues, Syndromes, isBit}
 use Rattle.words.proofs.Places.Numbers.{bitOf-lt}
 use Rattle.words.proofs.Algebra.Field.{mul-comm, mul-add, mul-zero}
 use Rattle.words.proofs.Algebra.PowerSums.{powerSum}
 use Rattle.words.proofs.Algebra.Values.{value-lt}
 use Rattle.words.proofs.Algebra.Tables.{lentOps, lent-laws, lent-powers, exponents-length, syndrome-is}
+use Rattle.words.proofs.Codes.Horner.{Additive, iter, iter-sum, horner-front}
 use Rattle.words.proofs.Codes.Lent.{product-same, horner-lent}
 use Rattle.words.proofs.Codes.Squares.{squares}
 use Rattle.words.proofs.Codes.InnerWords.{by-doubling}
 use Rattle.words.proofs.Codes.InnerRoots.{remainder-bits}
-use Rattle.words.proofs.Decoding.Changes.{value-syndrome}
+use Rattle.words.proofs.Decoding.Changes.{xorTo-same, value-syndrome}
 
 -- bits times locators
 module _ (es ls : List ℕ) (T : Tables es ls) where
@@ -105,17 +110,53 @@ value-located b bits j =
     sym (lent-value-b (suc j) b bits 2040)
     ∙ value-syndrome powersB exponentsB 2040 tables-b b (λ i. rw log-length (omega (arith, bits i))) (suc j) ∙ syndrome-next powersB exponentsB tables-b 2040 b j
 
+-- the value of a binary word at a^e: the sum of a^(e i) over its symbols that are 1, the last of them with i = 0
+module _ (m p : ℕ) (F : Field m p) (e : ℕ) where
+  abbrev step : ℕ → ℕ
+  step v = times m p v (power m p e)
+
+  step-sum : Additive step
+  step-sum x y = F .sum-times x y (power m p e)
+
+  steps-one : (n : ℕ) → iter step n 1 ≡ power m p (e * n)
+  unfolding iter power
+  steps-one zero = let q : e * 0 ≡ 0 = omega arith in rw q
+  steps-one (suc n) = rw (mul-suc, steps-one n) (F .power-sum (e * n) e)
+
+  steps-bit : (n t : ℕ) → t < 2 → iter step n t ≡ t * power m p (e * n)
+  steps-bit n zero h = rw zero-mul (additive-zero (iter step n) (iter-sum step step-sum n))
+  steps-bit n (suc zero) h = rw one-mul (steps-one n)
+  steps-bit n (suc (suc t)) h = absurd (omega arith)
+
+  value-powers : (b : ℕ → ℕ) → ((i : ℕ) → b i < 2) → (n : ℕ) → value m p (power m p e) b n ≡ xorTo n (λ i. b (n - suc i) * power m p (e * i))
+  unfolding horner xorTo
+  value-powers b bits zero = refl
+  value-powers b bits (suc n) =
+      horner-front step step-sum b n ∙ xor-comm _ _
+      ∙ ap₂ xor (value-powers (λ i. b (suc i)) (λ i. bits (suc i)) n ∙ xorTo-same n _ _ shifted) (rw (sub-self (suc n)) (steps-bit n (b 0) (bits 0)))
+    where
+      shifted : (i : ℕ) → i < n → b (suc (n - suc i)) * power m p (e * i) ≡ b (suc n - suc i) * power m p (e * i)
+      shifted i l = let q : suc (n - suc i) ≡ suc n - suc i = omega arith in rw q
+
+odd-value-b : (r j : ℕ) → j < 8 → at (oddValues powersB r) j ≡ value 11 2053 (powerB (2 * j + 1)) (bitOf 88 r) 88
+unfolding oddValues powersValue
+odd-value-b r j h = tabulate-at 8 _ j 0 h ∙ xorTo-same 88 _ _ same ∙ sym (value-powers 11 2053 field-b e (bitOf 88 r) (bitOf-lt 88 r) 88)
+  where
+    e : ℕ
+    e = 2 * j + 1
+
+    same : (i : ℕ) → i < 88 → bitOf 88 r (87 - i) * tablePower powersB (e * i) ≡ bitOf 88 r (88 - suc i) * powerB (e * i)
+    same i l = let q : 87 - i ≡ 88 - suc i = omega arith in rw (q, table-power 11 2053 field-b (e * i))
+
 -- the values computed from the remainder are those of the word
-module _ (b : ℕ → ℕ) (bits : (i : ℕ) → b i < 2) (t : List ℕ) (S : Syndromes powersB exponentsB (remainder 88 divisor b 2040) 8 t) where
+module _ (b : ℕ → ℕ) (bits : (i : ℕ) → b i < 2) (t : List ℕ) (S : Syndromes powersB exponentsB (oddValues powersB (remainder 88 divisor b 2040)) 8 t) where
   abbrev Known : ℕ → Type 0
   Known e = at t (e - 1) ≡ value 11 2053 (powerB e) b 2040
 
   known-odd : (j : ℕ) → j < 8 → Known (2 * j + 1)
-  unfolding polynomialValue
   known-odd j h =
-      let r = remainder 88 divisor b 2040 in
       let q : 2 * j + 1 - 1 ≡ 2 * j = omega arith in
-      rw q (S .odd j h ∙ lent-value-b (2 * j + 1) (bitOf 88 r) (bitOf-lt 88 r) 88 ∙ remainder-bits b bits 2040 j h)
+      rw q (S .odd j h ∙ odd-value-b (remainder 88 divisor b 2040) j h ∙ remainder-bits b bits 2040 j h)
 
   known-twice : (e : ℕ) → 0 < e → e ≤ 8 → Known e → Known (e + e)
   known-twice e h l k =

@@ -4,13 +4,13 @@ use mathlib.Core.Bool.{Bool, true, false, not, cond}
 use mathlib.Core.List.{List}
 use Prim.Native.Nat.{ℕ, suc, _+_, _-_, _*_, _/_, _%_, _^_, _≤_, _<_}
 use native.Mathlib.Decide.{ℕ-discrete}
-use native.Mathlib.Nat.{not-suc-le-zero}
+use native.Mathlib.Nat.{mul-le-mul-right, not-suc-le-zero}
 use native.Mathlib.Numerals.{add-one}
 use native.Mathlib.Omega.{arith}
 use borrow.Author.Tests.{eq-eqb, ne-eqb, eqb-true, not-true, not-false}
 use lib.Bits.{bitXor}
 use lib.Dec.{eqb}
-use lib.ListN.{length, getD, set, length-set}
+use lib.ListN.{length, getD, set, replicate, length-set}
 use lib.Pow.{field, mod-mod-pow, shr-shr}
 use lib.Seq.{getD-set-same, getD-set-other}
 use Rattle.fields.specs.Elements.{xor, powersB, exponentsB}
@@ -19,11 +19,12 @@ use Rattle.fields.specs.Lists.{tabulate}
 use Rattle.fields.proofs.Instances.{field-b}
 use Rattle.fields.proofs.Lists.{tabulate-at, tabulate-same}
 use Rattle.fields.proofs.Xor.{xor-zero-r, xor-assoc, xor-high, xor-bit}
-use Rattle.words.specs.Places.{at, every, allBelow, bitOf, bitAt, bitsOf, horner, differs}
+use Rattle.words.specs.Places.{at, every, allBelow, bitOf, bitAt, bitsOf, differs}
 use Rattle.words.specs.InnerCode.{divisor, remainder}
 use Rattle.words.specs.Limbs.{number, Holds}
 use Rattle.words.specs.Decoder.{Tables, locator, xorTo, errorAt, Decoded, withErrors}
-use Rattle.words.specs.InnerDecoding.{polynomialValue, Syndromes, isBit, isBinary, flips, InnerErrors, explains}
+use Rattle.words.specs.InnerDecoding.{powersValue, oddValues, plusTerm, Syndromes, isBit, isBinary, flips, InnerErrors, explains}
+use Rattle.words.proofs.Places.Filling.{Filled, filled-next, filled-end}
 use Rattle.words.proofs.Places.Tests.{every-at, every-false}
 use Rattle.words.proofs.Algebra.Tables.{powers-length}
 use Rattle.words.proofs.Decoding.InnerSyndromes.{tables-b}
@@ -52,31 +53,52 @@ module _ (h l k : ℕ) (split : l < 2 ^ 48) (bound : k < 88) where
       let u : x / 2 ^ 48 ≡ h = omega arith in
       ap (λ (z : ℕ). z / 2 ^ e % 2) (sym u) ∙ ap (λ (z : ℕ). z % 2) (shr-shr x 48 e ∙ ap (λ (z : ℕ). x / 2 ^ z) same)
 
--- the value of the first k coefficients of the polynomial r, by Horner's rule over a lent field
-unfoldable pub polynomialUpTo : List ℕ → List ℕ → ℕ → ℕ → ℕ → ℕ
-polynomialUpTo es ls r x k = horner (λ v. tableProduct es ls v x) (bitOf 88 r) k
+-- exponents, and bits times powers, are numbers of 16 bits
+pub exponent-fits : (j i : ℕ) → j < 8 → i < 88 → (2 * j + 1) * i < 65536
+exponent-fits j i hj hi = let l : (2 * j + 1) * i ≤ 15 * i = mul-le-mul-right i (omega arith) in omega arith
 
-module _ (es ls : List ℕ) (r x : ℕ) where
-  pub polynomial-none : 0 ≡ polynomialUpTo es ls r x 0
-  unfolding polynomialUpTo horner
-  polynomial-none = refl
+pub term-fits : (c x : ℕ) → c < 2 → x < 65536 → c * x < 65536
+term-fits c x hc hx = let l : c * x ≤ 1 * x = mul-le-mul-right x (omega arith) in omega arith
 
-  module _ (k y : ℕ) (so-far : y ≡ polynomialUpTo es ls r x k) where
-    pub polynomial-next : (m c s : ℕ) → m ≡ tableProduct es ls y x → c ≡ bitOf 88 r k → s ≡ xor m c → s ≡ polynomialUpTo es ls r x (k + 1)
-    unfolding polynomialUpTo horner
-    polynomial-next m c s em ec es = rw (add-one, ← so-far, ← em, ← ec) es
+-- the value at a^(2j+1), with that of the term c z^i added
+unfoldable pub termAdded : List ℕ → List ℕ → ℕ → ℕ → ℕ → ℕ
+termAdded es w c i j = xor (at w j) (c * tablePower es ((2 * j + 1) * i))
 
-    pub polynomial-end : k ≤ 88 → 88 ≤ k → y ≡ polynomialValue es ls r x
-    unfolding polynomialUpTo polynomialValue
-    polynomial-end l h = let e : k ≡ 88 = omega arith in rw e at so-far
+module _ (es w out : List ℕ) (c i j : ℕ) (so-far : Filled 8 (termAdded es w c i) j out) where
+  pub term-next : (x r : ℕ) → j < 8 → x ≡ tablePower es ((2 * j + 1) * i) → r ≡ xor (getD w j 0) (c * x) → Filled 8 (termAdded es w c i) (j + 1) (set out j r)
+  unfolding termAdded
+  term-next x r l ex er = filled-next so-far l (rw ex at er)
+
+  pub term-end : 8 ≤ j → out ≡ plusTerm es w c i
+  unfolding termAdded plusTerm
+  term-end l = filled-end so-far l
+
+-- the values of the terms below z^k of the polynomial r
+unfoldable pub oddUpTo : List ℕ → ℕ → ℕ → List ℕ
+oddUpTo es r k = tabulate 8 (λ j. xorTo k (λ i. bitOf 88 r (87 - i) * tablePower es ((2 * j + 1) * i)))
+
+module _ (es : List ℕ) (r : ℕ) where
+  pub odd-none : replicate 8 0 ≡ oddUpTo es r 0
+  unfolding oddUpTo tabulate xorTo
+  odd-none = refl
+
+  module _ (i : ℕ) (w : List ℕ) (so-far : w ≡ oddUpTo es r i) where
+    pub odd-next : (c : ℕ) (s : List ℕ) → c ≡ bitOf 88 r (88 - 1 - i) → s ≡ plusTerm es w c i → s ≡ oddUpTo es r (i + 1)
+    unfolding oddUpTo plusTerm xorTo
+    odd-next c s ec e =
+        rw (add-one, ← ec) (e ∙ tabulate-same 8 _ _ (λ j l. ap (λ (x : ℕ). xor x (c * tablePower es ((2 * j + 1) * i))) (ap (λ (v : List ℕ). at v j) so-far ∙ tabulate-at 8 _ j 0 l)))
+
+    pub odd-end : i ≤ 88 → 88 ≤ i → w ≡ oddValues es r
+    unfolding oddUpTo oddValues powersValue
+    odd-end l h = let q : i ≡ 88 = omega arith in rw q at so-far
 
 -- the syndromes at a^(2i+1) and a^(2i+2), stored
-pub syndromes-none : (es ls : List ℕ) (r : ℕ) (t : List ℕ) → length t ≡ 16 → Syndromes es ls r 0 t
-syndromes-none es ls r t e = record { long = e; odd = λ j h. absurd (not-suc-le-zero h); even = λ j h. absurd (not-suc-le-zero h) }
+pub syndromes-none : (es ls w t : List ℕ) → length t ≡ 16 → Syndromes es ls w 0 t
+syndromes-none es ls w t e = record { long = e; odd = λ j h. absurd (not-suc-le-zero h); even = λ j h. absurd (not-suc-le-zero h) }
 
-pub syndromes-next : (es ls : List ℕ) (r i : ℕ) (t : List ℕ) → Syndromes es ls r i t → i < 8 → (x y z : ℕ) → x ≡ tablePower es (2 * i + 1) → y ≡ polynomialValue es ls r x →
-    z ≡ tableProduct es ls (getD (set t (2 * i) y) i 0) (getD (set t (2 * i) y) i 0) → Syndromes es ls r (i + 1) (set (set t (2 * i) y) (2 * i + 1) z)
-syndromes-next es ls r i t so-far l x y z ex ey ez =
+pub syndromes-next : (es ls w : List ℕ) (i : ℕ) (t : List ℕ) → Syndromes es ls w i t → i < 8 → (y z : ℕ) → y ≡ getD w i 0 →
+    z ≡ tableProduct es ls (getD (set t (2 * i) y) i 0) (getD (set t (2 * i) y) i 0) → Syndromes es ls w (i + 1) (set (set t (2 * i) y) (2 * i + 1) z)
+syndromes-next es ls w i t so-far l y z ey ez =
     record { long = length-set u (2 * i + 1) z ∙ same-length; odd = λ j h. odd j (ℕ-discrete j i) h; even = λ j h. even j (ℕ-discrete j i) h }
   where
     u : List ℕ
@@ -91,8 +113,8 @@ syndromes-next es ls r i t so-far l x y z ex ey ez =
     kept : (j : ℕ) → ¬ (j ≡ 2 * i) → ¬ (j ≡ 2 * i + 1) → getD (set u (2 * i + 1) z) j 0 ≡ getD t j 0
     kept j m n = stored j n ∙ getD-set-other t (2 * i) j y 0 m
 
-    odd : (j : ℕ) → Dec (j ≡ i) → j < i + 1 → getD (set u (2 * i + 1) z) (2 * j) 0 ≡ polynomialValue es ls r (tablePower es (2 * j + 1))
-    odd j (yes e) h = rw e (stored (2 * i) (λ q. omega arith) ∙ getD-set-same t (2 * i) y 0 (omega (arith, so-far .long)) ∙ ey ∙ ap (polynomialValue es ls r) ex)
+    odd : (j : ℕ) → Dec (j ≡ i) → j < i + 1 → getD (set u (2 * i + 1) z) (2 * j) 0 ≡ getD w j 0
+    odd j (yes e) h = rw e (stored (2 * i) (λ q. omega arith) ∙ getD-set-same t (2 * i) y 0 (omega (arith, so-far .long)) ∙ ey)
     odd j (no n) h = kept (2 * j) (λ q. omega arith) (λ q. omega arith) ∙ so-far .odd j (omega arith)
 
     even : (j : ℕ) → Dec (j ≡ i) → j < i + 1 →
@@ -100,8 +122,8 @@ syndromes-next es ls r i t so-far l x y z ex ey ez =
     even j (yes e) h = rw (e, stored i (λ q. omega arith)) (getD-set-same u (2 * i + 1) z 0 (omega (arith, same-length)) ∙ ez)
     even j (no n) h = rw (kept j (λ q. omega arith) (λ q. omega arith)) (kept (2 * j + 1) (λ q. omega arith) (λ q. omega arith) ∙ so-far .even j (omega arith))
 
-pub syndromes-end : (es ls : List ℕ) (r i : ℕ) (t : List ℕ) → Syndromes es ls r i t → i ≤ 8 → 8 ≤ i → Syndromes es ls r 8 t
-syndromes-end es ls r i t so-far l h = let e : i ≡ 8 = omega arith in rw e at so-far
+pub syndromes-end : (es ls w v : List ℕ) (i : ℕ) (t : List ℕ) → w ≡ v → Syndromes es ls w i t → i ≤ 8 → 8 ≤ i → Syndromes es ls v 8 t
+syndromes-end es ls w v i t q so-far l h = let e : i ≡ 8 = omega arith in rw (q, e) at so-far
 
 -- an error's value tested
 module _ (value x : ℕ) where
@@ -142,7 +164,7 @@ module _ (es ls : List ℕ) (exp : es ≡ powersB) (log : ls ≡ exponentsB) whe
   pub places-fit : 2040 ≤ length es
   places-fit = rw (exp, powers-length 11 2053 field-b) (omega arith)
 
-  pub errors-are : (w : List ℕ) (h l : ℕ) (t places values : List ℕ) (count : ℕ) (left : List ℕ) → Holds h l (remainder 88 divisor (bitAt w) 2040) → Syndromes es ls (number h l) 8 t →
+  pub errors-are : (w : List ℕ) (h l : ℕ) (t places values : List ℕ) (count : ℕ) (left : List ℕ) → Holds h l (remainder 88 divisor (bitAt w) 2040) → Syndromes es ls (oddValues es (number h l)) 8 t →
       Decoded es ls t 2040 places values count left → length left ≡ 16 → InnerErrors w places values count left
   errors-are w h l t places values count left r S D n =
       record { t = t; syndromes = rw (exp, log, r .value) at S; decoded = rw (exp, log) at D; left-long = n }

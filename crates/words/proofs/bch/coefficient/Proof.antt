@@ -18,7 +18,7 @@ cast-result : tie.Need-cast-result
 cast-result c = search needs
 
 returns : tie.Need-returns
-returns c = coefficient-low _ _ _ (omega arith) (omega arith) (omega arith)
+returns c = (coefficient-low _ _ _ (omega arith) (omega arith) (omega arith), omega arith)
 
 shr-result-2 : tie.Need-shr-result-2
 shr-result-2 c = search needs
@@ -27,7 +27,7 @@ cast-result-2 : tie.Need-cast-result-2
 cast-result-2 c = search needs
 
 returns-2 : tie.Need-returns-2
-returns-2 c = coefficient-high _ _ _ (omega arith) (omega arith) (omega arith)
+returns-2 c = (coefficient-high _ _ _ (omega arith) (omega arith) (omega arith), omega arith)
 
 pub coefficient-spec : {M : Type 1} → statement M
 coefficient-spec =

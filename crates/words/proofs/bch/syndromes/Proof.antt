@@ -1,42 +1,34 @@
 -- `words::bch::syndromes` meets its contract. Assumes nothing.
 use Prim.Native.Nat.{_-_, _≤_}
-use native.Mathlib.Omega.{arith}
 use borrow.Author.Needs.{needs}
-use Rattle.words.specs.Limbs.{number}
 use Rattle.words.specs.InnerDecoding.{Syndromes}
 use Rattle.words.proofs.Steps.Inner.{syndromes-none, syndromes-next, syndromes-end}
 use Rattle.words.proofs.bch.syndromes.Statement.{statement}
 use Rattle.words.proofs.bch.syndromes.Tie as tie
 
 abbrev Inv-loop : tie.InvT-loop
-Inv-loop exp log v t₀ i₀ t i = (i ≤ 8) × Syndromes exp log (number (v .high) (v .low)) i t
+Inv-loop exp log odd t₀ i₀ t i = (i ≤ 8) × Syndromes exp log (odd .at) i t
 
 abbrev μ-loop : tie.MeasureT-loop
-μ-loop exp log v t₀ i₀ t i = 8 - i
+μ-loop exp log odd t₀ i₀ t i = 8 - i
+
+odd-values-requires : tie.Need-odd-values-requires Inv-loop μ-loop
+odd-values-requires c κs = search needs
 
 loop-holds : tie.Need-loop-holds Inv-loop μ-loop
 loop-holds c = search (needs, syndromes-none)
 
-cast-power : tie.Need-cast-power Inv-loop μ-loop
-cast-power c = search needs
-
-mul-power : tie.Need-mul-power Inv-loop μ-loop
-mul-power c = search needs
-
-add-power : tie.Need-add-power Inv-loop μ-loop
-add-power c = search needs
-
-power-requires : tie.Need-power-requires Inv-loop μ-loop
-power-requires c κs = search needs
-
-value-requires : tie.Need-value-requires Inv-loop μ-loop
-value-requires c κs = search needs
-
 mul-t : tie.Need-mul-t Inv-loop μ-loop
 mul-t c = search needs
 
+element-copy-out-t : tie.Need-element-copy-out-t Inv-loop μ-loop
+element-copy-out-t c = search needs
+
 mul-t-2 : tie.Need-mul-t-2 Inv-loop μ-loop
 mul-t-2 c = search needs
+
+mul-t-3 : tie.Need-mul-t-3 Inv-loop μ-loop
+mul-t-3 c = search needs
 
 array-write-t : tie.Need-array-write-t Inv-loop μ-loop
 array-write-t c = search needs
@@ -56,14 +48,14 @@ array-read-product-2 c = search needs
 product-requires : tie.Need-product-requires Inv-loop μ-loop
 product-requires c κs = search needs
 
-mul-t-3 : tie.Need-mul-t-3 Inv-loop μ-loop
-mul-t-3 c = search needs
+mul-t-4 : tie.Need-mul-t-4 Inv-loop μ-loop
+mul-t-4 c = search needs
 
 add-t : tie.Need-add-t Inv-loop μ-loop
 add-t c = search needs
 
-mul-t-4 : tie.Need-mul-t-4 Inv-loop μ-loop
-mul-t-4 c = search needs
+mul-t-5 : tie.Need-mul-t-5 Inv-loop μ-loop
+mul-t-5 c = search needs
 
 array-write-t-2 : tie.Need-array-write-t-2 Inv-loop μ-loop
 array-write-t-2 c = search needs
@@ -75,11 +67,7 @@ loop-less : tie.Need-loop-less Inv-loop μ-loop
 loop-less c = search needs
 
 loop-again : tie.Need-loop-again Inv-loop μ-loop
-loop-again c = (
-  search needs,
-  syndromes-next _ _ _ _ _ (c .before .before .before .before .loop .inv .1) (omega arith) _ _ _
-      (c .before .before .power .ensures .0) (c .before .value .ensures) (c .product .ensures .0),
-)
+loop-again c = search (needs, syndromes-next)
 
 returns : tie.Need-returns Inv-loop μ-loop
 returns c = search (needs, syndromes-end)
@@ -90,23 +78,21 @@ syndromes-spec =
     (tie.spec
     Inv-loop
     μ-loop
+    odd-values-requires
     loop-holds
-    cast-power
-    mul-power
-    add-power
-    power-requires
-    value-requires
     mul-t
+    element-copy-out-t
     mul-t-2
+    mul-t-3
     array-write-t
     mul-product
     array-read-product
     mul-product-2
     array-read-product-2
     product-requires
-    mul-t-3
-    add-t
     mul-t-4
+    add-t
+    mul-t-5
     array-write-t-2
     add-i
     loop-less

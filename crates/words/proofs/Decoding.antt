@@ -2,6 +2,7 @@
 -- is found is the nearest code word.
 pub mod Elimination
 pub mod RootPlaces
+pub mod Search
 pub mod Values
 pub mod Changes
 pub mod Completeness

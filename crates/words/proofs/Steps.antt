@@ -5,6 +5,8 @@ pub mod Limbs
 pub mod LimbProducts
 pub mod FourPlaces
 pub mod Rows
+pub mod Search
+pub mod RootsFound
 pub mod Errors
 pub mod Inner
 pub mod Refusals

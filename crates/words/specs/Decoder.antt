@@ -4,14 +4,15 @@ use mathlib.Core.Bool.{cond}
 use mathlib.Core.List.{List, [], _∷_}
 use Prim.Native.Nat.{ℕ, zero, suc, _+_, _-_, _≤_, _<_}
 use lib.Dec.{eqb, ltb}
-use lib.ListN.{length, getD, set}
+use lib.ListN.{length, getD, set, replicate}
 use Rattle.fields.specs.Lists.{tabulate}
 use Rattle.fields.specs.Elements.{xor}
 use Rattle.fields.specs.ByTables.{tableProduct, tableInverse, tablePower, Lent}
 use Rattle.words.specs.declared.decoder.Errors.{Errors}
 use Rattle.words.specs.declared.decoder.Places.{Places}
 use Rattle.words.specs.declared.decoder.Row.{Row}
-use Rattle.words.specs.Places.{at, sumTo, differs}
+use Rattle.words.specs.declared.decoder.Terms.{Terms}
+use Rattle.words.specs.Places.{at, horner, sumTo, differs}
 use Rattle.words.specs.ByTables.{lentValue}
 
 -- the two lists are the tables of some field
@@ -95,16 +96,63 @@ unfoldable pub backwards : List ℕ → ℕ → List ℕ
 backwards l zero = []
 backwards l (suc k) = at l k ∷ backwards l k
 
--- place i joins the places if the value there is zero and there is room
-unfoldable pub kept : ℕ → ℕ → Places → Places
-kept i value p = cond (eqb value 0) (cond (ltb (p .count) 8) (record { at = set (p .at) (p .count) i; count = p .count + 1 }) p) p
-
 -- the places among the first i of n that the search keeps: the roots in ascending order, and all of them unless there are more than eight
 pub record Roots (es ls v : List ℕ) (n i : ℕ) (places : List ℕ) (count : ℕ) : Type 0 where
   pub few : count ≤ 8
   pub below : (k : ℕ) → k < count → at places k < i
   pub ascending : (k l : ℕ) → k < l → l < count → at places k < at places l
   pub all : length (rootPlaces es ls v n i) ≤ 8 → backwards places count ≡ rootPlaces es ls v n i
+
+-- the terms of a polynomial, with one more of exponent e, which falls by `step` from one place to the next
+abbrev pub addTerm : ℕ → ℕ → Terms → Terms
+addTerm e step t = record { exponents = set (t .exponents) (t .count) e; steps = set (t .steps) (t .count) step; count = t .count + 1 }
+
+-- the same by the term's value, if that is not zero, and by the power of a that it loses from one place to the next
+unfoldable pub withTerm : List ℕ → ℕ → ℕ → Terms → Terms
+withTerm ls value power t = cond (eqb value 0) t (addTerm (at ls value) (at ls power) t)
+
+-- the terms of degree below k of the polynomial v at the locator x, but for those that are zero
+unfoldable pub termsTo : List ℕ → List ℕ → List ℕ → ℕ → ℕ → Terms
+termsTo es ls v x zero = record { exponents = replicate 9 0; steps = replicate 9 0; count = 0 }
+termsTo es ls v x (suc d) =
+    withTerm ls (tableProduct es ls (timesPower (tableProduct es ls) x 1 d) (at v (8 - d))) (tablePower es d) (termsTo es ls v x d)
+
+-- the first k entries of a list are exponents that the table of powers has
+pub record Exponents (es : List ℕ) (k : ℕ) (exponents : List ℕ) : Type 0 where
+  pub long : k ≤ length exponents
+  pub inside : (l : ℕ) → l < k → at exponents l < length es
+
+-- the sum of the powers with the first k exponents
+unfoldable pub powersTo : List ℕ → List ℕ → ℕ → ℕ
+powersTo es exponents k = xorTo k (λ l. at es (at exponents l))
+
+-- e - d, counted modulo n, for e and d below n
+unfoldable pub lessModulo : ℕ → ℕ → ℕ → ℕ
+lessModulo n e d = cond (ltb e d) (e + (n - d)) (e - d)
+
+-- the exponents, the first k of them less by their steps
+unfoldable pub lowered : ℕ → List ℕ → List ℕ → ℕ → List ℕ
+lowered n exponents steps zero = exponents
+lowered n exponents steps (suc l) = set (lowered n exponents steps l) l (lessModulo n (at exponents l) (at steps l))
+
+-- the locator of place i is a root of v
+abbrev pub RootAt : List ℕ → List ℕ → List ℕ → ℕ → ℕ → Type 0
+RootAt es ls v n i = lentValue es ls v (locator es n i) ≡ 0
+
+-- r is the first place from i on, of n, whose locator is a root of v; n, if there is none
+pub record FirstRoot (es ls v : List ℕ) (n i r : ℕ) : Type 0 where
+  pub from : i ≤ r
+  pub most : r ≤ n
+  pub before : (k : ℕ) → i ≤ k → k < r → RootAt es ls v n k → ⊥
+  pub here : r < n → RootAt es ls v n r
+
+-- the quotient of v by x + r, where r is a root: coefficient k is the value at r of the first k coefficients of v
+unfoldable pub quotientOf : List ℕ → List ℕ → List ℕ → ℕ → List ℕ
+quotientOf es ls v r = tabulate 9 (horner (λ u. tableProduct es ls u r) (at v))
+
+-- place i joins the places if there is room
+unfoldable pub kept : ℕ → Places → Places
+kept i p = cond (ltb (p .count) 8) (record { at = set (p .at) (p .count) i; count = p .count + 1 }) p
 
 -- ---- the values of the errors there
 
@@ -143,6 +191,12 @@ resolved es ls n k e =
 unfoldable pub errorAt : List ℕ → List ℕ → ℕ → ℕ → ℕ
 errorAt places values k i = xorTo k (λ l. cond (eqb (at places l) i) (at values l) 0)
 
+-- t are the syndromes of the errors e in a word of n places, and e is not zero in at most eight
+pub record Correctable (es ls t : List ℕ) (n : ℕ) (e : ℕ → ℕ) : Type 0 where
+  pub elements : (i : ℕ) → e i < length ls
+  pub syndromes : (j : ℕ) → j < 16 → at t j ≡ syndrome es ls n e j
+  pub few : sumTo n (λ i. differs (e i) 0) ≤ 8
+
 -- what is found for the syndromes t of a word of n places: `count` errors with their values, and what their syndromes leave of t
 pub record Decoded (es ls t : List ℕ) (n : ℕ) (places values : List ℕ) (count : ℕ) (left : List ℕ) : Type 0 where
   pub few : count ≤ 8
@@ -151,9 +205,8 @@ pub record Decoded (es ls t : List ℕ) (n : ℕ) (places values : List ℕ) (co
   pub elements : (k : ℕ) → k < count → at values k < length ls
   -- what is left is the difference of t and the syndromes of the errors found
   pub left-is : (j : ℕ) → j < 16 → at left j ≡ xor (at t j) (syndrome es ls n (errorAt places values count) j)
-  -- if t are the syndromes of some errors in at most eight places, these are found
-  pub complete : (e : ℕ → ℕ) → ((i : ℕ) → e i < length ls) → ((j : ℕ) → j < 16 → at t j ≡ syndrome es ls n e j) → sumTo n (λ i. differs (e i) 0) ≤ 8 →
-      (i : ℕ) → i < n → errorAt places values count i ≡ e i
+  -- errors in at most eight places that have the syndromes t are found
+  pub complete : (e : ℕ → ℕ) → Correctable es ls t n e → (i : ℕ) → i < n → errorAt places values count i ≡ e i
 
 -- how many of the first k values are not zero
 unfoldable pub weightOf : List ℕ → ℕ → ℕ

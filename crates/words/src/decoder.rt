@@ -1,7 +1,8 @@
 // Bounded-distance decoding, one text for all codes: the code's field is lent as its two tables, its word is known by sixteen syndromes.
 //
 //     annihilator   a polynomial of degree at most 8 that annihilates the syndromes, by elimination: the locators of up to eight errors are its roots
-//     roots         the places of the word, never of the omitted front, whose locators are roots
+//     roots         the places of the word, never of the omitted front, whose locators are roots: from place to place each term of the polynomial is
+//                   divided by a power of a, which lowers its exponent, and a root that is found is divided out
 //     values        the value of the error at each of them, the last first: the locators before it are filtered out of the syndromes, which leaves a
 //                   multiple of the value; then the error's own syndromes are taken away
 //     test          if nothing is left of the syndromes, the word less these errors is a code word, near enough; else there is none
@@ -10,13 +11,13 @@
 // roots are errors.
 use crate::reed_solomon;
 ghost use mathlib.Core.Path.{_≡_};
-ghost use Prim.Native.Nat.{_+_, _-_, _≤_, _<_};
+ghost use Prim.Native.Nat.{ℕ, _+_, _-_, _≤_, _<_};
 ghost use lib.ListN.{length};
 ghost use Rattle.fields.specs.Lists.{tabulate};
 ghost use Rattle.fields.specs.Elements.{xor};
 ghost use Rattle.fields.specs.ByTables.{tableProduct};
 ghost use Rattle.words.specs.Places.{at, differs};
-ghost use Rattle.words.specs.Decoder.{Tables, locator, Annihilates, powerRow, plusScaled, cleared, reduced, FirstNonzero, kept, Roots, filtered, filteredBy, filterFactor, errorValue, lessError, resolved, Decoded, weightOf};
+ghost use Rattle.words.specs.Decoder.{Tables, locator, Annihilates, powerRow, plusScaled, cleared, reduced, FirstNonzero, kept, Roots, withTerm, termsTo, lessModulo, Exponents, powersTo, lowered, FirstRoot, quotientOf, filtered, errorValue, lessError, resolved, Decoded, weightOf};
 
 // Errors in up to so many places are found.
 pub const RADIUS: usize = 8;
@@ -141,20 +142,132 @@ pub fn locator(exp: &[u16], n: usize, i: usize) -> u16
     fields::power(exp, 0)
 }
 
+// The terms of a polynomial at a locator, but for those that are zero. The first `count` of `exponents` are their exponents; the first `count` of `steps`
+// say by how much these fall from one place to the next.
+struct Terms {
+    exponents: [usize; COEFFICIENTS],
+    steps: [usize; COEFFICIENTS],
+    count: usize,
+}
+
+// The terms with one more, if its value is not zero. From one place to the next it is divided by that power of a.
+fn with_term(log: &[u16], t: Terms, value: u16, power: u16) -> Terms
+    requires { ⌜ t .count < 9 ⌝ }
+    ensures { λ r. ⌜ r ≡ withTerm (now (log .entry)) value power t ⌝ }
+{
+    if value == 0 {
+        return t;
+    }
+    let count = t.count;
+    let mut exponents = t.exponents;
+    let mut steps = t.steps;
+    exponents[count] = reed_solomon::symbol(log, value as usize) as usize;
+    steps[count] = reed_solomon::symbol(log, power as usize) as usize;
+    Terms {
+        exponents,
+        steps,
+        count: count + 1,
+    }
+}
+
+// The terms at the locator x.
+fn terms_at(exp: &[u16], log: &[u16], polynomial: [u16; COEFFICIENTS], x: u16) -> Terms
+    ensures { λ r. ⌜ r ≡ termsTo (now (exp .entry)) (now (log .entry)) polynomial x 9 ⌝ }
+{
+    let mut t = Terms {
+        exponents: [0usize; COEFFICIENTS],
+        steps: [0usize; COEFFICIENTS],
+        count: 0,
+    };
+    let mut power: u16 = 1;
+    let mut d: usize = 0;
+    while d < COEFFICIENTS {
+        let value = fields::product(exp, log, power, polynomial[RADIUS - d]);
+        t = with_term(log, t, value, fields::power(exp, d as u16));
+        power = fields::product(exp, log, x, power);
+        d += 1;
+    }
+    t
+}
+
+// e - d, counted modulo n.
+fn less(n: usize, e: usize, d: usize) -> usize
+    requires { ⌜ (e < n) × (d < n) ⌝ }
+    ensures { λ r. ⌜ r ≡ lessModulo n e d ⌝ }
+{
+    if e < d { e + (n - d) } else { e - d }
+}
+
+// The sum of the terms, which are moved on to the next place.
+fn next_value(exp: &[u16], exponents: &mut [usize], steps: &[usize], count: usize) -> u16
+    requires { ⌜ Exponents (now exp) count (now exponents) ⌝ }
+    requires { ⌜ Exponents (now exp) count (now steps) ⌝ }
+    ensures { λ r. ⌜ r ≡ powersTo (now (exp .entry)) (now (exponents .entry)) count ⌝ }
+    ensures { λ r. ⌜ now (exponents .exit) ≡ lowered (length (now (exp .entry))) (now (exponents .entry)) (now (steps .entry)) count ⌝ }
+{
+    let mut v: u16 = 0;
+    let mut l: usize = 0;
+    while l < count {
+        let e = exponents[l];
+        v = reed_solomon::sum(v, exp[e]);
+        exponents[l] = less(exp.len(), e, steps[l]);
+        l += 1;
+    }
+    v
+}
+
+// The first place from i on whose locator is a root, or n.
+fn next_root(exp: &[u16], log: &[u16], polynomial: [u16; COEFFICIENTS], n: usize, i: usize) -> usize
+    requires { ⌜ Tables (now exp) (now log) ⌝ }
+    requires { ⌜ (n ≤ length (now exp)) × (n < 65536) × (i ≤ n) ⌝ }
+    requires { ⌜ ((k : ℕ) → at polynomial k < length (now log)) ⌝ }
+    ensures { λ r. ⌜ FirstRoot (now (exp .entry)) (now (log .entry)) polynomial n i r ⌝ }
+{
+    let t = terms_at(exp, log, polynomial, locator(exp, n, i));
+    let mut exponents = t.exponents;
+    let steps = t.steps;
+    let count = t.count;
+    let mut j = i;
+    while j < n {
+        if next_value(exp, &mut exponents, &steps, count) == 0 {
+            return j;
+        }
+        j += 1;
+    }
+    n
+}
+
+// A polynomial, divided by x + r for each of its roots r that are found.
+struct Quotient {
+    coefficients: [u16; COEFFICIENTS],
+}
+
+// The quotient by x + r, where r is a root: Horner's rule gives its coefficients.
+fn divided(exp: &[u16], log: &[u16], q: Quotient, r: u16) -> Quotient
+    ensures { λ s. ⌜ s .coefficients ≡ quotientOf (now (exp .entry)) (now (log .entry)) (q .coefficients) r ⌝ }
+{
+    let mut coefficients = [0u16; COEFFICIENTS];
+    let mut v: u16 = 0;
+    let mut k: usize = 0;
+    while k < COEFFICIENTS {
+        coefficients[k] = v;
+        v = reed_solomon::sum(fields::product(exp, log, v, r), q.coefficients[k]);
+        k += 1;
+    }
+    Quotient { coefficients }
+}
+
 // The first `count` of `at` are places of a word, in ascending order.
 pub struct Places {
     pub at: [u16; RADIUS],
     pub count: usize,
 }
 
-// Place i is kept if it is a root, and if there is room.
-fn keep(p: Places, i: u16, value: u16) -> Places
+// Place i is kept if there is room.
+fn keep(p: Places, i: u16) -> Places
     requires { ⌜ p .count ≤ 8 ⌝ }
-    ensures { λ r. ⌜ r ≡ kept i value p ⌝ }
+    ensures { λ r. ⌜ r ≡ kept i p ⌝ }
 {
-    if value != 0 {
-        return p;
-    }
     let count = p.count;
     if RADIUS <= count {
         return p;
@@ -167,20 +280,26 @@ fn keep(p: Places, i: u16, value: u16) -> Places
     }
 }
 
-// The places of a word of n places whose locators are roots of the polynomial.
+// The places of a word of n places whose locators are roots of the polynomial. A root that is found is divided out: the places after it have fewer terms.
 fn roots(exp: &[u16], log: &[u16], polynomial: [u16; COEFFICIENTS], n: usize) -> Places
-    requires { ⌜ n < 65536 ⌝ }
+    requires { ⌜ Tables (now exp) (now log) ⌝ }
+    requires { ⌜ (n ≤ length (now exp)) × (n < 65536) ⌝ }
+    requires { ⌜ ((k : ℕ) → at polynomial k < length (now log)) ⌝ }
     ensures { λ r. ⌜ Roots (now (exp .entry)) (now (log .entry)) polynomial n n (r .at) (r .count) ⌝ }
 {
     let mut p = Places {
         at: [0u16; RADIUS],
         count: 0,
     };
-    let mut i: usize = 0;
+    let mut q = Quotient {
+        coefficients: polynomial,
+    };
+    let mut i = next_root(exp, log, polynomial, n, 0);
     while i < n {
-        let x = locator(exp, n, i);
-        p = keep(p, i as u16, reed_solomon::value(exp, log, &polynomial, x));
-        i += 1;
+        p = keep(p, i as u16);
+        q = divided(exp, log, q, locator(exp, n, i));
+        let coefficients = q.coefficients;
+        i = next_root(exp, log, coefficients, n, i + 1);
     }
     p
 }

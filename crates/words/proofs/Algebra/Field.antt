@@ -128,6 +128,8 @@ module _ {A : Type 0} (O : Ops A) where
     pub eq-of-add : {a b : A} → a ⊕ b ≡ 𝟘 → a ≡ b
     eq-of-add {a} {b} h = cc (add-same a b, add-zero a)
 
+    pub undo : {a b : A} → In a → In b → ¬ (b ≡ 𝟘) → inv b ⊙ (b ⊙ a) ≡ a
+    undo {a} {b} ia ib n = cc (K .one-mul a ia, K .mul-inv b ib n, mul-comm b (inv b), mul-assoc (inv b) b a)
+
     pub cancel : {a b : A} → In a → In b → ¬ (b ≡ 𝟘) → b ⊙ a ≡ 𝟘 → a ≡ 𝟘
-    cancel {a} {b} ia ib n h =
-        cc (K .one-mul a ia, K .mul-inv b ib n, mul-comm b (inv b), mul-assoc (inv b) b a, mul-zero (inv b))
+    cancel {a} {b} ia ib n h = cc (undo ia ib n, h, mul-zero (inv b))

@@ -6,7 +6,7 @@ use native.Mathlib.Decide.{decLt}
 use native.Mathlib.Omega.{arith}
 use native.Mathlib.Nat as N
 use lib.ListN.{length}
-use Rattle.words.proofs.Algebra.Field.{Ops, Laws, All, all-zip, Apart, add-zero, zero-add, mul-comm, mul-assoc, mul-add, zero-mul, ring, eq-of-add, cancel}
+use Rattle.words.proofs.Algebra.Field.{Ops, Laws, All, all-zip, Apart, add-zero, zero-add, mul-comm, mul-assoc, mul-add, mul-zero, zero-mul, ring, eq-of-add, cancel}
 use Rattle.words.proofs.Algebra.PowerSums.{sum, powerSum, valueAt, sum-add, sum-mul, value-in}
 use Rattle.words.proofs.Algebra.Vandermonde.{vandermonde}
 
@@ -51,14 +51,38 @@ module _ {A : Type 0} (O : Ops A) where
         applied-power n d (omega arith) b (λ k. s (suc k)) (λ k e. one k (omega arith)) (λ k h e. others k (omega arith) (λ q. e (omega arith))) in
         cc (last, rest, zero-mul O K (s 0), add-zero O K (𝟙 ⊙ s (suc d)))
 
-    -- synthetic division: the quotient of b by x + r has the coefficients valueAt r b (suc k)
-    division : (r x : A) (b : ℕ → A) (n : ℕ) → (x ⊕ r) ⊙ valueAt O x (λ k. valueAt O r b (suc k)) n ≡ valueAt O x b (suc n) ⊕ valueAt O r b (suc n)
+    -- synthetic division: the quotient of b by x + r has the coefficients valueAt r b k, the first of them 0
+    division : (r x : A) (b : ℕ → A) (n : ℕ) → (x ⊕ r) ⊙ valueAt O x (valueAt O r b) n ≡ valueAt O x b n ⊕ valueAt O r b n
     unfolding valueAt
     division r x b zero = simp (valueAt, ring, K)
     division r x b (suc n) = step (division r x b n)
       where
         step : {p q f c : A} → (x ⊕ r) ⊙ f ≡ p ⊕ q → (x ⊕ r) ⊙ (f ⊙ x ⊕ q) ≡ p ⊙ x ⊕ c ⊕ (q ⊙ r ⊕ c)
         step {p} {q} {f} {c} h = rw (mul-add O K, ← mul-assoc O K (x ⊕ r) f x, h) (simp (ring, K))
+
+    -- if r is a root of b and x is not r, then x is a root of b just if it is one of the quotient
+    module _ (r x : A) (ir : In r) (ix : In x) (other : ¬ (x ≡ r)) (b : ℕ → A) (ib : (k : ℕ) → In (b k)) (n : ℕ) (root : valueAt O r b n ≡ 𝟘) where
+      product-is : (x ⊕ r) ⊙ valueAt O x (valueAt O r b) n ≡ valueAt O x b n
+      product-is = division r x b n ∙ ap (λ v. valueAt O x b n ⊕ v) root ∙ add-zero O K _
+
+      pub quotient-root : valueAt O x b n ≡ 𝟘 → valueAt O x (valueAt O r b) n ≡ 𝟘
+      quotient-root z = cancel O K (value-in O K x _ (value-in O K r b ib) n) (K .in-add _ _ ix ir) (λ e. other (eq-of-add O K e)) (product-is ∙ z)
+
+      pub root-quotient : valueAt O x (valueAt O r b) n ≡ 𝟘 → valueAt O x b n ≡ 𝟘
+      root-quotient z = sym product-is ∙ ap (λ v. (x ⊕ r) ⊙ v) z ∙ mul-zero O K _
+
+    -- the first coefficient, where s are the powers of x
+    pub value-first : (x : A) (s : ℕ → A) → s 0 ≡ 𝟙 → ((k : ℕ) → s (suc k) ≡ x ⊙ s k) → (b : ℕ → A) → ((k : ℕ) → In (b k)) → (n : ℕ) →
+        valueAt O x b (suc n) ≡ s n ⊙ b 0 ⊕ valueAt O x (λ k. b (suc k)) n
+    unfolding valueAt
+    value-first x s first next b ib zero = rw first (cc (K .one-mul (b 0) (ib 0), zero-mul O K x, zero-add O K (b 0), add-zero O K (b 0)))
+    value-first x s first next b ib (suc n) =
+        ap (λ v. v ⊙ x ⊕ b (suc n)) (value-first x s first next b ib n) ∙ rw next (simp (ring, K))
+
+    value-tail : (x : A) (b : ℕ → A) → b 0 ≡ 𝟘 → (n : ℕ) → valueAt O x b (suc n) ≡ valueAt O x (λ k. b (suc k)) n
+    unfolding valueAt
+    value-tail x b z zero = cc (z, zero-mul O K x, zero-add O K 𝟘)
+    value-tail x b z (suc n) = ap (λ v. v ⊙ x ⊕ b (suc n)) (value-tail x b z n)
 
     -- if quotient and remainder are zero, so is b
     coefficients-zero : (r : A) (b : ℕ → A) (n : ℕ) → ((k : ℕ) → k < n → valueAt O r b (suc k) ≡ 𝟘) → (k : ℕ) → k < n → b k ≡ 𝟘
@@ -113,8 +137,8 @@ module _ {A : Type 0} (O : Ops A) where
 
             others : All (λ k. valueAt O (X k) q n ≡ 𝟘) ps
             others =
-                all-zip (λ k a z. cancel O K (value-in O K (X k) q iq n) (K .in-add _ _ (in-X k) (in-X i)) (λ e. a (eq-of-add O K e))
-                (division (X i) (X k) b n ∙ ap₂ (λ x y. x ⊕ y) z (roots .0) ∙ zero-add O K 𝟘)) ps (d .0) (roots .1)
+                all-zip (λ k a z. sym (value-tail (X k) (valueAt O (X i) b) refl n)
+                ∙ quotient-root (X i) (X k) (in-X i) (in-X k) a b ib (suc n) (roots .0) z) ps (d .0) (roots .1)
 
             quotient-zero : ((k : ℕ) → k < n → q k ≡ 𝟘) → (k : ℕ) → k < suc n → q k ≡ 𝟘
             quotient-zero z k l = go (decLt k n)

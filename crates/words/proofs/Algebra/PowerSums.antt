@@ -91,7 +91,7 @@ module _ {A : Type 0} (O : Ops A) where
     value-in x b h zero = K .in-zero
     value-in x b h (suc n) = K .in-add _ _ (K .in-mul _ _) (h n)
 
-    value-same : (x : A) (b c : ℕ → A) (n : ℕ) → ((i : ℕ) → i < n → b i ≡ c i) → valueAt x b n ≡ valueAt x c n
+    pub value-same : (x : A) (b c : ℕ → A) (n : ℕ) → ((i : ℕ) → i < n → b i ≡ c i) → valueAt x b n ≡ valueAt x c n
     unfolding valueAt
     value-same x b c zero h = refl
     value-same x b c (suc n) h = ap₂ (λ u v. u ⊙ x ⊕ v) (value-same x b c n (λ i l. h i (omega arith))) (h n (le-refl (suc n)))

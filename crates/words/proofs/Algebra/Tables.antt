@@ -1,22 +1,22 @@
 -- A field that is lent as its two tables is a field of the abstract algebra; locators, syndromes and values in its terms. Assumes nothing.
 use mathlib.Core.Path.{_≡_, refl, sym, ap, ap₂, _∙_, fun-ext, subst}
 use mathlib.Core.List.{List}
-use Prim.Native.Nat.{ℕ, zero, suc, _+_, _-_, _%_, _^_, _≤_, _<_}
-use native.Mathlib.Nat.{mod-eq-of-lt}
+use Prim.Native.Nat.{ℕ, zero, suc, _+_, _-_, _%_, _^_, _<_}
+use native.Mathlib.Nat.{le-refl, mod-eq-of-lt, zero-add, suc-add}
 use native.Mathlib.Omega.{arith}
 use lib.ListN.{length}
-use Rattle.fields.specs.Elements.{xor, times, power, exponent, inverse, powers, exponents}
+use Rattle.fields.specs.Elements.{xor, times, power, exponent, powers, exponents}
 use Rattle.fields.specs.Field.{Field}
 use Rattle.fields.specs.ByTables.{tableProduct, tableInverse, tablePower, Lent}
 use Rattle.fields.proofs.ByTables.{table-power, table-product, table-inverse}
-use Rattle.fields.proofs.Lists.{tabulate-length}
+use Rattle.fields.proofs.Lists.{tabulate-length, tabulate-at}
 use Rattle.words.specs.Places.{at, horner}
 use Rattle.words.specs.ByTables.{lentValue}
 use Rattle.words.specs.Decoder.{Tables, locator, xorTo, timesPower, syndrome, applied}
-use Rattle.words.proofs.Algebra.Field.{Ops, Laws, upto, mul-left}
+use Rattle.words.proofs.Algebra.Field.{Ops, Laws, upto, mul-zero}
 use Rattle.words.proofs.Algebra.PowerSums.{sum, powerSum, valueAt}
 use Rattle.words.proofs.Algebra.Locators.{appliedTo}
-use Rattle.words.proofs.Algebra.Elements.{ops, laws, power-next, powers-distinct}
+use Rattle.words.proofs.Algebra.Elements.{laws, power-next, powers-distinct}
 
 abbrev pub lentOps : List ℕ → List ℕ → Ops ℕ
 lentOps es ls = record { _⊕_ = xor; _⊙_ = tableProduct es ls; 𝟘 = 0; 𝟙 = 1; inv = tableInverse es ls }
@@ -40,6 +40,20 @@ module _ (m p : ℕ) (F : Field m p) where
   pub exponents-length : length (exponents m p) ≡ 2 ^ m
   unfolding exponents
   exponents-length = tabulate-length (2 ^ m) (exponent m p)
+
+  powers-at : (i : ℕ) → i < 2 ^ m - 1 → at (powers m p) i ≡ power m p i
+  unfolding powers
+  powers-at i h = tabulate-at (2 ^ m - 1) (power m p) i 0 h
+
+  exponents-at : (x : ℕ) → x < 2 ^ m → at (exponents m p) x ≡ exponent m p x
+  unfolding exponents
+  exponents-at x h = tabulate-at (2 ^ m) (exponent m p) x 0 h
+
+  own-exponent : (x : ℕ) → ¬ (x ≡ 0) → x < length (exponents m p) →
+      (at (exponents m p) x < length (powers m p)) × (at (powers m p) (at (exponents m p) x) ≡ x)
+  own-exponent x n h =
+      let small : x < 2 ^ m = rw exponents-length at h in
+      rw (exponents-at x small, powers-length, powers-at (exponent m p x) (F .exponent-lt x)) (F .exponent-lt x, F .power-exponent x (omega arith) small)
 
   own-laws : Laws (lentOps (powers m p) (exponents m p)) (λ a. a < 2 ^ m)
   own-laws =
@@ -89,6 +103,29 @@ module _ (es ls : List ℕ) (T : Tables es ls) where
       let L : Lent m p es ls = T .2 in
       rw (L .exp, L .log) (own-powers m p (L .field))
 
+  -- the exponent of an element but 0, and the element back
+  pub lent-exponent : (x : ℕ) → ¬ (x ≡ 0) → x < length ls → (at ls x < length es) × (at es (at ls x) ≡ x)
+  lent-exponent =
+      let m = T .0 in
+      let p = T .1 in
+      let L : Lent m p es ls = T .2 in
+      rw (L .exp, L .log) (own-exponent m p (L .field))
+
+  -- powers multiply by adding exponents
+  pub lent-power-sum : (i j : ℕ) → tablePower es (i + j) ≡ tableProduct es ls (tablePower es i) (tablePower es j)
+  lent-power-sum zero j = rw (zero-add, lent-powers .first) (sym (lent-laws .one-mul _ (lent-powers .inside j)))
+  lent-power-sum (suc i) j =
+      rw (suc-add, lent-powers .next (i + j), lent-power-sum i j, lent-powers .next i) (sym (lent-laws .mul-assoc _ _ _))
+
+  pub lent-power-at : (i : ℕ) → i < length es → at es i ≡ tablePower es i
+  unfolding tablePower
+  lent-power-at i h = rw (mod-eq-of-lt h)
+
+pub xorTo-same : (n : ℕ) (f g : ℕ → ℕ) → ((i : ℕ) → i < n → f i ≡ g i) → xorTo n f ≡ xorTo n g
+unfolding xorTo
+xorTo-same zero f g h = refl
+xorTo-same (suc n) f g h = ap₂ xor (xorTo-same n f g (λ i l. h i (omega arith))) (h n (le-refl (suc n)))
+
 -- values and syndromes are those of the abstract algebra
 module _ (es ls : List ℕ) where
   pub lent-value : (x : ℕ) (b : ℕ → ℕ) (n : ℕ) → horner (λ v. tableProduct es ls v x) b n ≡ valueAt (lentOps es ls) x b n
@@ -96,15 +133,24 @@ module _ (es ls : List ℕ) where
   lent-value x b zero = refl
   lent-value x b (suc n) = ap (λ (v : ℕ). xor (tableProduct es ls v x) (b n)) (lent-value x b n)
 
+  pub lentValue-is : (w : List ℕ) (x n : ℕ) → length w ≡ n → lentValue es ls w x ≡ valueAt (lentOps es ls) x (at w) n
+  unfolding lentValue
+  lentValue-is w x n long = lent-value x (at w) (length w) ∙ ap (valueAt (lentOps es ls) x (at w)) long
+
   pub lent-applied : (b s : ℕ → ℕ) (n : ℕ) → applied (tableProduct es ls) b n s ≡ appliedTo (lentOps es ls) b n s
   unfolding applied appliedTo
   lent-applied b s zero = refl
   lent-applied b s (suc n) = ap (λ (v : ℕ). xor v (tableProduct es ls (b n) (s 0))) (lent-applied b (λ k. s (suc k)) n)
 
-  timesPower-in : (x c j : ℕ) → timesPower (tableProduct es ls) x (tableProduct es ls x c) j ≡ tableProduct es ls x (timesPower (tableProduct es ls) x c j)
+  pub timesPower-in : (x c j : ℕ) → timesPower (tableProduct es ls) x (tableProduct es ls x c) j ≡ tableProduct es ls x (timesPower (tableProduct es ls) x c j)
   unfolding timesPower
   timesPower-in x c zero = refl
   timesPower-in x c (suc j) = ap (tableProduct es ls x) (timesPower-in x c j)
+
+  pub timesPower-zero : Tables es ls → (x j : ℕ) → timesPower (tableProduct es ls) x 0 j ≡ 0
+  unfolding timesPower
+  timesPower-zero T x zero = refl
+  timesPower-zero T x (suc j) = ap (tableProduct es ls x) (timesPower-zero T x j) ∙ mul-zero (lentOps es ls) (lent-laws es ls T) x
 
   pub powerSum-terms : {I : Type 0} (X e : I → ℕ) (ps : List I) (j : ℕ) → powerSum (lentOps es ls) X e ps j ≡ sum (lentOps es ls) (λ i. timesPower (tableProduct es ls) (X i) (e i) j) ps
   unfolding powerSum timesPower

@@ -15,7 +15,7 @@ use Rattle.words.specs.Places.{at, every, allBelow, bitOf, horner, value
 use Rattle.words.specs.InnerCode.{valueOf, powerB, divisor, remainder, isInner}
 use Rattle.words.proofs.Places.Tests.{every-at, below-at}
 use Rattle.words.proofs.Places.Numbers.{bitOf-lt, bitOf-zero, bitOf-half, bitOf-last, numberOf-same, numberOf-bits}
-use Rattle.words.proofs.Algebra.Field.{Apart, all-map, upto, upto-lt}
+use Rattle.words.proofs.Algebra.Field.{all-map, upto, upto-lt, upto-apart}
 use Rattle.words.proofs.Algebra.Locators.{vanishes}
 use Rattle.words.proofs.Algebra.Elements.{ops, laws}
 use Rattle.words.proofs.Algebra.Values.{value-abstract}
@@ -64,11 +64,6 @@ roots-differ k l h b e =
     exponent-of : (k : ℕ) → exponent 11 2053 (root k) ≡ conjugate k
     exponent-of k = field-b .exponent-power (conjugate k) (conjugate-lt k)
 
-roots-apart : (n : ℕ) → n ≤ 88 → Apart root (upto n)
-unfolding upto
-roots-apart zero h = tt
-roots-apart (suc n) h = (all-map (λ k l. roots-differ k n l h) (upto n) (upto-lt n), roots-apart n (omega arith))
-
 many : 88 ≤ length (upto 88)
 unfolding upto
 many = le-refl 88
@@ -92,7 +87,7 @@ module _ (r : ℕ) (small : r < 2 ^ 88) (odd : (j : ℕ) → j < 8 → Root (bit
 
   bits-zero : (k : ℕ) → k < 88 → bitOf 88 r k ≡ 0
   bits-zero =
-      vanishes (ops 11 2053) (laws 11 2053 field-b) root (λ k. field-b .power-lt (conjugate k)) 88 (bitOf 88 r) bit-lt (upto 88) many (roots-apart 88 (le-refl 88))
+      vanishes (ops 11 2053) (laws 11 2053 field-b) root (λ k. field-b .power-lt (conjugate k)) 88 (bitOf 88 r) bit-lt (upto 88) many (upto-apart root 88 roots-differ)
       (all-map (λ k l. sym (value-abstract 11 2053 field-b (root k) (field-b .power-lt (conjugate k)) (bitOf 88 r) bit-lt 88) ∙ root-conjugate k) (upto 88) (upto-lt 88))
 
   number-zero : r ≡ 0

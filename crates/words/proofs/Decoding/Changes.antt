@@ -15,11 +15,11 @@ use Rattle.fields.specs.ByTables.{tableProduct, tablePower}
 use Rattle.fields.proofs.Lists.{tabulate-at, tabulate-length}
 use Rattle.fields.proofs.Xor.{xor-cancel, xor-lt, xor-self, xor-zero-l, xor-zero-r}
 use Rattle.words.specs.Places.{at, allBelow, horner, sumTo, differs, apart}
-use Rattle.words.specs.Decoder.{Tables, locator, xorTo, timesPower, syndrome, errorAt, Decoded, weightOf, withErrors}
+use Rattle.words.specs.Decoder.{Tables, locator, xorTo, timesPower, syndrome, errorAt, Correctable, Decoded, weightOf, withErrors}
 use Rattle.words.proofs.Places.Tests.{below-at, below-all}
 use Rattle.words.proofs.Places.Counting.{differs-most, differs-self, sum-same, sum-add}
 use Rattle.words.proofs.Algebra.PowerSums.{powerSum-add, horner-sums}
-use Rattle.words.proofs.Algebra.Tables.{lentOps, lent-laws, lent-powers, lent-value, syndrome-is}
+use Rattle.words.proofs.Algebra.Tables.{lentOps, lent-laws, lent-powers, xorTo-same, lent-value, syndrome-is}
 
 sum-zero : (n : ℕ) (f : ℕ → ℕ) → ((i : ℕ) → i < n → f i ≡ 0) → sumTo n f ≡ 0
 unfolding sumTo
@@ -108,11 +108,6 @@ module _ (places values : List ℕ) where
 
 -- ---- syndromes
 
-pub xorTo-same : (n : ℕ) (f g : ℕ → ℕ) → ((i : ℕ) → i < n → f i ≡ g i) → xorTo n f ≡ xorTo n g
-unfolding xorTo
-xorTo-same zero f g h = refl
-xorTo-same (suc n) f g h = ap₂ xor (xorTo-same n f g (λ i l. h i (omega arith))) (h n (le-refl (suc n)))
-
 module _ (es ls : List ℕ) (n : ℕ) where
   pub syndrome-same : (e f : ℕ → ℕ) → ((i : ℕ) → i < n → e i ≡ f i) → (j : ℕ) → syndrome es ls n e j ≡ syndrome es ls n f j
   unfolding syndrome
@@ -140,9 +135,8 @@ module _ (es ls : List ℕ) (n : ℕ) where
         sym (xor-zero-r (at t j)) ∙ ap (xor (at t j)) (z ∙ D .left-is j l) ∙ xor-cancel (at t j) _
 
     -- if t are the syndromes of at most eight errors, nothing
-    pub few-leave-none : length left ≡ 16 → (e : ℕ → ℕ) → ((i : ℕ) → e i < length ls) → ((j : ℕ) → j < 16 → at t j ≡ syndrome es ls n e j) → sumTo n (λ i. differs (e i) 0) ≤ 8 →
-        allBelow 1 left ≡ true
-    few-leave-none long e inside sums few =
+    pub few-leave-none : length left ≡ 16 → (e : ℕ → ℕ) → Correctable es ls t n e → allBelow 1 left ≡ true
+    few-leave-none long e C =
         below-all 1 left (λ j h. let l : j < 16 = rw long at h in
-        let z : at left j ≡ 0 = D .left-is j l ∙ ap₂ xor (sums j l) (syndrome-same _ e (D .complete e inside sums few) j) ∙ xor-self (syndrome es ls n e j) in
+        let z : at left j ≡ 0 = D .left-is j l ∙ ap₂ xor (C .syndromes j l) (syndrome-same _ e (D .complete e C) j) ∙ xor-self (syndrome es ls n e j) in
         omega arith)

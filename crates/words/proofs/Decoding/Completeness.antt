@@ -15,12 +15,14 @@ use Rattle.fields.specs.ByTables.{tableProduct}
 use Rattle.words.specs.declared.decoder.Errors.{Errors}
 use Rattle.words.specs.declared.decoder.Places.{Places}
 use Rattle.words.specs.Places.{at}
-use Rattle.words.specs.Decoder.{Tables, locator, xorTo, timesPower, syndrome, Annihilates, backwards, Roots, errorValue, lessError, resolved, errorAt, Decoded}
+use Rattle.words.specs.Decoder.{Tables, locator, xorTo, timesPower, syndrome, Annihilates, backwards, Roots, errorValue, lessError, resolved, errorAt, Correctable, Decoded}
+use Rattle.words.proofs.Places.Filling.{zeros-at}
 use Rattle.words.proofs.Algebra.Field as F
 use Rattle.words.proofs.Algebra.Field.{Ops, Laws, all-map, upto, upto-lt}
-use Rattle.words.proofs.Algebra.PowerSums.{sum, powerSum, sum-zero, powerSum-add, sum-at, sum-put}
-use Rattle.words.proofs.Algebra.Tables.{lentOps, lent-laws, powerSum-terms, xorTo-sum, syndrome-is}
-use Rattle.words.proofs.Decoding.RootPlaces.{Correctable, locators-distinct, few-roots, covers}
+use Rattle.words.proofs.Algebra.PowerSums.{sum, powerSum, sum-zero, sum-at, sum-put}
+use Rattle.words.proofs.Algebra.Tables.{lentOps, lent-laws, timesPower-zero, powerSum-terms, xorTo-sum, syndrome-is}
+use Rattle.words.proofs.Decoding.RootPlaces.{locators-distinct, few-roots, covers}
+use Rattle.words.proofs.Decoding.Changes.{syndrome-add}
 use Rattle.words.proofs.Decoding.Values.{value-right, less-at, less-sums}
 
 -- the places p from k on have their values in e, and `left` is what these leave of the syndromes t
@@ -34,11 +36,6 @@ pub record Resolving (es ls t : List ℕ) (n : ℕ) (p : Places) (e : Errors) (k
   -- of errors that can be corrected, those at the places before k are left, and the others are found
   pub remain : (w : ℕ → ℕ) → Correctable es ls t n w → (j : ℕ) → j < 16 → at (e .left) j ≡ powerSum (lentOps es ls) (locator es n) w (backwards (p .at) k) j
   pub found : (w : ℕ → ℕ) → Correctable es ls t n w → (l : ℕ) → k ≤ l → l < p .count → at (e .values) l ≡ w (at (p .at) l)
-
-zeros-at : (n i : ℕ) → at (replicate n 0) i ≡ 0
-zeros-at zero i = refl
-zeros-at (suc n) zero = refl
-zeros-at (suc n) (suc i) = zeros-at n i
 
 -- an error v at place p and no other
 unfoldable pub oneError : ℕ → ℕ → ℕ → ℕ
@@ -67,26 +64,17 @@ module _ (es ls : List ℕ) (T : Tables es ls) where
   K : Laws O (λ a. a < length ls)
   K = lent-laws es ls T
 
-  -- ---- syndromes are additive; those of one error
-
-  timesPower-zero : (x j : ℕ) → timesPower (tableProduct es ls) x 0 j ≡ 0
-  unfolding timesPower
-  timesPower-zero x zero = refl
-  timesPower-zero x (suc j) = ap (tableProduct es ls x) (timesPower-zero x j) ∙ F.mul-zero O K x
+  -- ---- the syndromes of one error
 
   syndrome-none : (n j : ℕ) → syndrome es ls n (λ i. 0) j ≡ 0
   unfolding syndrome
-  syndrome-none n j = xorTo-sum es ls T _ n ∙ sum-zero O K (upto n) _ (all-map (λ i l. timesPower-zero (locator es n i) j) (upto n) (upto-lt n))
-
-  syndrome-add : (n : ℕ) (f g : ℕ → ℕ) (j : ℕ) → syndrome es ls n (λ i. xor (f i) (g i)) j ≡ xor (syndrome es ls n f j) (syndrome es ls n g j)
-  syndrome-add n f g j =
-      syndrome-is es ls T n _ j ∙ powerSum-add O K (locator es n) j (upto n) f g ∙ sym (ap₂ xor (syndrome-is es ls T n f j) (syndrome-is es ls T n g j))
+  syndrome-none n j = xorTo-sum es ls T _ n ∙ sum-zero O K (upto n) _ (all-map (λ i l. timesPower-zero es ls T (locator es n i) j) (upto n) (upto-lt n))
 
   syndrome-one : (n p v j : ℕ) → p < n → syndrome es ls n (oneError p v) j ≡ timesPower (tableProduct es ls) (locator es n p) v j
   unfolding syndrome
   syndrome-one n p v j h =
       let term : ℕ → ℕ → ℕ = λ i c. timesPower (tableProduct es ls) (locator es n i) c j in
-      xorTo-sum es ls T _ n ∙ sum-at O K (λ i. term i (oneError p v i)) p n h (λ i q. ap (term i) (one-elsewhere p v i q) ∙ timesPower-zero _ j)
+      xorTo-sum es ls T _ n ∙ sum-at O K (λ i. term i (oneError p v i)) p n h (λ i q. ap (term i) (one-elsewhere p v i q) ∙ timesPower-zero es ls T _ j)
       ∙ ap (term p) (one-here p v)
 
   -- ---- the errors found
@@ -132,7 +120,7 @@ module _ (es ls : List ℕ) (T : Tables es ls) where
           left-is = λ j h.
               less-at es ls T n x v′ left j h ∙ ap (λ (s : ℕ). xor s (timesPower (tableProduct es ls) x v′ j)) (S .left-is j h) ∙ K .add-assoc (at t j) _ _
               ∙ ap (xor (at t j)) (ap (xor (syndrome es ls n before j)) (sym (syndrome-one n place v′ j (R .below k (S .within))))
-              ∙ sym (syndrome-add n before (oneError place v′) j)
+              ∙ sym (syndrome-add es ls n T before (oneError place v′) j)
               ∙ ap (λ f. syndrome es ls n f j) (sym (fun-ext (error-set (p .at) values (p .count) k v′ (S .within) room (S .unset k (le-refl (suc k)))))));
           remain = λ w C j h.
               ap (λ (u : ℕ). at (lessError es ls x u left) j) (right w C) ∙ less-sums es ls T n w left place (backwards (p .at) k) (S .remain w C) j h;
@@ -198,7 +186,7 @@ module _ (es ls : List ℕ) (T : Tables es ls) where
                 sym (ap (xor (at t j)) (ap (λ f. syndrome es ls n f j) none ∙ syndrome-none n j) ∙ F.add-zero O K _);
             remain = λ w C j h.
                 C .syndromes j h ∙ syndrome-is es ls T n w j ∙ powerSum-terms es ls (locator es n) w (upto n) j
-                ∙ sym (covered w C _ (λ i z. ap (λ (c : ℕ). timesPower (tableProduct es ls) (locator es n i) c j) z ∙ timesPower-zero _ j))
+                ∙ sym (covered w C _ (λ i z. ap (λ (c : ℕ). timesPower (tableProduct es ls) (locator es n i) c j) z ∙ timesPower-zero es ls T _ j))
                 ∙ sym (powerSum-terms es ls (locator es n) w (backwards (p .at) (p .count)) j);
             found = λ w C l h b. absurd (omega arith);
           }
@@ -212,8 +200,7 @@ module _ (es ls : List ℕ) (T : Tables es ls) where
             ascending = R .ascending;
             elements = λ l h. S .elements l;
             left-is = S .left-is;
-            complete = λ w elements syndromes few i h.
-                let C : Correctable es ls t n w = record { elements = elements; syndromes = syndromes; few = few } in
+            complete = λ w C i h.
                 let f : ℕ → ℕ = λ q. oneError q (w q) i in
                 backwards-sum (p .at) _ f (p .count) (λ l b. ap (λ (v : ℕ). oneError (at (p .at) l) v i) (S .found w C l (omega arith) b))
                 ∙ covered w C f (λ q y. ap (λ (v : ℕ). oneError q v i) y ∙ one-none q i)

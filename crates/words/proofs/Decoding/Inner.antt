@@ -17,7 +17,7 @@ use Rattle.fields.proofs.Xor.{xor-lt, xor-self, xor-zero-l, xor-zero-r}
 use Rattle.words.specs.Places.{at, allBelow, bitAt, bitsOf, value, sumTo, differs, apart}
 use Rattle.words.specs.InnerCode.{powerB, isInner}
 use Rattle.words.specs.Nearest.{nearest}
-use Rattle.words.specs.Decoder.{locator, xorTo, syndrome, errorAt, Decoded, weightOf, withErrors}
+use Rattle.words.specs.Decoder.{locator, xorTo, syndrome, errorAt, Correctable, Decoded, weightOf, withErrors}
 use Rattle.words.specs.InnerDecoding.{isBit, isBinary, flips, InnerErrors, explains}
 use Rattle.words.proofs.Places.Tests.{every-at, every-true, below-at, below-all}
 use Rattle.words.proofs.Places.Bytes.{bitAt-lt, bits-at, bits-length}
@@ -163,15 +163,18 @@ module _ (w : List ℕ) (long : length w ≡ 255) (places values : List ℕ) (co
             times-differs powersB exponentsB tables-b (locator powersB 2040 i) (d i) (locator-lt i) (locator-not i) (d-lt i)
             ∙ differs-sum (bitAt w i) (at c i) ∙ ap (λ (x : ℕ). differs x (at c i)) (sym (bits-at w i))
 
+    correctable : Correctable powersB exponentsB t 2040 (located d)
+    correctable = record { elements = located-lt d; syndromes = sums; few = few }
+
     near-leaves-none : allBelow 1 left ≡ true
-    near-leaves-none = few-leave-none powersB exponentsB 2040 t places values count left D (E .left-long) (located d) (located-lt d) sums few
+    near-leaves-none = few-leave-none powersB exponentsB 2040 t places values count left D (E .left-long) (located d) correctable
 
     near-binary : isBinary powersB places values count ≡ true
     unfolding isBinary located
     near-binary =
         every-true count (λ l. isBit (at values l) (locator powersB 2040 (at places l)))
         (λ l h. let i = at places l in
-        let v : at values l ≡ located d i = sym (error-here places values count l h (D .ascending)) ∙ D .complete (located d) (located-lt d) sums few i (D .below l h) in
+        let v : at values l ≡ located d i = sym (error-here places values count l h (D .ascending)) ∙ D .complete (located d) correctable i (D .below l h) in
         rw v (times-bit powersB exponentsB tables-b (locator powersB 2040 i) (d i) (locator-lt i) (d-lt i)))
 
     near-explained : explains powersB places values count left ≡ true

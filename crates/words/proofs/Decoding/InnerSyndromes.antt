@@ -24,13 +24,13 @@ use Rattle.words.proofs.Places.Numbers.{bitOf-lt}
 use Rattle.words.proofs.Algebra.Field.{mul-comm, mul-add, mul-zero}
 use Rattle.words.proofs.Algebra.PowerSums.{powerSum}
 use Rattle.words.proofs.Algebra.Values.{value-lt}
-use Rattle.words.proofs.Algebra.Tables.{lentOps, lent-laws, lent-powers, exponents-length, syndrome-is}
+use Rattle.words.proofs.Algebra.Tables.{lentOps, lent-laws, lent-powers, exponents-length, syndrome-is, xorTo-same}
 use Rattle.words.proofs.Codes.Horner.{Additive, iter, iter-sum, horner-front}
 use Rattle.words.proofs.Codes.Lent.{product-same, horner-lent}
 use Rattle.words.proofs.Codes.Squares.{squares}
 use Rattle.words.proofs.Codes.InnerWords.{by-doubling}
 use Rattle.words.proofs.Codes.InnerRoots.{remainder-bits}
-use Rattle.words.proofs.Decoding.Changes.{xorTo-same, value-syndrome}
+use Rattle.words.proofs.Decoding.Changes.{value-syndrome}
 
 -- bits times locators
 module _ (es ls : List ℕ) (T : Tables es ls) where

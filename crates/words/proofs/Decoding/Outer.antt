@@ -98,7 +98,11 @@ module _ (w : List ℕ) (symbols : allBelow 1024 w ≡ true) (places values : Li
     near-left : allBelow 1 left ≡ true
     near-left =
         few-leave-none powersA exponentsA n t places values count left D long (λ i. xor (at w i) (at c i))
-        (λ i. rw log-length (xor-lt 10 _ _ (word-lt i) (symbol-lt i))) between (omega (arith, sum-weight w c))
+        (record {
+          elements = λ i. rw log-length (xor-lt 10 _ _ (word-lt i) (symbol-lt i));
+          syndromes = between;
+          few = omega (arith, sum-weight w c);
+        })
 
   -- if something is left, there is none
   pub outer-lost : length left ≡ 16 → allBelow 1 left ≡ false → nearest isOuter 1024 8 w ≡ none

@@ -11,21 +11,15 @@ use lib.Dec.{eqb}
 use lib.ListN.{length}
 use Rattle.fields.specs.Elements.{xor}
 use Rattle.fields.specs.ByTables.{tableProduct}
-use Rattle.words.specs.Places.{at, sumTo, differs}
+use Rattle.words.specs.Places.{at, differs}
 use Rattle.words.specs.ByTables.{lentValue}
-use Rattle.words.specs.Decoder.{Tables, locator, syndrome, applied, Annihilates, rootPlaces}
+use Rattle.words.specs.Decoder.{Correctable, Tables, locator, applied, Annihilates, rootPlaces}
 use Rattle.words.proofs.Algebra.Field.{Ops, Laws, All, all-map, Apart, upto, upto-apart, all-upto, zero-add}
 use Rattle.words.proofs.Algebra.PowerSums.{sum, powerSum, valueAt}
 use Rattle.words.proofs.Algebra.Support.{support, support-nonzero, all-support, support-apart, support-powerSum, support-count}
 use Rattle.words.proofs.Algebra.Locators.{appliedTo, locates, vanishes}
 use Rattle.words.proofs.Algebra.Elements.{isZero}
-use Rattle.words.proofs.Algebra.Tables.{lentOps, lent-laws, lent-powers, lent-value, syndrome-is}
-
--- t are the syndromes of the errors e in a word of n places, and at most eight of these are not zero
-pub record Correctable (es ls t : List ℕ) (n : ℕ) (e : ℕ → ℕ) : Type 0 where
-  pub elements : (i : ℕ) → e i < length ls
-  pub syndromes : (j : ℕ) → j < 16 → at t j ≡ syndrome es ls n e j
-  pub few : sumTo n (λ i. differs (e i) 0) ≤ 8
+use Rattle.words.proofs.Algebra.Tables.{lentOps, lent-laws, lent-powers, lentValue-is, syndrome-is}
 
 applied-is : (es ls : List ℕ) (b : ℕ → ℕ) (n : ℕ) (s u : ℕ → ℕ) → ((k : ℕ) → k < n → u k ≡ s k) →
     appliedTo (lentOps es ls) b n u ≡ applied (tableProduct es ls) b n s
@@ -96,8 +90,7 @@ module _ (es ls : List ℕ) (T : Tables es ls) (n : ℕ) where
     -- v annihilates the syndromes t
     module _ (fits : n ≤ length es) (t : List ℕ) (A : Annihilates es ls t v) (nine : length v ≡ 9) where
       value-is : (i : ℕ) → lentValue es ls v (X i) ≡ valueAt O (X i) (at v) 9
-      unfolding lentValue
-      value-is i = lent-value es ls (X i) (at v) (length v) ∙ ap (valueAt O (X i) (at v)) nine
+      value-is i = lentValue-is es ls v (X i) 9 nine
 
       pub few-roots : length (roots n) ≤ 8
       few-roots = go (decLt 8 (length (roots n)))

@@ -11,7 +11,7 @@ use Rattle.fields.proofs.Lists.{tabulate-at}
 use Rattle.words.specs.Places.{at}
 use Rattle.words.specs.Decoder.{Tables, locator, timesPower, backwards, filtered, filteredBy, filterFactor, errorValue, lessError}
 use Rattle.words.proofs.Algebra.Field as F
-use Rattle.words.proofs.Algebra.Field.{Ops, Laws, All, all-map, cancel, eq-of-add, mul-left}
+use Rattle.words.proofs.Algebra.Field.{Ops, Laws, All, all-map, cancel, eq-of-add, mul-left, undo}
 use Rattle.words.proofs.Algebra.PowerSums.{sum, powerSum, sum-zero, powerSum-filter}
 use Rattle.words.proofs.Algebra.Tables.{lentOps, lent-laws, powerSum-terms}
 use Rattle.words.proofs.Decoding.RootPlaces.{locator-in}
@@ -87,9 +87,7 @@ module _ (es ls : List ℕ) (T : Tables es ls) (n : ℕ) where
         nonzero = factor-nonzero (X (at places k)) (locator-in es ls T n (at places k)) k distinct
 
         undone : tableProduct es ls (tableProduct es ls f v) (tableInverse es ls f) ≡ v
-        undone =
-            F.mul-comm O K _ _ ∙ sym (K .mul-assoc (tableInverse es ls f) f v)
-            ∙ ap (λ (u : ℕ). tableProduct es ls u v) (K .mul-comm (tableInverse es ls f) f ∙ K .mul-inv f (factor-in _ k) nonzero) ∙ K .one-mul v (in-e _)
+        undone = F.mul-comm O K _ _ ∙ undo O K (in-e (at places k)) (factor-in (X (at places k)) k) nonzero
 
   -- an error taken away from the power sums
   pub less-at : (x v : ℕ) (t : List ℕ) (j : ℕ) → j < 16 → at (lessError es ls x v t) j ≡ xor (at t j) (timesPower (tableProduct es ls) x v j)

@@ -38,7 +38,7 @@ number-of-bits m x s (suc n) h =
     omega (arith, number-of-bits m x s n (omega arith))
 
 -- past the end of the bytes a bit is 0
-pub place-past : (bytes : List ℕ) (i : ℕ) → length bytes ≤ i / 8 → 0 ≡ bitAt bytes i
+place-past : (bytes : List ℕ) (i : ℕ) → length bytes ≤ i / 8 → 0 ≡ bitAt bytes i
 unfolding bitAt
 place-past bytes i h = sym (rw (List·getD-eq-default bytes 0 {n = i / 8} h) (bitOf-zero 8 (i % 8)))
 

@@ -1,23 +1,16 @@
--- The search for the roots and the resolving of the errors: a law for each way through a function and for each step of a loop. Assumes nothing.
-use mathlib.Core.Path.{_≡_, refl, sym, ap, ap₂, _∙_}
-use mathlib.Core.Bool.{Bool, true, false, cond}
-use mathlib.Core.List.{List, _∷_}
-use Prim.Native.Nat.{ℕ, zero, suc, _+_, _-_, _≤_, _<_}
-use native.Mathlib.Decide.{ℕ-discrete, decLt}
-use native.Mathlib.Nat.{le-refl, not-suc-le-zero}
+-- Locators and the resolving of the errors: a law for each way through a function and for each step of a loop. Assumes nothing.
+use mathlib.Core.Path.{_≡_, refl, ap, ap₂, _∙_}
+use mathlib.Core.List.{List}
+use Prim.Native.Nat.{ℕ, suc, _+_, _-_, _≤_, _<_}
 use native.Mathlib.Numerals.{add-one}
 use native.Mathlib.Omega.{arith}
-use borrow.Author.Tests.{eq-eqb, ne-eqb, lt-ltb, le-ltb}
-use lib.Dec.{eqb, ltb}
-use lib.ListN.{length, getD, set, length-set}
-use lib.Seq.{getD-set-same, getD-set-other}
+use borrow.Author.Tests.{eq-eqb, ne-eqb}
+use lib.ListN.{getD, set}
 use Rattle.fields.specs.Elements.{xor}
 use Rattle.fields.specs.ByTables.{tableProduct, tableInverse, tablePower}
 use Rattle.words.specs.declared.decoder.Errors.{Errors}
-use Rattle.words.specs.declared.decoder.Places.{Places}
 use Rattle.words.specs.Places.{at, sumTo, differs}
-use Rattle.words.specs.ByTables.{lentValue}
-use Rattle.words.specs.Decoder.{locator, timesPower, rootPlaces, backwards, kept, Roots, filtered, filteredBy, filterFactor, errorValue, lessError, resolved, weightOf}
+use Rattle.words.specs.Decoder.{locator, timesPower, filtered, filteredBy, filterFactor, errorValue, lessError, resolved, weightOf}
 use Rattle.words.proofs.Places.Filling.{Filled, filled-next, filled-end}
 
 -- the locator of a place, and of a place past the end
@@ -28,110 +21,6 @@ locator-inside es n i r h e = let q : n - 1 - i ≡ n - suc i = omega arith in r
 pub locator-past : (es : List ℕ) (n i r : ℕ) → n ≤ i → r ≡ tablePower es 0 → r ≡ locator es n i
 unfolding locator
 locator-past es n i r h e = let q : n - suc i ≡ 0 = omega arith in rw q e
-
--- ---- the roots
-
-module _ (i value : ℕ) (p : Places) where
-  pub kept-other : (value ≡ 0 → ⊥) → p ≡ kept i value p
-  unfolding kept
-  kept-other n = rw (ne-eqb value 0 n)
-
-  module _ (root : value ≡ 0) where
-    pub kept-full : 8 ≤ p .count → p ≡ kept i value p
-    unfolding kept
-    kept-full h = rw (eq-eqb value 0 root, le-ltb (p .count) 8 h)
-
-    pub kept-new : p .count < 8 → record { at = set (p .at) (p .count) i; count = p .count + 1 } ≡ kept i value p
-    unfolding kept
-    kept-new h = rw (eq-eqb value 0 root, lt-ltb (p .count) 8 h)
-
--- the first k entries, backwards: how many, and what a later one that is stored changes in them
-backwards-length : (l : List ℕ) (k : ℕ) → length (backwards l k) ≡ k
-unfolding backwards
-backwards-length l zero = refl
-backwards-length l (suc k) = ap suc (backwards-length l k)
-
-backwards-set : (l : List ℕ) (c i k : ℕ) → k ≤ c → backwards (set l c i) k ≡ backwards l k
-unfolding backwards
-backwards-set l c i zero h = refl
-backwards-set l c i (suc k) h = ap₂ (λ (a : ℕ) (r : List ℕ). a ∷ r) (getD-set-other l c k i 0 (λ e. omega arith)) (backwards-set l c i k (omega arith))
-
-pub kept-long : (i value : ℕ) (p q : Places) → length (p .at) ≡ 8 → q ≡ kept i value p → length (q .at) ≡ 8
-unfolding kept
-kept-long i value p q long e = rw e (go (eqb value 0) (ltb (p .count) 8))
-  where
-    go : (b c : Bool) → length (cond b (cond c (record { at = set (p .at) (p .count) i; count = p .count + 1 }) p) p .at) ≡ 8
-    go false c = long
-    go true false = long
-    go true true = length-set (p .at) (p .count) i ∙ long
-
-pub roots-none : (es ls v : List ℕ) (n : ℕ) (places : List ℕ) → Roots es ls v n 0 places 0
-unfolding backwards rootPlaces
-roots-none es ls v n places =
-    record { few = omega arith; below = λ k h. absurd (not-suc-le-zero h); ascending = λ k l h b. absurd (not-suc-le-zero b); all = λ h. refl }
-
-module _ (es ls v : List ℕ) (n i : ℕ) (p : Places) (so-far : Roots es ls v n i (p .at) (p .count)) where
-  -- nothing is kept, and the roots are the same unless there are more than eight
-  stays : (length (rootPlaces es ls v n (suc i)) ≤ 8 → rootPlaces es ls v n (suc i) ≡ rootPlaces es ls v n i) → Roots es ls v n (suc i) (p .at) (p .count)
-  stays h =
-      record {
-        few = so-far .few;
-        below = λ k b. omega (arith, so-far .below k b);
-        ascending = so-far .ascending;
-        all = λ l. let e = h l in so-far .all (rw e at l) ∙ sym e;
-      }
-
-  -- place i is kept
-  grows : length (p .at) ≡ 8 → p .count < 8 → rootPlaces es ls v n (suc i) ≡ i ∷ rootPlaces es ls v n i →
-      Roots es ls v n (suc i) (set (p .at) (p .count) i) (p .count + 1)
-  unfolding backwards
-  grows long room e =
-      record {
-        few = omega arith;
-        below = λ k h. below′ k h (decLt k (p .count));
-        ascending = λ k l h b. ascending′ k l h b (decLt l (p .count));
-        all = λ h. rw (add-one, last, backwards-set (p .at) (p .count) i (p .count) (le-refl (p .count)), e)
-            (ap (λ (r : List ℕ). i ∷ r) (so-far .all (omega (arith, rw e at h))));
-      }
-    where
-      places : List ℕ
-      places = set (p .at) (p .count) i
-
-      before : (k : ℕ) → k < p .count → at places k ≡ at (p .at) k
-      before k h = getD-set-other (p .at) (p .count) k i 0 (λ q. omega arith)
-
-      last : at places (p .count) ≡ i
-      last = getD-set-same (p .at) (p .count) i 0 (omega arith)
-
-      after : (k : ℕ) → k < p .count + 1 → ¬ (k < p .count) → at places k ≡ i
-      after k h g = let q : k ≡ p .count = omega arith in rw q last
-
-      below′ : (k : ℕ) → k < p .count + 1 → Dec (k < p .count) → at places k < suc i
-      below′ k h (yes b) = rw (before k b) (omega (arith, so-far .below k b))
-      below′ k h (no b) = rw (after k h b) (le-refl (suc i))
-
-      ascending′ : (k l : ℕ) → k < l → l < p .count + 1 → Dec (l < p .count) → at places k < at places l
-      ascending′ k l h b (yes y) = rw (before k (omega arith), before l y) (so-far .ascending k l h y)
-      ascending′ k l h b (no y) = rw (before k (omega arith), after l b y) (so-far .below k (omega arith))
-
-  pub roots-next : length (p .at) ≡ 8 → (x value : ℕ) (q : Places) → x ≡ locator es n i → value ≡ lentValue es ls v x → q ≡ kept i value p →
-      Roots es ls v n (i + 1) (q .at) (q .count)
-  unfolding rootPlaces
-  roots-next long x value q ex ev eq = rw (add-one, eq) (go (ℕ-discrete value 0) (decLt (p .count) 8))
-    where
-      tested : value ≡ lentValue es ls v (locator es n i)
-      tested = rw ex at ev
-
-      go : Dec (value ≡ 0) → Dec (p .count < 8) → Roots es ls v n (suc i) (kept i value p .at) (kept i value p .count)
-      go (no z) d = rw (← kept-other i value p z) (stays (λ h. rw (← tested, ne-eqb value 0 z)))
-      go (yes z) (yes room) = rw (← kept-new i value p z room) (grows long room (rw (← tested, eq-eqb value 0 z)))
-      go (yes z) (no full) =
-          rw (← kept-full i value p z (omega arith)) (stays (λ h. absurd (
-          let b : suc (length (rootPlaces es ls v n i)) ≤ 8 = rw (← tested, eq-eqb value 0 z) at h in
-          omega (arith, backwards-length (p .at) (p .count), ap length (so-far .all (omega arith))))))
-
-pub roots-end : (es ls v : List ℕ) (n i : ℕ) (p : Places) → Roots es ls v n i (p .at) (p .count) → i ≤ n → n ≤ i → Roots es ls v n n (p .at) (p .count)
-roots-end es ls v n i p h lo hi = let e : i ≡ n = omega arith in rw e at h
 
 -- ---- the values
 

@@ -216,7 +216,7 @@ fn next_value(exp: &[u16], exponents: &mut [usize], steps: &[usize], count: usiz
     v
 }
 
-// The first place from i on whose locator is a root, or n.
+// The first place from i on whose locator is a root, or n. A single term has none.
 fn next_root(exp: &[u16], log: &[u16], polynomial: [u16; COEFFICIENTS], n: usize, i: usize) -> usize
     requires { ⌜ Tables (now exp) (now log) ⌝ }
     requires { ⌜ (n ≤ length (now exp)) × (n < 65536) × (i ≤ n) ⌝ }
@@ -227,6 +227,9 @@ fn next_root(exp: &[u16], log: &[u16], polynomial: [u16; COEFFICIENTS], n: usize
     let mut exponents = t.exponents;
     let steps = t.steps;
     let count = t.count;
+    if count == 1 {
+        return n;
+    }
     let mut j = i;
     while j < n {
         if next_value(exp, &mut exponents, &steps, count) == 0 {

@@ -118,6 +118,12 @@ module _ (es ls : List ℕ) (T : Tables es ls) where
       let q = tableInverse es ls (at es s) in
       ap (λ (u : ℕ). timesPower (tableProduct es ls) q u k) (sym (less-power e s he hs)) ∙ timesPower-in es ls q (at es e) k
 
+  -- a term is nowhere zero
+  fallen-not : (k e s : ℕ) → e < length es → s < length es → ¬ (fallen es ls k e s ≡ 0)
+  unfolding fallen timesPower
+  fallen-not zero e s he hs z = P .nonzero e (sym (lent-power-at es ls T e he) ∙ z)
+  fallen-not (suc k) e s he hs z = fallen-not k (lessModulo (length es) e s) s (less-lt (length es) e s he hs) hs (fallen-next k e s he hs ∙ z)
+
   module _ (n : ℕ) where
     abbrev X : ℕ → ℕ
     X = locator es n
@@ -126,6 +132,15 @@ module _ (es ls : List ℕ) (T : Tables es ls) where
       pub walk-value : (r : ℕ) → j < n → r ≡ powersTo es e count → r ≡ lentValue es ls v (X j)
       unfolding powersTo fallen timesPower
       walk-value r h q = let z : j + 0 ≡ j = omega arith in q ∙ W .values 0 (rw z h) ∙ ap (λ (i : ℕ). lentValue es ls v (X i)) z
+
+      -- a single term has no root
+      pub walk-single : count ≡ 1 → Exponents es count e → Exponents es count s → (k : ℕ) → j ≤ k → k < n → ¬ RootAt es ls v n k
+      unfolding xorTo
+      walk-single one E S k lo hi z =
+          let q : j + (k - j) ≡ k = omega arith in
+          let single : xorTo count (λ l. fallen es ls (k - j) (at e l) (at s l)) ≡ fallen es ls (k - j) (at e 0) (at s 0) = rw one (K .zero-add _) in
+          fallen-not (k - j) (at e 0) (at s 0) (E .inside 0 (omega arith)) (S .inside 0 (omega arith))
+          (sym single ∙ W .values (k - j) (omega arith) ∙ ap (λ (i : ℕ). lentValue es ls v (X i)) q ∙ z)
 
       pub walk-next : Exponents es count e → Exponents es count s → Walk es ls v n (j + 1) (lowered (length es) e s count) s count
       walk-next E S =

@@ -15,7 +15,7 @@ use Rattle.fields.specs.ByTables.{tableProduct, tablePower}
 use Rattle.words.specs.declared.decoder.Terms.{Terms}
 use Rattle.words.specs.Places.{at}
 use Rattle.words.specs.Decoder.{Tables, locator, xorTo, timesPower, addTerm, withTerm, termsTo, Exponents, powersTo, lessModulo, lowered, RootAt, FirstRoot}
-use Rattle.words.proofs.Decoding.Search.{lowered-long, lowered-other, lowered-in, Walk, walk-value, walk-next, terms-long, exponents-in, steps-in, walk-start}
+use Rattle.words.proofs.Decoding.Search.{lowered-long, lowered-other, lowered-in, Walk, walk-value, walk-single, walk-next, terms-long, exponents-in, steps-in, walk-start}
 use Rattle.words.proofs.Steps.Errors.{power-next}
 
 -- ---- the terms
@@ -160,6 +160,15 @@ module _ (es ls v : List ℕ) (n i x : ℕ) (t : Terms) (T : Tables es ls) (elem
         steps-are = steps-in es ls T n v elements nine i t all;
         walk = λ v W. W;
         free = λ v W k lo hi. absurd (omega arith);
+      }
+
+  pub single-none : i ≤ n → t .count ≡ 1 → FirstRoot es ls v n i n
+  single-none h one =
+      record {
+        from = h;
+        most = le-refl n;
+        before = walk-single es ls T n v i (t .exponents) (t .steps) (t .count) start one (exponents-in es ls T n v elements nine i t all) (steps-in es ls T n v elements nine i t all);
+        here = λ b. absurd (omega arith);
       }
 
   module _ (j : ℕ) (e : List ℕ) (so-far : Passed es ls n i (t .exponents) (t .steps) (t .count) j e) where

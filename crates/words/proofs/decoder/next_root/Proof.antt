@@ -1,7 +1,7 @@
 -- `words::decoder::next_root` meets its contract. Assumes nothing.
 use Prim.Native.Nat.{_-_}
 use borrow.Author.Needs.{needs}
-use Rattle.words.proofs.Steps.Search.{Passed, passed-none, passed-found, passed-end, passed-next}
+use Rattle.words.proofs.Steps.Search.{Passed, single-none, passed-none, passed-found, passed-end, passed-next}
 use Rattle.words.proofs.decoder.next_root.Statement.{statement}
 use Rattle.words.proofs.decoder.next_root.Tie as tie
 
@@ -17,6 +17,9 @@ locator-requires c κs = search needs
 terms-at-requires : tie.Need-terms-at-requires Inv-loop μ-loop
 terms-at-requires c κs = search needs
 
+returns : tie.Need-returns Inv-loop μ-loop
+returns c = search (needs, single-none)
+
 loop-holds : tie.Need-loop-holds Inv-loop μ-loop
 loop-holds c = search (needs, passed-none)
 
@@ -29,8 +32,8 @@ slice-aggregate-next-value-2 c = search needs
 next-value-requires : tie.Need-next-value-requires Inv-loop μ-loop
 next-value-requires c κs = search needs
 
-returns : tie.Need-returns Inv-loop μ-loop
-returns c = search (needs, passed-found)
+returns-2 : tie.Need-returns-2 Inv-loop μ-loop
+returns-2 c = search (needs, passed-found)
 
 add-j : tie.Need-add-j Inv-loop μ-loop
 add-j c = search needs
@@ -41,8 +44,8 @@ loop-less c = search needs
 loop-again : tie.Need-loop-again Inv-loop μ-loop
 loop-again c = search (needs, passed-next)
 
-returns-2 : tie.Need-returns-2 Inv-loop μ-loop
-returns-2 c = search (needs, passed-end)
+returns-3 : tie.Need-returns-3 Inv-loop μ-loop
+returns-3 c = search (needs, passed-end)
 
 pub next-root-spec : {M : Type 1} → statement M
 next-root-spec =
@@ -52,12 +55,13 @@ next-root-spec =
     μ-loop
     locator-requires
     terms-at-requires
+    returns
     loop-holds
     slice-aggregate-next-value
     slice-aggregate-next-value-2
     next-value-requires
-    returns
+    returns-2
     add-j
     loop-less
     loop-again
-    returns-2)
+    returns-3)

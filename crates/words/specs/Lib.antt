@@ -9,4 +9,5 @@ pub mod Codes
 pub mod ByTables
 pub mod Limbs
 pub mod Decoder
+pub mod DecoderSteps
 pub mod InnerDecoding

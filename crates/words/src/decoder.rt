@@ -17,7 +17,8 @@ ghost use Rattle.fields.specs.Lists.{tabulate};
 ghost use Rattle.fields.specs.Elements.{xor};
 ghost use Rattle.fields.specs.ByTables.{tableProduct};
 ghost use Rattle.words.specs.Places.{at, differs};
-ghost use Rattle.words.specs.Decoder.{Tables, locator, Annihilates, powerRow, plusScaled, cleared, reduced, FirstNonzero, kept, Roots, withTerm, termsTo, lessModulo, Exponents, powersTo, lowered, FirstRoot, quotientOf, filtered, errorValue, lessError, resolved, Decoded, weightOf};
+ghost use Rattle.words.specs.Decoder.{Tables, locator, Decoded, weightOf};
+ghost use Rattle.words.specs.DecoderSteps.{Annihilates, powerRow, plusScaled, cleared, reduced, FirstNonzero, kept, Roots, withTerm, termsTo, lessModulo, Exponents, powersTo, lowered, FirstRoot, quotientOf, filtered, errorValue, lessError, resolved};
 
 // Errors in up to so many places are found.
 pub const RADIUS: usize = 8;

@@ -12,7 +12,8 @@ use Rattle.fields.proofs.ByTables.{table-power, table-product, table-inverse}
 use Rattle.fields.proofs.Lists.{tabulate-length, tabulate-at}
 use Rattle.words.specs.Places.{at, horner}
 use Rattle.words.specs.ByTables.{lentValue}
-use Rattle.words.specs.Decoder.{Tables, locator, xorTo, timesPower, syndrome, applied}
+use Rattle.words.specs.Decoder.{Tables, locator, xorTo, timesPower, syndrome}
+use Rattle.words.specs.DecoderSteps.{applied}
 use Rattle.words.proofs.Algebra.Field.{Ops, Laws, upto, mul-zero}
 use Rattle.words.proofs.Algebra.PowerSums.{sum, powerSum, valueAt}
 use Rattle.words.proofs.Algebra.Locators.{appliedTo}

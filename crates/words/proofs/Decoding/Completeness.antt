@@ -15,7 +15,8 @@ use Rattle.fields.specs.ByTables.{tableProduct}
 use Rattle.words.specs.declared.decoder.Errors.{Errors}
 use Rattle.words.specs.declared.decoder.Places.{Places}
 use Rattle.words.specs.Places.{at}
-use Rattle.words.specs.Decoder.{Tables, locator, xorTo, timesPower, syndrome, Annihilates, backwards, Roots, errorValue, lessError, resolved, errorAt, Correctable, Decoded}
+use Rattle.words.specs.Decoder.{Tables, locator, xorTo, timesPower, syndrome, errorAt, Correctable, Decoded}
+use Rattle.words.specs.DecoderSteps.{Annihilates, backwards, Roots, errorValue, lessError, resolved}
 use Rattle.words.proofs.Places.Filling.{zeros-at}
 use Rattle.words.proofs.Algebra.Field as F
 use Rattle.words.proofs.Algebra.Field.{Ops, Laws, all-map, upto, upto-lt}

@@ -16,7 +16,8 @@ use Rattle.fields.specs.ByTables.{tableProduct, tableInverse}
 use Rattle.fields.proofs.Lists.{tabulate-at, tabulate-lt}
 use Rattle.words.specs.declared.decoder.Row.{Row}
 use Rattle.words.specs.Places.{at, sumTo, differs}
-use Rattle.words.specs.Decoder.{Tables, Annihilates, powerRow, plusScaled, cleared, noRow, cellsOf, reduced, FirstNonzero}
+use Rattle.words.specs.Decoder.{Tables}
+use Rattle.words.specs.DecoderSteps.{Annihilates, powerRow, plusScaled, cleared, noRow, cellsOf, reduced, FirstNonzero}
 use Rattle.words.proofs.Places.Counting.{differs-most, sum-most, sum-one-more}
 use Rattle.words.proofs.Places.Filling.{zeros-at}
 use Rattle.words.proofs.Algebra.Field.{Ops, Laws, add-self, add-zero, mul-comm, mul-assoc, mul-zero}

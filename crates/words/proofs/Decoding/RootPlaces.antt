@@ -13,7 +13,8 @@ use Rattle.fields.specs.Elements.{xor}
 use Rattle.fields.specs.ByTables.{tableProduct}
 use Rattle.words.specs.Places.{at, differs}
 use Rattle.words.specs.ByTables.{lentValue}
-use Rattle.words.specs.Decoder.{Correctable, Tables, locator, applied, Annihilates, rootPlaces}
+use Rattle.words.specs.Decoder.{Correctable, Tables, locator}
+use Rattle.words.specs.DecoderSteps.{applied, Annihilates, rootPlaces}
 use Rattle.words.proofs.Algebra.Field.{Ops, Laws, All, all-map, Apart, upto, upto-apart, all-upto, zero-add}
 use Rattle.words.proofs.Algebra.PowerSums.{sum, powerSum, valueAt}
 use Rattle.words.proofs.Algebra.Support.{support, support-nonzero, all-support, support-apart, support-powerSum, support-count}

@@ -17,7 +17,8 @@ use Rattle.fields.proofs.Lists.{tabulate-at, tabulate-length, tabulate-lt}
 use Rattle.words.specs.declared.decoder.Terms.{Terms}
 use Rattle.words.specs.Places.{at}
 use Rattle.words.specs.ByTables.{lentValue}
-use Rattle.words.specs.Decoder.{Tables, locator, xorTo, timesPower, addTerm, withTerm, termsTo, Exponents, powersTo, lessModulo, lowered, RootAt, quotientOf}
+use Rattle.words.specs.Decoder.{Tables, locator, xorTo, timesPower}
+use Rattle.words.specs.DecoderSteps.{addTerm, withTerm, termsTo, Exponents, powersTo, lessModulo, lowered, RootAt, quotientOf}
 use Rattle.words.proofs.Algebra.Field.{Ops, Laws, add-zero, mul-left, undo}
 use Rattle.words.proofs.Algebra.PowerSums.{valueAt, value-in, value-same}
 use Rattle.words.proofs.Algebra.Locators.{value-first, quotient-root, root-quotient}

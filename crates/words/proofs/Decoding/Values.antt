@@ -9,7 +9,8 @@ use Rattle.fields.specs.Elements.{xor}
 use Rattle.fields.specs.ByTables.{tableProduct, tableInverse}
 use Rattle.fields.proofs.Lists.{tabulate-at}
 use Rattle.words.specs.Places.{at}
-use Rattle.words.specs.Decoder.{Tables, locator, timesPower, backwards, filtered, filteredBy, filterFactor, errorValue, lessError}
+use Rattle.words.specs.Decoder.{Tables, locator, timesPower}
+use Rattle.words.specs.DecoderSteps.{backwards, filtered, filteredBy, filterFactor, errorValue, lessError}
 use Rattle.words.proofs.Algebra.Field as F
 use Rattle.words.proofs.Algebra.Field.{Ops, Laws, All, all-map, cancel, eq-of-add, mul-left, undo}
 use Rattle.words.proofs.Algebra.PowerSums.{sum, powerSum, sum-zero, powerSum-filter}

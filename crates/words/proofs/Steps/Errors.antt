@@ -10,7 +10,8 @@ use Rattle.fields.specs.Elements.{xor}
 use Rattle.fields.specs.ByTables.{tableProduct, tableInverse, tablePower}
 use Rattle.words.specs.declared.decoder.Errors.{Errors}
 use Rattle.words.specs.Places.{at, sumTo, differs}
-use Rattle.words.specs.Decoder.{locator, timesPower, filtered, filteredBy, filterFactor, errorValue, lessError, resolved, weightOf}
+use Rattle.words.specs.Decoder.{locator, timesPower, weightOf}
+use Rattle.words.specs.DecoderSteps.{filtered, filteredBy, filterFactor, errorValue, lessError, resolved}
 use Rattle.words.proofs.Places.Filling.{Filled, filled-next, filled-end}
 
 -- the locator of a place, and of a place past the end

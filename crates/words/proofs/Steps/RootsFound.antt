@@ -17,7 +17,8 @@ use Rattle.fields.proofs.Lists.{tabulate-length}
 use Rattle.words.specs.declared.decoder.Places.{Places}
 use Rattle.words.specs.Places.{at, horner}
 use Rattle.words.specs.ByTables.{lentValue}
-use Rattle.words.specs.Decoder.{Tables, locator, rootPlaces, backwards, kept, Roots, RootAt, FirstRoot, quotientOf}
+use Rattle.words.specs.Decoder.{Tables, locator}
+use Rattle.words.specs.DecoderSteps.{rootPlaces, backwards, kept, Roots, RootAt, FirstRoot, quotientOf}
 use Rattle.words.proofs.Places.Filling.{Filled, filled-end}
 use Rattle.words.proofs.Decoding.Search.{quotient-in, root-stays, root-was}
 

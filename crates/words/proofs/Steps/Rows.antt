@@ -16,7 +16,7 @@ use Rattle.fields.specs.ByTables.{tableProduct, tableInverse}
 use Rattle.fields.proofs.Lists.{tabulate-is}
 use Rattle.words.specs.declared.decoder.Row.{Row}
 use Rattle.words.specs.Places.{at}
-use Rattle.words.specs.Decoder.{powerRow, plusScaled, cleared, noRow, cellsOf, reduced, FirstNonzero}
+use Rattle.words.specs.DecoderSteps.{powerRow, plusScaled, cleared, noRow, cellsOf, reduced, FirstNonzero}
 use Rattle.words.proofs.Places.Filling.{zeros-at, Filled, filled-next, filled-end}
 
 -- the first i cells are those of the row of x^d, the others zero

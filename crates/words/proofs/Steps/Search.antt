@@ -14,7 +14,8 @@ use Rattle.fields.specs.Elements.{xor}
 use Rattle.fields.specs.ByTables.{tableProduct, tablePower}
 use Rattle.words.specs.declared.decoder.Terms.{Terms}
 use Rattle.words.specs.Places.{at}
-use Rattle.words.specs.Decoder.{Tables, locator, xorTo, timesPower, addTerm, withTerm, termsTo, Exponents, powersTo, lessModulo, lowered, RootAt, FirstRoot}
+use Rattle.words.specs.Decoder.{Tables, locator, xorTo, timesPower}
+use Rattle.words.specs.DecoderSteps.{addTerm, withTerm, termsTo, Exponents, powersTo, lessModulo, lowered, RootAt, FirstRoot}
 use Rattle.words.proofs.Decoding.Search.{lowered-long, lowered-other, lowered-in, Walk, walk-value, walk-single, walk-next, terms-long, exponents-in, steps-in, walk-start}
 use Rattle.words.proofs.Steps.Errors.{power-next}
 

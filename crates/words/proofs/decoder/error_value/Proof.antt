@@ -2,7 +2,7 @@
 use mathlib.Core.Path.{_≡_}
 use Prim.Native.Nat.{_-_, _≤_}
 use borrow.Author.Needs.{needs}
-use Rattle.words.specs.Decoder.{filteredBy, filterFactor}
+use Rattle.words.specs.DecoderSteps.{filteredBy, filterFactor}
 use Rattle.words.proofs.Steps.Errors.{filter-none, filter-next, factor-none, factor-next, value-found}
 use Rattle.words.proofs.decoder.error_value.Statement.{statement}
 use Rattle.words.proofs.decoder.error_value.Tie as tie

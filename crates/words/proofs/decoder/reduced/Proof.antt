@@ -2,7 +2,7 @@
 use mathlib.Core.Path.{_≡_}
 use Prim.Native.Nat.{_-_, _≤_}
 use borrow.Author.Needs.{needs}
-use Rattle.words.specs.Decoder.{reduced}
+use Rattle.words.specs.DecoderSteps.{reduced}
 use Rattle.words.proofs.Steps.Rows.{reduced-none, reduced-next, reduced-end}
 use Rattle.words.proofs.decoder.reduced.Statement.{statement}
 use Rattle.words.proofs.decoder.reduced.Tie as tie

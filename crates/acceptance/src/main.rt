@@ -82,15 +82,9 @@ fn encode_sparse_outer() {
     encode_outer(b"encode outer, four symbols set, length ", &data, &mut out);
 }
 
-fn outer() {
-    check_outer(b"check outer, zeros, length ", &[0u16; 0]);
-    check_outer(b"check outer, zeros, length ", &[0u16; 16]);
-    check_outer(b"check outer, zeros, length ", &[0u16; 17]);
-    check_outer(b"check outer, zeros, length ", &[0u16; 1023]);
-    check_outer(b"check outer, zeros, length ", &[0u16; 1024]);
-    symbol(1023);
-    symbol(1024);
-    let mut word = [
+// An outer code word: the data 2 with its parity.
+fn code_word() -> [u16; 17] {
+    [
         2u16,
         121,
         69,
@@ -108,7 +102,18 @@ fn outer() {
         477,
         905,
         761,
-    ];
+    ]
+}
+
+fn outer() {
+    check_outer(b"check outer, zeros, length ", &[0u16; 0]);
+    check_outer(b"check outer, zeros, length ", &[0u16; 16]);
+    check_outer(b"check outer, zeros, length ", &[0u16; 17]);
+    check_outer(b"check outer, zeros, length ", &[0u16; 1023]);
+    check_outer(b"check outer, zeros, length ", &[0u16; 1024]);
+    symbol(1023);
+    symbol(1024);
+    let mut word = code_word();
     symbols(b"word:", &word);
     check_outer(b"check outer, the data 2 with its parity, length ", &word);
     word[16] = 760;
@@ -331,25 +336,7 @@ fn complete_symbols(word: &mut [u16], v: u16, parity: [u16; 16]) {
 
 fn shortest_outer() {
     text(b"shortest outer word\n");
-    let sent = [
-        2u16,
-        121,
-        69,
-        465,
-        417,
-        285,
-        979,
-        473,
-        54,
-        408,
-        219,
-        436,
-        175,
-        922,
-        477,
-        905,
-        761,
-    ];
+    let sent = code_word();
     let mut word = sent;
     let mut out = [9u16; 17];
     outer_single([0, 8, 16], &sent, &mut word, &mut out);

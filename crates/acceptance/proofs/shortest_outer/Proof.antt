@@ -18,6 +18,9 @@ slice-aggregate-text c = search needs
 text-requires : tie.Need-text-requires Inv-loop μ-loop
 text-requires c κs = search needs
 
+code-word-requires : tie.Need-code-word-requires Inv-loop μ-loop
+code-word-requires c κs = search needs
+
 slice-aggregate-outer-single : tie.Need-slice-aggregate-outer-single Inv-loop μ-loop
 slice-aggregate-outer-single c = search needs
 
@@ -92,6 +95,7 @@ shortest-outer-spec =
     μ-loop
     slice-aggregate-text
     text-requires
+    code-word-requires
     slice-aggregate-outer-single
     slice-aggregate-outer-single-2
     slice-aggregate-outer-single-3

@@ -7,7 +7,7 @@ use native.Mathlib.Decide.{ℕ-discrete}
 use native.Mathlib.Numerals.{add-one}
 use native.Mathlib.Omega.{arith}
 use borrow.Author.Tests.{eq-eqb, eqb-true, leb-true, ne-eqb, not-false, not-true}
-use lib.Dec.{eqb, leb}
+use lib.Dec.{eqb, leb, lit<}
 use lib.ListN.{length, getD, set, length-set}
 use lib.Seq.{getD-set-same, getD-set-other}
 use Rattle.fields.specs.Elements.{xor, powersA, exponentsA}
@@ -18,6 +18,7 @@ use Rattle.words.specs.Places.{at, allBelow}
 use Rattle.words.specs.Answers.{refusal, within, found, corrected, outerCorrected}
 use Rattle.words.specs.ByTables.{rootValues}
 use Rattle.words.specs.Decoder.{Tables, xorTo, errorAt, Decoded, weightOf, withError, withErrors}
+use Rattle.words.proofs.Places.Tests.{below-at, below-all}
 use Rattle.words.proofs.Algebra.Tables.{powers-length}
 use Rattle.words.proofs.Decoding.Changes.{errors-length, errors-at}
 use Rattle.words.proofs.Decoding.Outer.{tables-a, outer-changes, outer-found, outer-lost}
@@ -95,17 +96,25 @@ module _ (w o : List ℕ) (r : ℕ) (told : r ≡ refusal (within 17 1023 (lengt
       word-fits = let l : length es ≡ 1023 = ap length exp ∙ powers-length 10 1033 field-a in omega (arith, word-short)
 
       module _ (t : List ℕ) (v : t ≡ rootValues es ls w) (places values : List ℕ) (count : ℕ) (left : List ℕ) (D : Decoded es ls t (length w) places values count left)
-          (b : Bool) (test : b ≡ allBelow 1 left) where
+          (b : Bool) where
         D′ : Decoded powersA exponentsA (rootValues powersA exponentsA w) (length w) places values count left
         D′ = rw (v, exp, log) at D
 
-        pub correct-outer-lost : length left ≡ 16 → not b ≡ true → _≡_ {A = ℕ × ℕ × List ℕ} (5, 0, o) (outerCorrected w o)
-        unfolding outerCorrected corrected found
-        correct-outer-lost long n = rw (← told, none, outer-lost w symbols places values count left D′ long (sym test ∙ not-true b n))
+        -- what is not below q, for any q above 0, is not all zero
+        some-left : (q : ℕ) → 0 < q → allBelow q left ≡ false → allBelow 1 left ≡ false
+        some-left q h f = go (allBelow 1 left) refl
+          where
+            go : (z : Bool) → allBelow 1 left ≡ z → z ≡ false
+            go false e = refl
+            go true e = sym (below-all q left (λ i l. omega (arith, below-at 1 left (lit< tt) e i))) ∙ f
 
-        pub correct-outer-found : not b ≡ false → (out : List ℕ) → out ≡ withErrors (at w) places values count (length w) → (changed : ℕ) → changed ≡ weightOf values count →
+        pub correct-outer-lost : (q : ℕ) → 0 < q → b ≡ allBelow q left → length left ≡ 16 → not b ≡ true → _≡_ {A = ℕ × ℕ × List ℕ} (5, 0, o) (outerCorrected w o)
+        unfolding outerCorrected corrected found
+        correct-outer-lost q h test long n = rw (← told, none, outer-lost w symbols places values count left D′ long (some-left q h (sym test ∙ not-true b n)))
+
+        pub correct-outer-found : b ≡ allBelow 1 left → not b ≡ false → (out : List ℕ) → out ≡ withErrors (at w) places values count (length w) → (changed : ℕ) → changed ≡ weightOf values count →
             _≡_ {A = ℕ × ℕ × List ℕ} (0, changed, out) (outerCorrected w o)
         unfolding outerCorrected corrected found
-        correct-outer-found n out e changed c =
+        correct-outer-found test n out e changed c =
             let zero : allBelow 1 left ≡ true = sym test ∙ not-false b n in
             rw (← told, none, outer-found w symbols places values count left D′ zero word-short, outer-changes w symbols places values count left D′ zero, e, c)

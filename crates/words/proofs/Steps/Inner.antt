@@ -161,8 +161,9 @@ module _ (es ls : List ℕ) (exp : es ≡ powersB) (log : ls ≡ exponentsB) whe
   pub tables-lent : Tables es ls
   tables-lent = rw (exp, log) tables-b
 
-  pub places-fit : 2040 ≤ length es
-  places-fit = rw (exp, powers-length 11 2053 field-b) (omega arith)
+  -- the field has locators for all places of a word
+  pub places-fit : (n : ℕ) → n ≤ 2047 → n ≤ length es
+  places-fit n h = rw (exp, powers-length 11 2053 field-b) h
 
   pub errors-are : (w : List ℕ) (h l : ℕ) (t places values : List ℕ) (count : ℕ) (left : List ℕ) → Holds h l (remainder 88 divisor (bitAt w) 2040) → Syndromes es ls (oddValues es (number h l)) 8 t →
       Decoded es ls t 2040 places values count left → length left ≡ 16 → InnerErrors w places values count left

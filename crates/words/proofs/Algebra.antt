@@ -1,4 +1,4 @@
--- Fields of characteristic two and what their power sums tell: the minimum distance.
+-- Fields of characteristic two and what their power sums tell: the minimum distance, and the polynomials that have the locators of errors for roots.
 pub mod Field
 pub mod PowerSums
 pub mod Vandermonde

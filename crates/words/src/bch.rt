@@ -1,4 +1,5 @@
-// Inner words: binary polynomials, the divisor that the eight factors make, and the remainder of a word after division by it.
+// Inner words: binary polynomials, the divisor that the eight factors make, the remainder of a word after division by it, and correction: the syndromes
+// from the remainder, the errors that explain them, and the places inverted.
 use crate::Inner;
 use crate::decoder;
 use crate::decoder::Errors;

@@ -1,4 +1,4 @@
-// Outer words over a field that is lent as its two tables: refusals, values at the roots, and division by the generator.
+// Outer words over a field that is lent as its two tables: refusals, values at the roots, division by the generator, and a word with errors added.
 use crate::Outer;
 use crate::decoder::Errors;
 ghost use mathlib.Core.Path.{_≡_};

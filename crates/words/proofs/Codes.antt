@@ -1,5 +1,7 @@
 -- The two codes: division, parity, roots, distance 17, bounded-distance decoding.
 pub mod Horner
+pub mod ShiftedBits
+pub mod BinaryRegister
 pub mod Lent
 pub mod Division
 pub mod OuterWords

@@ -1,5 +1,4 @@
 -- Document 03 on words: its definitions, that they agree with ours, and its statements.
-pub mod ShiftedBits
 pub mod Statements
 pub mod Says
 pub mod WordsAgree

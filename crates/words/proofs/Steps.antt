@@ -1,5 +1,6 @@
 -- What each loop and each way through a function keeps.
 pub mod Loops
+pub mod Digits
 pub mod Shifting
 pub mod Limbs
 pub mod LimbProducts

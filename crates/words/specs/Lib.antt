@@ -7,6 +7,7 @@ pub mod Answers
 pub mod Codes
 -- what the functions below the entries give
 pub mod ByTables
+pub mod Division
 pub mod Limbs
 pub mod Decoder
 pub mod DecoderSteps

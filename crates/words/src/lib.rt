@@ -1,7 +1,7 @@
 // Single words of the two codes of an I.4 frame: whether a word is a code word, the parity that completes data to one, and the code word within eight
 // symbols or places of a word.
 //
-// Outer words (module reed_solomon), Reed-Solomon over field A, lent as 16-bit symbols:
+// Outer words (modules reed_solomon and division), Reed-Solomon over field A, lent as 16-bit symbols:
 //     check    length and symbols, then the word's values at the sixteen roots, all zero for a code word
 //     encode   the data goes symbol by symbol through the division register; what the register then holds is the parity
 //     correct  the values at the sixteen roots are the syndromes, from which the decoder finds the errors
@@ -17,9 +17,10 @@
 ghost use mathlib.Core.Path.{_≡_};
 ghost use Rattle.words.specs.Answers.{outerChecked, outerEncoded, innerChecked, innerEncoded, refusalOf, changedOf, outerCorrected, innerCorrected};
 
-mod bch;
+pub mod bch;
 mod decoder;
-mod reed_solomon;
+pub mod division;
+pub mod reed_solomon;
 
 // The outer code. Lengths are counted in symbols.
 pub struct Outer;
@@ -96,10 +97,9 @@ pub fn encode_outer(data: &[u16], out: &mut [u16]) -> u8
     if refusal != 0 {
         return refusal;
     }
-    let exp = fields::exp_a();
-    let log = fields::log_a();
-    let generator = reed_solomon::generator();
-    let register = reed_solomon::divide(&exp, &log, &generator, data);
+    let low = division::low_multiples();
+    let high = division::high_multiples();
+    let register = division::divide(&low, &high, data);
     let cells = register.cells;
     reed_solomon::store(cells, out);
     0

@@ -1,14 +1,13 @@
-// Outer words over a field that is lent as its two tables: refusals, values at the roots, division by the generator, and a word with errors added.
+// Outer words over a field that is lent as its two tables: refusals, values at the roots, the generator, and a word with errors added. `symbol` is for the
+// crates above too.
 use crate::Outer;
 use crate::decoder::Errors;
 ghost use mathlib.Core.Path.{_≡_};
 ghost use Prim.Native.Nat.{_≤_};
 ghost use lib.ListN.{length};
-ghost use Rattle.fields.specs.Lists.{tabulate};
 ghost use Rattle.fields.specs.Elements.{xor};
-ghost use Rattle.fields.specs.ByTables.{tableProduct};
 ghost use Rattle.words.specs.Places.{at, allBelow};
-ghost use Rattle.words.specs.OuterCode.{generator, shiftedIn, divided};
+ghost use Rattle.words.specs.OuterCode.{generator};
 ghost use Rattle.words.specs.Answers.{refusal, within};
 ghost use Rattle.words.specs.ByTables.{lentValue, rootValues};
 ghost use Rattle.words.specs.Decoder.{withError, withErrors};
@@ -111,56 +110,6 @@ pub fn symbol(word: &[u16], i: usize) -> u16
     ensures { λ r. ⌜ r ≡ at (now (word .entry)) i ⌝ }
 {
     if i < word.len() { word[i] } else { 0 }
-}
-
-// The division register: the remainder so far, highest power first.
-pub struct Register {
-    pub cells: [u16; Outer::PARITY],
-}
-
-impl Register {
-    const LAST: usize = Outer::PARITY - 1;
-
-    pub fn empty() -> Self
-        ensures { λ r. ⌜ r .cells ≡ tabulate 16 (λ i. 0) ⌝ }
-    {
-        Register {
-            cells: [0; Outer::PARITY],
-        }
-    }
-
-    // The register after one more symbol.
-    pub fn next(mut self, exp: &[u16], log: &[u16], generator: &[u16], s: u16) -> Self
-        ensures { λ r. ⌜ r .cells ≡ shiftedIn (tableProduct (now (exp .entry)) (now (log .entry))) 16 (at (now (generator .entry))) (self .cells) s ⌝ }
-    {
-        let f = sum(self.cells[0], s);
-        let mut i: usize = 0;
-        while i < Register::LAST {
-            self.cells[i] = sum(
-                self.cells[i + 1],
-                fields::product(exp, log, f, symbol(generator, i + 1)),
-            );
-            i += 1;
-        }
-        self.cells[Register::LAST] = sum(
-            0,
-            fields::product(exp, log, f, symbol(generator, Outer::PARITY)),
-        );
-        self
-    }
-}
-
-// The register after all symbols of data.
-pub fn divide(exp: &[u16], log: &[u16], generator: &[u16], data: &[u16]) -> Register
-    ensures { λ r. ⌜ r .cells ≡ divided (tableProduct (now (exp .entry)) (now (log .entry))) 16 (at (now (generator .entry))) (at (now («data» .entry))) (length (now («data» .entry))) ⌝ }
-{
-    let mut register = Register::empty();
-    let mut i = 0;
-    while i < data.len() {
-        register = register.next(exp, log, generator, data[i]);
-        i += 1;
-    }
-    register
 }
 
 pub fn store(cells: [u16; Outer::PARITY], out: &mut [u16])

@@ -1,12 +1,13 @@
--- The register of a division by a polynomial g: where g vanishes, data followed by the register has the value zero. For any field.
--- Assumes nothing.
+-- The register of a division by a polynomial g: maps that respect sums and products carry it over; where g vanishes, data followed by the
+-- register has the value zero. For any field. Assumes nothing.
 use mathlib.Core.Path.{_≡_, refl, sym, ap, ap₂, _∙_}
 use mathlib.Core.List.{List, _++_}
 use Prim.Native.Nat.{ℕ, zero, suc, _+_, _^_, _<_}
 use native.Mathlib.Nat.{le-refl}
-use lib.ListN.{length, List·getD-eq-default}
+use lib.ListN.{length, getD, List·getD-eq-default}
 use Rattle.fields.specs.Elements.{xor, times}
 use Rattle.fields.specs.Field.{Field}
+use Rattle.fields.specs.Lists.{tabulate}
 use Rattle.fields.proofs.Lists.{tabulate-at, tabulate-length}
 use Rattle.fields.proofs.Xor.{xor-zero-r, xor-comm, xor-assoc, xor-self, xor-cancel, additive-zero}
 use Rattle.words.specs.Places.{at, horner, value}
@@ -19,6 +20,28 @@ pub divided-length : (mul : ℕ → ℕ → ℕ) (n : ℕ) (g d : ℕ → ℕ) (
 unfolding divided shiftedIn
 divided-length mul n g d zero = tabulate-length n (λ i. 0)
 divided-length mul n g d (suc k) = tabulate-length n _
+
+tabulate-map : (φ : ℕ → ℕ) (f g : ℕ → ℕ) → φ 0 ≡ 0 → ((i : ℕ) → φ (f i) ≡ g i) → (n i : ℕ) → φ (getD (tabulate n f) i 0) ≡ getD (tabulate n g) i 0
+unfolding tabulate
+tabulate-map φ f g z h zero i = z
+tabulate-map φ f g z h (suc n) zero = h 0
+tabulate-map φ f g z h (suc n) (suc i) = tabulate-map φ (λ i. f (suc i)) (λ i. g (suc i)) z (λ i. h (suc i)) n i
+
+-- a map that respects sums and products carries a division over
+module _ (φ : ℕ → ℕ) (mul mul′ : ℕ → ℕ → ℕ) (sum : Additive φ) (product : (x y : ℕ) → φ (mul x y) ≡ mul′ (φ x) (φ y)) (n : ℕ) (g d : ℕ → ℕ) where
+  abbrev reg : ℕ → List ℕ
+  reg = divided mul n g d
+
+  abbrev image : ℕ → List ℕ
+  image = divided mul′ n (λ i. φ (g i)) (λ i. φ (d i))
+
+  pub divided-carried : (k i : ℕ) → φ (at (reg k) i) ≡ at (image k) i
+  unfolding divided shiftedIn
+  divided-carried zero i = tabulate-map φ (λ i. 0) (λ i. 0) (additive-zero φ sum) (λ i. additive-zero φ sum) n i
+  divided-carried (suc k) i =
+      let leading : φ (xor (at (reg k) 0) (d k)) ≡ xor (at (image k) 0) (φ (d k)) = sum _ _ ∙ ap (λ (x : ℕ). xor x (φ (d k))) (divided-carried k 0) in
+      tabulate-map φ _ _ (additive-zero φ sum)
+      (λ i. sum _ _ ∙ ap₂ xor (divided-carried k (suc i)) (product _ _ ∙ ap (λ (f : ℕ). mul′ f (φ (g (suc i)))) leading)) n i
 
 module _ (m p : ℕ) (F : Field m p) (x : ℕ) (hx : x < 2 ^ m) where
   abbrev f : ℕ → ℕ

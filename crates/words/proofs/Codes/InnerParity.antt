@@ -53,7 +53,7 @@ parity-remainder d h =
     horner-same (doubled 88 divisor) _ _ 88 (λ i l. tabulate-at 88 (bitOf 88 r) i 0 l) ∙ remainder-short 88 divisor (bitOf 88 r) (bitOf-lt 88 r) 88 (le-refl 88)
     ∙ numberOf-bits 88 r (inner-remainder-lt (at d) (below-at 2 d (lit< tt) h) 2040)
 
-parity-bits : (d : List ℕ) → allBelow 2 (innerParity d) ≡ true
+pub parity-bits : (d : List ℕ) → allBelow 2 (innerParity d) ≡ true
 unfolding innerParity
 parity-bits d =
     let b = bitOf 88 (innerRemainder d) in

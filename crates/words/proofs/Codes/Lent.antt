@@ -1,4 +1,5 @@
--- Values and division over a lent field are those of the field. For any degree m and polynomial p. Assumes nothing.
+-- Values over a lent field are those of the field, and a division of elements by elements leaves elements. For any degree m and polynomial p.
+-- Assumes nothing.
 use mathlib.Core.Path.{_≡_, refl, ap, ap₂, _∙_}
 use mathlib.Core.List.{List}
 use Prim.Native.Nat.{ℕ, zero, suc, _^_, _<_}
@@ -9,7 +10,7 @@ use Rattle.fields.specs.Elements.{xor, times, powers, exponents}
 use Rattle.fields.specs.Field.{Field}
 use Rattle.fields.specs.ByTables.{tableProduct}
 use Rattle.fields.proofs.ByTables.{table-product}
-use Rattle.fields.proofs.Lists.{tabulate-lt, tabulate-same}
+use Rattle.fields.proofs.Lists.{tabulate-lt}
 use Rattle.words.specs.Places.{at, horner, value}
 use Rattle.words.specs.OuterCode.{shiftedIn, divided}
 use Rattle.words.specs.ByTables.{lentValue}
@@ -37,11 +38,3 @@ module _ (m p : ℕ) (F : Field m p) where
     divided-lt (suc k) i =
         let r = divided-lt k in
         tabulate-lt (2 ^ m) n _ (pow-pos m) (λ j. F .sum-lt _ _ (r (suc j)) (F .times-lt _ _ (F .sum-lt _ _ (r 0) (hd k)))) i
-
-    pub divided-lent : (k : ℕ) → divided (tableProduct (powers m p) (exponents m p)) n g d k ≡ divided (times m p) n g d k
-    unfolding divided shiftedIn
-    divided-lent zero = refl
-    divided-lent (suc k) =
-        let r = divided-lt k in
-        ap (λ (reg : List ℕ). shiftedIn (tableProduct (powers m p) (exponents m p)) n g reg (d k)) (divided-lent k)
-        ∙ tabulate-same n _ _ (λ i l. ap (xor _) (product-same _ _ (F .sum-lt _ _ (r 0) (hd k)) (hg (suc i))))

@@ -7,8 +7,8 @@ use native.Mathlib.Nat.{zero-add}
 use native.Mathlib.Omega.{arith}
 use borrow.Author.Tests.{eq-eqb, eqb-true}
 use lib.Dec.{eqb, lit<}
-use lib.ListN.{length, drop, length-append, List·getD-append}
-use lib.Seq.{drop-append-seam}
+use lib.ListN.{length, take, drop, length-append, length-drop, take-append-drop, List·getD-append}
+use lib.Seq.{drop-append-seam, ext-getD, getD-drop, length-take-le}
 use Rattle.fields.specs.Elements.{xor, scale, doubled, timesFrom, times, power, timesA, powersA, exponentsA}
 use Rattle.fields.specs.Lists.{tabulate}
 use Rattle.fields.proofs.ByTables.{table-power}
@@ -16,7 +16,8 @@ use Rattle.fields.proofs.Instances.{field-a}
 use Rattle.words.specs.Places.{at, every, allBelow, horner, value, apart}
 use Rattle.words.specs.OuterCode.{powerA, outerValue, isOuter, withRoot, withRoots, generator, outerParity}
 use Rattle.words.specs.ByTables.{lentValue, rootValue}
-use Rattle.words.proofs.Places.Tests.{every-at, every-true, below-at, below-all, below-append}
+use Rattle.words.specs.Division.{endsWith}
+use Rattle.words.proofs.Places.Tests.{tests-agree, every-at, every-true, below-at, below-all, below-append, below-take}
 use Rattle.words.proofs.Codes.Lent.{value-lent, divided-lt}
 use Rattle.words.proofs.Codes.Division.{divided-length, completed-value}
 use Rattle.words.proofs.Places.Counting.{apart-append}
@@ -100,3 +101,33 @@ outer-only d q short long h =
     let lp : length (d ++ outerParity d) ≡ length d + 16 = rw (length-append, outer-length d) in
     let same : d ++ q ≡ d ++ outerParity d = outer-far (d ++ q) (d ++ outerParity d) h (outer-made d symbols) (lq ∙ sym lp) (omega arith) (omega (arith, apart-append d q (outerParity d))) in
     sym (drop-append-seam d q) ∙ ap (drop (length d)) same ∙ drop-append-seam d (outerParity d)
+
+-- a word of symbols is a code word just where its last sixteen are the parity of the others
+module _ (w : List ℕ) (n : ℕ) (long : length w ≡ n + 16) (short : n ≤ 1007) (h : allBelow 1024 w ≡ true) where
+  abbrev front : List ℕ
+  front = take n w
+
+  abbrev back : List ℕ
+  back = drop n w
+
+  back-length : length back ≡ 16
+  back-length = length-drop n w ∙ omega arith
+
+  ends-code : endsWith w n (outerParity front) ≡ true → isOuter w ≡ true
+  unfolding endsWith
+  ends-code t =
+      let p = outerParity front in
+      let same = every-at 16 (λ j. eqb (at w (n + j)) (at p j)) t in
+      let long-as : length back ≡ length p = back-length ∙ sym (outer-length front) in
+      let e : back ≡ p = ext-getD 0 back p long-as (λ i l. getD-drop n w i 0 ∙ eqb-true _ _ (same i (omega (arith, back-length)))) in
+      ap isOuter (sym (take-append-drop n w) ∙ ap (λ (r : List ℕ). front ++ r) e) ∙ outer-made front (below-take 1024 n w h)
+
+  code-ends : isOuter w ≡ true → endsWith w n (outerParity front) ≡ true
+  unfolding endsWith
+  code-ends t =
+      let few : length front ≤ 1007 = omega (arith, length-take-le n w (omega arith)) in
+      let e : back ≡ outerParity front = outer-only front back few back-length (ap isOuter (take-append-drop n w) ∙ t) in
+      every-true 16 _ (λ j l. eq-eqb _ _ (sym (getD-drop n w j 0) ∙ ap (λ (r : List ℕ). at r j) e))
+
+  pub outer-ends : endsWith w n (outerParity front) ≡ isOuter w
+  outer-ends = tests-agree _ _ ends-code code-ends

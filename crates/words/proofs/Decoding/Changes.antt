@@ -17,14 +17,9 @@ use Rattle.fields.proofs.Xor.{xor-cancel, xor-lt, xor-self, xor-zero-l, xor-zer
 use Rattle.words.specs.Places.{at, allBelow, horner, sumTo, differs, apart}
 use Rattle.words.specs.Decoder.{Tables, locator, xorTo, timesPower, syndrome, errorAt, Correctable, Decoded, weightOf, withErrors}
 use Rattle.words.proofs.Places.Tests.{below-at, below-all}
-use Rattle.words.proofs.Places.Counting.{differs-most, differs-self, sum-same, sum-add}
+use Rattle.words.proofs.Places.Counting.{differs-most, differs-self, sum-zero, sum-same, sum-add}
 use Rattle.words.proofs.Algebra.PowerSums.{powerSum-add, horner-sums}
 use Rattle.words.proofs.Algebra.Tables.{lentOps, lent-laws, lent-powers, xorTo-same, lent-value, syndrome-is}
-
-sum-zero : (n : ℕ) (f : ℕ → ℕ) → ((i : ℕ) → i < n → f i ≡ 0) → sumTo n f ≡ 0
-unfolding sumTo
-sum-zero zero f h = refl
-sum-zero (suc n) f h = omega (arith, sum-zero n f (λ i l. h i (omega arith)), h n (le-refl (suc n)))
 
 -- a sum of v at one place, and else of 0
 sum-single : (n p v : ℕ) → p < n → sumTo n (λ i. cond (eqb p i) v 0) ≡ v

@@ -47,7 +47,7 @@ number-agrees : (bs : List ℕ) → numberFrom 0 bs ≡ numberOf (length bs) (at
 unfolding numberOf
 number-agrees bs = runs (λ v b. 2 * v + b) numberFrom (λ v. refl) (λ v b bs. refl) (λ i. numberOf i (at bs)) bs (λ i l. refl)
 
-groups-agree : (n k : ℕ) (bs : List ℕ) → n * k ≤ length bs → groupsFrom k n bs ≡ tabulate k (λ i. numberOf n (λ j. at bs (n * i + j)))
+pub groups-agree : (n k : ℕ) (bs : List ℕ) → n * k ≤ length bs → groupsFrom k n bs ≡ tabulate k (λ i. numberOf n (λ j. at bs (n * i + j)))
 unfolding tabulate
 groups-agree n zero bs h = refl
 groups-agree n (suc k) bs h =

@@ -1,14 +1,14 @@
 -- Document 03's inner code agrees with ours: its values of binary polynomials, its divisor, its parity bits and its code words.
 -- Assumes nothing.
 use mathlib.Core.Path.{_≡_, refl, sym, ap, ap₂, _∙_}
-use mathlib.Core.Bool.{Bool, true, false, _&&_, and-eq-true-iff}
+use mathlib.Core.Bool.{true, _&&_, and-eq-true-iff}
 use mathlib.Core.List.{List, _++_}
 use Prim.Native.Nat.{ℕ, zero, suc, _+_, _/_, _%_, _<_}
 use native.Mathlib.Omega.{arith}
 use borrow.Author.Tests.{eq-eqb, eqb-true}
 use lib.Dec.{eqb, lit<}
 use lib.ListN.{length, take, drop, replicate, take-append-drop}
-use lib.Seq.{getD-take, length-take-le}
+use lib.Seq.{length-take-le}
 use Rattle.fields.specs.Elements.{scale}
 use Rattle.fields.specs.Elements as E
 use Rattle.fields.specs.Lists.{tabulate}
@@ -17,7 +17,7 @@ use Rattle.fields.proofs.Statements.{timesB, powB, timesB-agrees, powB-agrees}
 use Rattle.words.specs.Places.{at, allBelow, bitOf, horner, value}
 use Rattle.words.specs.InnerCode.{valueOf, remainder, innerRemainder, innerParity}
 use Rattle.words.specs.InnerCode as Inner
-use Rattle.words.proofs.Places.Tests.{below-at, below-all}
+use Rattle.words.proofs.Places.Tests.{tests-agree, below-at, below-all, below-take}
 use Rattle.words.proofs.Places.Numbers.{bitOf-half, bitOf-last}
 use Rattle.words.proofs.Codes.Horner.{scale-one, horner-same}
 use Rattle.words.proofs.Codes.InnerWords.{inner-is}
@@ -69,7 +69,7 @@ module _ (w : List ℕ) (long : length w ≡ 2040) (bits : allBelow 2 w ≡ true
   data-long = length-take-le 1952 w (omega arith)
 
   data-bits : allBelow 2 d ≡ true
-  data-bits = below-all 2 d (λ i l. rw (getD-take 1952 w i 0 (omega (arith, data-long))) (below-at 2 w (lit< tt) bits i))
+  data-bits = below-take 2 1952 w bits
 
   same-inner : same (innerChecks d) q ≡ true → Inner.isInner w ≡ true
   same-inner t =
@@ -80,12 +80,6 @@ module _ (w : List ℕ) (long : length w ≡ 2040) (bits : allBelow 2 w ≡ true
   inner-same t =
       ap (λ (r : List ℕ). same r q) (parity-agrees d data-long data-bits ∙ sym (inner-only d q data-long (ap Inner.isInner (take-append-drop 1952 w) ∙ t)))
       ∙ same-refl q
-
--- two tests of which each holds if the other does
-tests-agree : (a b : Bool) → (a ≡ true → b ≡ true) → (b ≡ true → a ≡ true) → a ≡ b
-tests-agree true b h g = sym (h refl)
-tests-agree false true h g = g refl
-tests-agree false false h g = refl
 
 pub inner-agrees : (w : List ℕ) → isInner w ≡ Inner.isInner w
 inner-agrees w =

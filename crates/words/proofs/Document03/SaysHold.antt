@@ -49,7 +49,7 @@ inner-check-says w r e =
     e ∙ check-says (eqb (length w) 255) true (Inner.isInner (Places.bitsOf w))
     ∙ ap (λ (c : Bool). firstOf (when (not (eqb (length w) 255)) 6) (when (not c) 4)) (ap Inner.isInner (sym (bits-agree w)) ∙ sym (InnerAgrees.inner-agrees (bitsOf w)))
 
--- encoding: the refusal, and the parity if there is none, else the buffer as it was
+-- encoding: the refusal
 refusal-says : (long fits symbols : Bool) → refusal long fits symbols ≡ firstOf (when (not long) 6) (firstOf (when (not fits) 3) (when (not symbols) 7))
 unfolding refusal
 refusal-says true true true = refl
@@ -57,21 +57,29 @@ refusal-says true true false = refl
 refusal-says true false symbols = refl
 refusal-says false fits symbols = refl
 
-module _ (parity checks o o′ : List ℕ) (r : ℕ) where
-  stored : (long fits symbols : Bool) → (long ≡ true → symbols ≡ true → parity ≡ checks)
-      → (let f = refusal long fits symbols in cond (eqb f 0) parity o ≡ pick (eqb f 0) checks o)
-  unfolding refusal
-  stored true true true h = h refl refl
-  stored true true false h = refl
-  stored true false symbols h = refl
-  stored false fits symbols h = refl
+none-refused : (long fits symbols : Bool) → refusal long fits symbols ≡ 0 → (long ≡ true) × (symbols ≡ true)
+unfolding refusal
+none-refused true true true e = (refl, refl)
+none-refused true true false e = absurd (omega arith)
+none-refused true false symbols e = absurd (omega arith)
+none-refused false fits symbols e = absurd (omega arith)
 
-  make-says : (long fits symbols : Bool) → _≡_ {A = ℕ × List ℕ} (r, o′) (answered (refusal long fits symbols) parity o)
-      → (long ≡ true → symbols ≡ true → parity ≡ checks) → (f : ℕ) → refusal long fits symbols ≡ f → (r ≡ f) × (o′ ≡ pick (eqb f 0) checks o)
+-- the answer, if there is no refusal, else the buffer as it was
+module _ (answer answer′ o o′ : List ℕ) (r : ℕ) where
+  stored : (f : ℕ) → (f ≡ 0 → answer ≡ answer′) → cond (eqb f 0) answer o ≡ pick (eqb f 0) answer′ o
+  stored zero h = h refl
+  stored (suc f) h = rw (eqb·suc-zero f)
+
+  pub answered-says : (n f : ℕ) → _≡_ {A = ℕ × List ℕ} (r, o′) (answered n answer o) → n ≡ f → (f ≡ 0 → answer ≡ answer′)
+      → (r ≡ f) × (o′ ≡ pick (eqb f 0) answer′ o)
   unfolding answered
+  answered-says n f e q h =
+      (ap (λ (a : ℕ × List ℕ). a .0) e ∙ q, ap (λ (a : ℕ × List ℕ). a .1) e ∙ ap (λ (k : ℕ). cond (eqb k 0) answer o) q ∙ stored f h)
+
+  make-says : (long fits symbols : Bool) → _≡_ {A = ℕ × List ℕ} (r, o′) (answered (refusal long fits symbols) answer o)
+      → (long ≡ true → symbols ≡ true → answer ≡ answer′) → (f : ℕ) → refusal long fits symbols ≡ f → (r ≡ f) × (o′ ≡ pick (eqb f 0) answer′ o)
   make-says long fits symbols e h f q =
-      subst (λ (f : ℕ). (r ≡ f) × (o′ ≡ pick (eqb f 0) checks o)) q
-      (ap (λ (p : ℕ × List ℕ). p .0) e, ap (λ (p : ℕ × List ℕ). p .1) e ∙ stored long fits symbols h)
+      answered-says (refusal long fits symbols) f e q (λ z. let t = none-refused long fits symbols (q ∙ z) in h (t .0) (t .1))
 
 -- data of no symbol, or of more than 1,007
 above : (n m : ℕ) (t : Bool) → leb n m ≡ t → not t ≡ ltb m n

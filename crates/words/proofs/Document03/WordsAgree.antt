@@ -93,7 +93,7 @@ sums-length [] ys e = refl
 sums-length (x ∷ xs) [] e = e
 sums-length (x ∷ xs) (y ∷ ys) e = ap suc (sums-length xs ys (omega arith))
 
-padded-at : (xs : List ℕ) (i : ℕ) → at (xs ++ (0 ∷ [])) i ≡ at xs i
+pub padded-at : (xs : List ℕ) (i : ℕ) → at (xs ++ (0 ∷ [])) i ≡ at xs i
 padded-at [] zero = refl
 padded-at [] (suc i) = refl
 padded-at (x ∷ xs) zero = refl

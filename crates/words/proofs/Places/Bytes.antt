@@ -38,7 +38,7 @@ number-of-bits m x s (suc n) h =
     omega (arith, number-of-bits m x s n (omega arith))
 
 -- past the end of the bytes a bit is 0
-place-past : (bytes : List ℕ) (i : ℕ) → length bytes ≤ i / 8 → 0 ≡ bitAt bytes i
+pub place-past : (bytes : List ℕ) (i : ℕ) → length bytes ≤ i / 8 → 0 ≡ bitAt bytes i
 unfolding bitAt
 place-past bytes i h = sym (rw (List·getD-eq-default bytes 0 {n = i / 8} h) (bitOf-zero 8 (i % 8)))
 
@@ -61,7 +61,7 @@ pub bits-below : (bytes : List ℕ) → allBelow 2 (bitsOf bytes) ≡ true
 bits-below bytes = below-all 2 (bitsOf bytes) (λ i l. rw (bits-at bytes i) (bitAt-lt bytes i))
 
 -- n places of one byte, from place i on, make a part of it
-places-read : (bytes : List ℕ) (i n : ℕ) → i % 8 + n ≤ 8 → numberOf n (λ j. bitAt bytes (i + j)) ≡ at bytes (i / 8) / 2 ^ (8 - (i % 8 + n)) % 2 ^ n
+pub places-read : (bytes : List ℕ) (i n : ℕ) → i % 8 + n ≤ 8 → numberOf n (λ j. bitAt bytes (i + j)) ≡ at bytes (i / 8) / 2 ^ (8 - (i % 8 + n)) % 2 ^ n
 unfolding bitAt
 places-read bytes i n h = numberOf-same n _ _ place ∙ number-of-bits 8 (at bytes (i / 8)) (i % 8) n h
   where

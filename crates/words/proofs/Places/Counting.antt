@@ -31,6 +31,11 @@ sum-most (suc m) zero f z o =
     rw add-zero (omega (arith, z m (le-refl (suc m))))
 sum-most m (suc n) f z o = rw add-suc (omega (arith, sum-most m n f z o, o (m + n)))
 
+pub sum-zero : (n : ℕ) (f : ℕ → ℕ) → ((i : ℕ) → i < n → f i ≡ 0) → sumTo n f ≡ 0
+unfolding sumTo
+sum-zero zero f h = refl
+sum-zero (suc n) f h = omega (arith, sum-zero n f (λ i l. h i (omega arith)), h n (le-refl (suc n)))
+
 pub sum-same : (n : ℕ) (f g : ℕ → ℕ) → ((i : ℕ) → i < n → f i ≡ g i) → sumTo n f ≡ sumTo n g
 unfolding sumTo
 sum-same zero f g h = refl
@@ -67,7 +72,7 @@ unfolding sumTo
 sum-add zero f g = refl
 sum-add (suc n) f g = omega (arith, sum-add n f g)
 
-differs-none : (x y : ℕ) → differs x y ≡ 0 → x ≡ y
+pub differs-none : (x y : ℕ) → differs x y ≡ 0 → x ≡ y
 unfolding differs
 differs-none x y h = go (eqb x y) refl
   where

@@ -2,7 +2,7 @@
 use mathlib.Core.Path.{_≡_, refl, sym, ap, ap₂, _∙_}
 use mathlib.Core.Logic.{_⊎_, inl, inr}
 use Prim.Native.Nat.{ℕ, zero, suc, _+_, _-_, _*_, _/_, _%_, _^_, _<_}
-use native.Mathlib.Nat.{div-eq-of-lt, eq-or-lt-of-le, le-of-suc-le-suc, le-refl, not-suc-le-zero}
+use native.Mathlib.Nat.{add-suc, add-zero, div-eq-of-lt, eq-or-lt-of-le, le-of-suc-le-suc, le-refl, not-suc-le-zero, pow-suc}
 use native.Mathlib.Omega.{arith}
 use lib.Arith.{lt-one}
 use lib.Pow.{pow-pos, shr-shr}
@@ -31,6 +31,12 @@ pub numberOf-same : (n : ℕ) (b c : ℕ → ℕ) → ((i : ℕ) → i < n → b
 unfolding numberOf
 numberOf-same zero b c h = refl
 numberOf-same (suc n) b c h = ap₂ (λ (x y : ℕ). 2 * x + y) (numberOf-same n b c (λ i l. h i (omega arith))) (h n (le-refl (suc n)))
+
+-- the number of m bits and the n bits after them
+pub number-parts : (m n : ℕ) (b : ℕ → ℕ) → numberOf (m + n) b ≡ numberOf m b * 2 ^ n + numberOf n (λ j. b (m + j))
+unfolding numberOf
+number-parts m zero b = ap (λ (k : ℕ). numberOf k b) (add-zero m) ∙ omega arith
+number-parts m (suc n) b = rw (add-suc, numberOf) (omega (arith, number-parts m n b, ap (λ (x : ℕ). numberOf m b * x) (pow-suc 2 n)))
 
 pub numberOf-bits : (n x : ℕ) → x < 2 ^ n → numberOf n (bitOf n x) ≡ x
 unfolding numberOf

@@ -1,5 +1,5 @@
 -- Laws of the tests of words: `every` and `allBelow`. Assumes nothing.
-use mathlib.Core.Path.{_≡_, refl}
+use mathlib.Core.Path.{_≡_, refl, sym, ap, _∙_}
 use mathlib.Core.Bool.{Bool, true, false, _&&_, and-eq-true-iff, and-false}
 use mathlib.Core.List.{List, _++_}
 use mathlib.Core.Logic.{_⊎_, inl, inr}
@@ -9,9 +9,15 @@ use native.Mathlib.Nat.{eq-or-lt-of-le, le-of-suc-le-suc, le-refl, not-suc-le-ze
 use native.Mathlib.Omega.{arith}
 use borrow.Author.Tests.{ltb-true, lt-ltb}
 use lib.Dec.{ltb}
-use lib.ListN.{length, getD, length-append, List·getD-append, List·getD-eq-default}
+use lib.ListN.{length, getD, take, drop, length-append, take-append-drop, List·getD-append, List·getD-eq-default}
 use lib.Seq.{getD-append-add}
 use Rattle.words.specs.Places.{at, every, allBelow}
+
+-- two tests of which each holds if the other does
+pub tests-agree : (a b : Bool) → (a ≡ true → b ≡ true) → (b ≡ true → a ≡ true) → a ≡ b
+tests-agree true b h g = sym (h refl)
+tests-agree false true h g = g refl
+tests-agree false false h g = refl
 
 passed : (n : ℕ) (f : ℕ → Bool) → (every n f && f n) ≡ true → (every n f ≡ true → (i : ℕ) → i < n → f i ≡ true) →
     (i : ℕ) → (i ≡ n) ⊎ (i < n) → f i ≡ true
@@ -66,3 +72,10 @@ below-append q c d hc hd = below-all q (c ++ d) (λ i l. go i (rw (length-append
     go i h (no g) =
         let e : length c + (i - length c) ≡ i = omega arith in
         rw (← e, getD-append-add c d (i - length c) 0) (below-lt q d hd (i - length c) (omega arith))
+
+pub below-take : (q n : ℕ) (w : List ℕ) → allBelow q w ≡ true → allBelow q (take n w) ≡ true
+below-take q n w h =
+    let whole = take-append-drop n w in
+    let long : length w ≡ length (take n w) + length (drop n w) = ap length (sym whole) ∙ length-append (take n w) (drop n w) in
+    below-all q (take n w)
+    (λ i l. rw (← List·getD-append (take n w) (drop n w) 0 i l, whole) (below-lt q w h i (omega arith)))

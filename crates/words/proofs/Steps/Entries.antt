@@ -2,28 +2,26 @@
 use mathlib.Core.Path.{_≡_, refl, sym, ap, ap₂, _∙_}
 use mathlib.Core.Bool.{Bool, true, false}
 use mathlib.Core.List.{List}
-use Prim.Native.Nat.{ℕ, zero, suc, _+_, _*_}
+use Prim.Native.Nat.{ℕ, zero, suc, _+_, _-_, _*_, _≤_}
 use native.Mathlib.Omega.{arith}
 use borrow.Author.Tests.{eq-eqb, eqb-true, le-ltb, ne-eqb}
-use lib.Dec.{eqb, ltb, lit<, eqb·suc-zero}
-use lib.ListN.{length}
+use lib.Dec.{eqb, ltb, eqb·suc-zero}
+use lib.ListN.{length, take}
 use Rattle.fields.specs.Elements.{doubled, powersA, exponentsA}
-use Rattle.fields.specs.ByTables.{tableProduct}
 use Rattle.fields.specs.Lists.{tabulate}
-use Rattle.fields.proofs.Instances.{field-a}
 use Rattle.fields.proofs.Lists.{tabulate-at, tabulate-length, tabulate-same}
 use Rattle.words.specs.Places.{at, every, allBelow, bitOf, numberOf, bitAt, bitsOf, bytesOf}
-use Rattle.words.specs.OuterCode.{outerValue, isOuter, generator, divided, outerParity}
+use Rattle.words.specs.OuterCode.{outerValue, isOuter, outerParity}
 use Rattle.words.specs.InnerCode.{divisor, remainder, isInner, innerRemainder, innerParity}
 use Rattle.words.specs.Answers.{refusal, within, answered, firstOf, outerChecked, outerEncoded, innerChecked, innerEncoded}
 use Rattle.words.specs.ByTables.{rootValue, rootValues}
+use Rattle.words.specs.Division.{endsWith}
 use Rattle.words.specs.Limbs.{number, Holds}
-use Rattle.words.proofs.Places.Tests.{every-same, below-at}
+use Rattle.words.proofs.Places.Tests.{every-same}
 use Rattle.words.proofs.Places.Numbers.{numberOf-same}
 use Rattle.words.proofs.Places.Bytes.{bits-at, bits-below, bits-length}
 use Rattle.words.proofs.Codes.Horner.{horner-same}
-use Rattle.words.proofs.Codes.Lent.{divided-lent}
-use Rattle.words.proofs.Codes.OuterWords.{generator-lt, root-is}
+use Rattle.words.proofs.Codes.OuterWords.{root-is, outer-ends}
 
 -- what no refusal tells: the length is right, the buffer fits, and the symbols are below 1,024
 pub passed : (long fits symbols : Bool) → refusal long fits symbols ≡ 0 → (long ≡ true) × (fits ≡ true) × (symbols ≡ true)
@@ -70,6 +68,13 @@ module _ (w : List ℕ) (r : ℕ) (told : r ≡ refusal (within 17 1023 (length 
     unfolding outerChecked firstOf
     outer-no-code t = rw (← told, none, ← code-tested, t)
 
+-- a code word by division: the part from place 0 on, all but sixteen symbols, is divided, and these are compared
+pub outer-divided : (w cells : List ℕ) (b : Bool) → 16 ≤ length w → length w ≤ 1023 → allBelow 1024 w ≡ true →
+    cells ≡ outerParity (take (length w - 16 - 0) w) → b ≡ endsWith w (length w - 16) cells → b ≡ isOuter w
+outer-divided w cells b lo hi symbols e test =
+    let n : length w - 16 - 0 ≡ length w - 16 = omega arith in
+    test ∙ ap (endsWith w (length w - 16)) (e ∙ ap (λ (k : ℕ). outerParity (take k w)) n) ∙ outer-ends w (length w - 16) (omega arith) (omega arith) symbols
+
 module _ (d o : List ℕ) (r : ℕ) (told : r ≡ refusal (within 1 1007 (length d)) (eqb (length o) 16) (allBelow 1024 d)) where
   pub encode-outer-refused : (r ≡ 0 → ⊥) → _≡_ {A = ℕ × List ℕ} (r, o) (outerEncoded d o)
   unfolding outerEncoded
@@ -79,13 +84,12 @@ module _ (d o : List ℕ) (r : ℕ) (told : r ≡ refusal (within 1 1007 (length
     pub outer-fits : length o ≡ 16
     outer-fits = eqb-true _ _ (passed _ _ _ (sym told ∙ none) .1)
 
-    pub outer-encoded : (es ls g cells out : List ℕ) → es ≡ powersA → ls ≡ exponentsA → g ≡ generator → cells ≡ divided (tableProduct es ls) 16 (at g) (at d) (length d) → out ≡ cells →
-        _≡_ {A = ℕ × List ℕ} (0, out) (outerEncoded d o)
-    unfolding outerEncoded answered outerParity
-    outer-encoded es ls g cells out exp log gen e s =
-        let symbols : allBelow 1024 d ≡ true = passed _ _ _ (sym told ∙ none) .2 in
-        let parity : out ≡ outerParity d = s ∙ e ∙ rw (exp, log, gen) (divided-lent 10 1033 field-a 16 (at generator) (at d) generator-lt (below-at 1024 d (lit< tt) symbols) (length d)) in
-        rw (← told, none, parity)
+    pub outer-symbols : allBelow 1024 d ≡ true
+    outer-symbols = passed _ _ _ (sym told ∙ none) .2
+
+    pub outer-encoded : (cells out : List ℕ) → cells ≡ outerParity d → out ≡ cells → _≡_ {A = ℕ × List ℕ} (0, out) (outerEncoded d o)
+    unfolding outerEncoded answered
+    outer-encoded cells out e s = rw (← told, none, ← e, s)
 
 -- ---- inner words
 

@@ -1,6 +1,6 @@
 -- `words::encode_outer` meets its contract. Assumes nothing.
 use borrow.Author.Needs.{needs}
-use Rattle.words.proofs.Steps.Entries.{encode-outer-refused, outer-fits, outer-encoded}
+use Rattle.words.proofs.Steps.Entries.{encode-outer-refused, outer-fits, outer-symbols, outer-encoded}
 use Rattle.words.proofs.encode_outer.Statement.{statement}
 use Rattle.words.proofs.encode_outer.Tie as tie
 
@@ -10,14 +10,11 @@ refusal-requires c κs = search needs
 returns : tie.Need-returns
 returns c = search (needs, encode-outer-refused)
 
-exp-a-requires : tie.Need-exp-a-requires
-exp-a-requires c κs = search needs
+low-multiples-requires : tie.Need-low-multiples-requires
+low-multiples-requires c κs = search needs
 
-log-a-requires : tie.Need-log-a-requires
-log-a-requires c κs = search needs
-
-generator-requires : tie.Need-generator-requires
-generator-requires c κs = search needs
+high-multiples-requires : tie.Need-high-multiples-requires
+high-multiples-requires c κs = search needs
 
 slice-aggregate-divide : tie.Need-slice-aggregate-divide
 slice-aggregate-divide c = search needs
@@ -25,11 +22,8 @@ slice-aggregate-divide c = search needs
 slice-aggregate-divide-2 : tie.Need-slice-aggregate-divide-2
 slice-aggregate-divide-2 c = search needs
 
-slice-aggregate-divide-3 : tie.Need-slice-aggregate-divide-3
-slice-aggregate-divide-3 c = search needs
-
 divide-requires : tie.Need-divide-requires
-divide-requires c κs = search needs
+divide-requires c κs = search (needs, outer-symbols)
 
 store-requires : tie.Need-store-requires
 store-requires c κs = search (needs, outer-fits)
@@ -46,12 +40,10 @@ encode-outer-spec =
     (tie.spec
     refusal-requires
     returns
-    exp-a-requires
-    log-a-requires
-    generator-requires
+    low-multiples-requires
+    high-multiples-requires
     slice-aggregate-divide
     slice-aggregate-divide-2
-    slice-aggregate-divide-3
     divide-requires
     store-requires
     same-length

@@ -1,8 +1,8 @@
--- `words::reed_solomon::Register::empty` meets its contract. Assumes nothing.
+-- `words::division::Register::empty` meets its contract. Assumes nothing.
 use borrow.Author.Needs.{needs}
 use Rattle.fields.specs.Lists.{tabulate}
-use Rattle.words.proofs.reed_solomon.Register.empty.Statement.{statement}
-use Rattle.words.proofs.reed_solomon.Register.empty.Tie as tie
+use Rattle.words.proofs.division.Register.empty.Statement.{statement}
+use Rattle.words.proofs.division.Register.empty.Tie as tie
 
 returns : tie.Need-returns
 unfolding tabulate

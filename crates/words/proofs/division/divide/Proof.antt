@@ -1,17 +1,18 @@
--- `words::reed_solomon::divide` meets its contract. Assumes nothing.
+-- `words::division::divide` meets its contract. Assumes nothing.
 use mathlib.Core.Path.{_≡_}
 use Prim.Native.Nat.{_-_, _≤_}
 use lib.ListN.{length}
 use borrow.Author.Needs.{needs}
-use Rattle.words.proofs.Steps.Loops.{dividedUpTo, divided-none, divided-next, divided-end}
-use Rattle.words.proofs.reed_solomon.divide.Statement.{statement}
-use Rattle.words.proofs.reed_solomon.divide.Tie as tie
+use Rattle.words.proofs.Places.Tests.{below-lt}
+use Rattle.words.proofs.Steps.Loops.{dividedUpTo, divided-none, divided-below, divided-next, divided-end}
+use Rattle.words.proofs.division.divide.Statement.{statement}
+use Rattle.words.proofs.division.divide.Tie as tie
 
 abbrev Inv-loop : tie.InvT-loop
-Inv-loop exp log generator «data» register₀ i₀ register i = (i ≤ length «data») × (register .cells ≡ dividedUpTo exp log generator «data» i)
+Inv-loop low high «data» register₀ i₀ register i = (i ≤ length «data») × (register .cells ≡ dividedUpTo «data» i)
 
 abbrev μ-loop : tie.MeasureT-loop
-μ-loop exp log generator «data» register₀ i₀ register i = length «data» - i
+μ-loop low high «data» register₀ i₀ register i = length «data» - i
 
 empty-requires : tie.Need-empty-requires Inv-loop μ-loop
 empty-requires c κs = search needs
@@ -26,7 +27,7 @@ shared-slice-read-next : tie.Need-shared-slice-read-next Inv-loop μ-loop
 shared-slice-read-next c = search needs
 
 next-requires : tie.Need-next-requires Inv-loop μ-loop
-next-requires c κs = search needs
+next-requires c κs = search (needs, divided-below, below-lt)
 
 add-i : tie.Need-add-i Inv-loop μ-loop
 add-i c = search needs

@@ -6,16 +6,14 @@ use native.Mathlib.Numerals.{one-add}
 use native.Mathlib.Omega.{arith}
 use lib.Pow.{pow-add, shl-shr, shr-shr}
 use Rattle.fields.specs.Elements.{scale}
-use Rattle.fields.proofs.Xor.{xor-high, xor-bit, additive-zero}
+use Rattle.fields.proofs.Xor.{xor-high, xor-bit}
 use Rattle.words.specs.Places.{bitOf}
+use Rattle.words.proofs.Places.Numbers.{bitOf-zero}
 use Rattle.words.proofs.Codes.Horner.{Additive}
 
 pub bitOf-sum : (n i : ℕ) → Additive (λ x. bitOf n x i)
 unfolding bitOf
 bitOf-sum n i x y = rw (xor-high, xor-bit)
-
-pub bitOf-zero : (n i : ℕ) → bitOf n 0 i ≡ 0
-bitOf-zero n i = additive-zero (λ x. bitOf n x i) (bitOf-sum n i)
 
 pub bitOf-scale : (n i t x : ℕ) → bitOf n (scale t x) i ≡ scale t (bitOf n x i)
 unfolding scale

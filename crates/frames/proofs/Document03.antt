@@ -1,0 +1,11 @@
+-- Document 03 on frames: its definitions, that they agree with ours, and its statements.
+pub mod Statements
+pub mod Says
+pub mod ListsAgree
+pub mod OuterWordsAgree
+pub mod SentBitsAgree
+pub mod ParityBitsAgree
+pub mod PayloadsAgree
+pub mod FramesAgree
+pub mod StatementsHold
+pub mod SaysHold

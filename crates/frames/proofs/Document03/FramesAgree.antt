@@ -1,0 +1,85 @@
+-- Document 03's frame of outer words, and of a payload, in bytes, is ours, and so is its test of a block. Assumes nothing.
+use mathlib.Core.Path.{_≡_, refl, sym, ap, ap₂, _∙_}
+use mathlib.Core.Bool.{Bool, true, false, not, _&&_}
+use mathlib.Core.List.{List, [], _∷_}
+use Prim.Native.Nat.{ℕ, _+_, _*_, _<_}
+use native.Mathlib.Nat.{zero-add}
+use native.Mathlib.Numerals.{one-add}
+use native.Mathlib.Omega.{arith}
+use lib.Dec.{eqb, eqb·suc-zero}
+use lib.ListN.{length}
+use Rattle.words.specs.Places.{at, sumTo, differs}
+use Rattle.words.specs.Places as Places
+use Rattle.words.proofs.Places.Bytes.{bits-length, bits-at}
+use Rattle.words.proofs.Places.Counting.{sum-same}
+use Rattle.words.proofs.Document03.Statements.{when, same, apart}
+use Rattle.words.proofs.Document03.Says.{bytesOf}
+use Rattle.words.proofs.Document03.WordsAgree.{apart-agrees}
+use Rattle.words.proofs.Document03.BytesAgree.{bytes-agree}
+use Rattle.frames.specs.Frames.{sentBit, withParity, wrongBits}
+use Rattle.frames.specs.Frames as Frames
+use Rattle.frames.specs.Answers as Answers
+use Rattle.frames.proofs.FrameBits.{bits-same, payloadOf-length, sentBit-lt, frame-length}
+use Rattle.frames.proofs.Document03.Statements.{sentFrom, frameOfWords}
+use Rattle.frames.proofs.Document03.Says.{frameBytes, isFrame}
+use Rattle.frames.proofs.Document03.OuterWordsAgree.{words-agree, words-long, word-long}
+use Rattle.frames.proofs.Document03.SentBitsAgree.{Words, sent-long, sent-at}
+use Rattle.frames.proofs.Document03.ParityBitsAgree.{with-long, with-at}
+use Rattle.frames.proofs.Document03.PayloadsAgree.{payload-agrees}
+
+-- the frame of sixteen words of their lengths
+module _ (ws : List (List ℕ)) (h : Words 0 ws) where
+  pub frame-long : length (frameOfWords ws) ≡ 130560
+  frame-long = with-long (sentFrom 0 ws) (sentBit ws) (sent-long ws h) (sent-at ws h) (sentBit-lt ws)
+
+  pub frame-at : (i : ℕ) → i < 130560 → at (frameOfWords ws) i ≡ withParity (sentBit ws) i
+  frame-at = with-at (sentFrom 0 ws) (sentBit ws) (sent-long ws h) (sent-at ws h) (sentBit-lt ws)
+
+  words-bytes : bytesOf (frameOfWords ws) ≡ Frames.frameOfWords ws
+  unfolding Frames.frameOfWords
+  words-bytes = bytes-agree 16320 (frameOfWords ws) (frame-long ∙ omega arith) ∙ bits-same 16320 _ _ (λ i l. frame-at i (omega arith))
+
+-- that of a payload
+pub payload-words : (p : List ℕ) → Words 0 (Frames.outerWords p)
+payload-words p =
+    record {
+      count = omega (arith, words-long p);
+      long = λ w l. word-long p w (omega (arith, words-long p)) ∙ ap (λ (k : ℕ). Frames.dataIn k + 16) (omega arith);
+    }
+
+pub frame-bytes : (p : List ℕ) → length p ≡ 15296 → frameBytes p ≡ Frames.frameOf p
+unfolding Frames.frameOf
+frame-bytes p long = ap (λ (ws : List (List ℕ)). bytesOf (frameOfWords ws)) (words-agree p long) ∙ words-bytes (Frames.outerWords p) (payload-words p)
+
+pub bytes-long : (p : List ℕ) → length (Frames.frameOf p) ≡ 16320
+unfolding Frames.frameOf
+bytes-long p = frame-length (Frames.outerWords p)
+
+-- in how many bits blocks differ
+pub apart-bits : (b c : List ℕ) → length b ≡ 16320 → length c ≡ 16320 → apart (Places.bitsOf b) (Places.bitsOf c) ≡ wrongBits b c
+unfolding wrongBits Places.apart
+apart-bits b c eb ec =
+    let xs = Places.bitsOf b in
+    let ys = Places.bitsOf c in
+    apart-agrees xs ys (bits-length b ∙ ap (λ (n : ℕ). 8 * n) (eb ∙ sym ec) ∙ sym (bits-length c))
+    ∙ ap (λ (n : ℕ). sumTo n (λ i. differs (at xs i) (at ys i))) (bits-length b ∙ omega arith)
+    ∙ sum-same 130560 _ _ (λ i l. ap₂ differs (bits-at b i) (bits-at c i))
+
+-- lists of one length are the same if they differ nowhere
+same-first : (t s : Bool) (n : ℕ) → s ≡ eqb n 0 → (t && s) ≡ eqb (when (not t) 1 + n) 0
+same-first true s n h = h ∙ ap (λ (k : ℕ). eqb k 0) (sym (zero-add n))
+same-first false s n h = sym (ap (λ (k : ℕ). eqb k 0) (one-add n) ∙ eqb·suc-zero n)
+
+same-apart : (xs ys : List ℕ) → length xs ≡ length ys → same xs ys ≡ eqb (apart xs ys) 0
+same-apart [] [] e = refl
+same-apart [] (y ∷ ys) e = absurd (omega arith)
+same-apart (x ∷ xs) [] e = absurd (omega arith)
+same-apart (x ∷ xs) (y ∷ ys) e = same-first (eqb x y) (same xs ys) (apart xs ys) (same-apart xs ys (omega arith))
+
+pub isFrame-agrees : (b : List ℕ) → length b ≡ 16320 → isFrame b ≡ Answers.isFrame b
+unfolding Answers.isFrame
+isFrame-agrees b long =
+    let q = Frames.payloadOf b in
+    let f = Frames.frameOf q in
+    ap (λ (c : List ℕ). same c b) (ap frameBytes (payload-agrees b long) ∙ frame-bytes q (payloadOf-length b))
+    ∙ same-apart f b (bytes-long q ∙ sym long) ∙ ap (λ (n : ℕ). eqb n 0) (apart-agrees f b (bytes-long q ∙ sym long))

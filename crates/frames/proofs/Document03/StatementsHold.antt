@@ -1,0 +1,60 @@
+-- Document 03's statements on frames. Assumes nothing.
+use mathlib.Core.Path.{_≡_, refl, sym, ap, ap₂, _∙_}
+use mathlib.Core.Bool.{true, false, and-eq-true-iff}
+use mathlib.Core.List.{List}
+use Prim.Native.Nat.{ℕ, _≤_, _<_}
+use native.Mathlib.Omega.{arith}
+use borrow.Author.Tests.{eq-eqb}
+use lib.Dec.{eqb}
+use lib.ListN.{length}
+use lib.Seq.{ext-getD}
+use Rattle.words.specs.Places.{allBelow}
+use Rattle.words.specs.Places as Places
+use Rattle.words.proofs.Places.Bytes.{bits-length, bits-at}
+use Rattle.words.proofs.Document03.Statements.{same, apart}
+use Rattle.words.proofs.Document03.Says.{bitsOf}
+use Rattle.words.proofs.Document03.WordsAgree.{all-below, same-refl}
+use Rattle.frames.specs.Frames.{isPayload}
+use Rattle.frames.specs.Frames as Frames
+use Rattle.frames.proofs.FrameBits.{frame-length, frame-bit}
+use Rattle.frames.proofs.Proved.{frame-laws}
+use Rattle.frames.proofs.Document03.Statements.{frameOfWords, frameOf, payloadOf, allBytes}
+use Rattle.frames.proofs.Document03.Says.{payloadLong, frameBytes}
+use Rattle.frames.proofs.Document03.OuterWordsAgree.{words-agree}
+use Rattle.frames.proofs.Document03.SentBitsAgree.{Words}
+use Rattle.frames.proofs.Document03.PayloadsAgree.{payload-agrees}
+use Rattle.frames.proofs.Document03.FramesAgree.{frame-long, frame-at, payload-words, frame-bytes, bytes-long, apart-bits}
+
+payload-is : (p : List ℕ) → length p ≡ 15296 → allBytes p ≡ true → isPayload p ≡ true
+unfolding isPayload
+payload-is p long bytes =
+    and-eq-true-iff (eqb (length p) 15296) (allBelow 256 p) .1 (eq-eqb (length p) 15296 long, sym (all-below 256 allBytes refl (λ b bs. refl) p) ∙ bytes)
+
+differ : (p q : List ℕ) → same p q ≡ false → p ≡ q → ⊥
+differ p q other e =
+    let t : true ≡ false = sym (same-refl p) ∙ ap (same p) e ∙ other in
+    let z : _≡_ {A = ℕ} 0 1 = cc in
+    omega arith
+
+pub words-frame-agrees : (ws : List (List ℕ)) → Words 0 ws → frameOfWords ws ≡ Places.bitsOf (Frames.frameOfWords ws)
+words-frame-agrees ws h =
+    let f = Frames.frameOfWords ws in
+    ext-getD 0 (frameOfWords ws) (Places.bitsOf f) (frame-long ws h ∙ sym (bits-length f ∙ omega (arith, frame-length ws)))
+    (λ i l. let n : i < 130560 = rw (frame-long ws h) at l in frame-at ws h i n ∙ sym (bits-at f i ∙ frame-bit ws i n))
+
+pub frame-agrees : (p : List ℕ) → length p ≡ 15296 → frameOf p ≡ Places.bitsOf (Frames.frameOf p)
+unfolding Frames.frameOf
+frame-agrees p long = ap frameOfWords (words-agree p long) ∙ words-frame-agrees (Frames.outerWords p) (payload-words p)
+
+-- demand 3, second half
+pub second-half : (p q : List ℕ) → length p ≡ 15296 → length q ≡ 15296 → allBytes p ≡ true → allBytes q ≡ true → same p q ≡ false
+    → 17 ≤ apart (frameOf p) (frameOf q)
+second-half p q hp hq bp bq other =
+    let e : apart (frameOf p) (frameOf q) ≡ Frames.wrongBits (Frames.frameOf p) (Frames.frameOf q) =
+    ap₂ apart (frame-agrees p hp) (frame-agrees q hq) ∙ apart-bits (Frames.frameOf p) (Frames.frameOf q) (bytes-long p) (bytes-long q) in
+    omega (arith, e, frame-laws .far p q (payload-is p hp bp) (payload-is q hq bq) (differ p q other))
+
+pub reads-back : (p : List ℕ) → length p ≡ payloadLong → allBytes p ≡ true → payloadOf (bitsOf (frameBytes p)) ≡ p
+reads-back p long bytes =
+    ap (λ (b : List ℕ). payloadOf (bitsOf b)) (frame-bytes p long) ∙ payload-agrees (Frames.frameOf p) (bytes-long p)
+    ∙ frame-laws .payload-back p (payload-is p long bytes)

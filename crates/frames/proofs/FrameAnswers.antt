@@ -1,0 +1,111 @@
+-- What the entries answer, one law for each way through an entry. Assumes nothing.
+use mathlib.Core.Path.{_≡_, sym, ap, _∙_}
+use mathlib.Core.Bool.{Bool, true, false, not, _&&_}
+use mathlib.Core.List.{List}
+use Prim.Native.Nat.{ℕ, _-_, _/_, _%_, _<_}
+use native.Mathlib.Omega.{arith}
+use borrow.Author.Tests.{eq-eqb, ne-eqb, not-true, not-false}
+use lib.ListN.{length, getD}
+use mir.Syntax.{w8}
+use mir.Val.{Fits}
+use Rattle.words.specs.Places.{at, allBelow, bitAt, bytesOf}
+use Rattle.words.specs.InnerCode.{innerParity}
+use Rattle.words.specs.Answers.{answered}
+use Rattle.words.proofs.Places.Tests.{below-all}
+use Rattle.frames.specs.Frames.{isBlock, outerWords, sentBit, withParity, frameOfWords, frameOf}
+use Rattle.frames.specs.Answers.{isFrame, frameEncoded, frameChecked, payloadExtracted}
+use Rattle.frames.specs.Received.{receivedRow, outerCodes, innerCodes}
+use Rattle.frames.specs.Symbols.{InRow, Sent, rowCodes, payloadInRow}
+use Rattle.frames.proofs.FrameBits.{bits-same, data-same, parity-before, parity-after, parity-cases}
+use Rattle.frames.proofs.ReceivedWords.{is-frame}
+use Rattle.frames.proofs.RowWords.{received-codes, received-below, received-long, received-payload, row-sent}
+
+-- ---- encoding
+
+-- parity bits are those of the data bits
+with-parity-same : (b c : ℕ → ℕ) → ((i : ℕ) → i < 124928 → b i ≡ c i) → (i : ℕ) → i < 130560 → withParity b i ≡ withParity c i
+with-parity-same b c h i l =
+    parity-cases (λ x. x ≡ withParity c i) b i (λ m. h i m ∙ sym (parity-before c i m))
+    (λ m. ap (λ (d : List ℕ). at (innerParity d) (i / 64 - 1952)) (data-same b c h (i % 64) (omega arith)) ∙ sym (parity-after c i m))
+
+frame-written : (p row mid : List ℕ) → InRow (outerWords p) row → Sent row mid → bytesOf 16320 (withParity (bitAt mid)) ≡ frameOf p
+unfolding frameOf frameOfWords
+frame-written p row mid r s =
+    bits-same 16320 _ _ (with-parity-same (bitAt mid) (sentBit (outerWords p)) (λ i l. s .bits i l ∙ row-sent (outerWords p) row r i l))
+
+module _ (p o : List ℕ) where
+  pub encode-length : (length p ≡ 15296 → ⊥) → _≡_ {A = ℕ × List ℕ} (1, o) (frameEncoded p o)
+  unfolding frameEncoded answered
+  encode-length n = rw (ne-eqb (length p) 15296 n)
+
+  module _ (e : length p ≡ 15296) where
+    pub encode-space : (length o ≡ 16320 → ⊥) → _≡_ {A = ℕ × List ℕ} (3, o) (frameEncoded p o)
+    unfolding frameEncoded answered
+    encode-space n = rw (eq-eqb (length p) 15296 e, ne-eqb (length o) 16320 n)
+
+    pub encode-written : (row mid out : List ℕ) → length o ≡ 16320 → InRow (outerWords p) row → Sent row mid → out ≡ bytesOf 16320 (withParity (bitAt mid)) →
+        _≡_ {A = ℕ × List ℕ} (0, out) (frameEncoded p o)
+    unfolding frameEncoded answered
+    encode-written row mid out f r s w = rw (eq-eqb (length p) 15296 e, eq-eqb (length o) 16320 f, w, frame-written p row mid r s)
+
+-- ---- blocks
+
+-- the row of a block
+pub row-long : (b row : List ℕ) → row ≡ receivedRow (bitAt b) → length row ≡ 12496
+row-long b row e = rw e (received-long (bitAt b))
+
+pub row-below : (b row : List ℕ) → row ≡ receivedRow (bitAt b) → allBelow 1024 row ≡ true
+row-below b row e = rw e (received-below b)
+
+-- the outer words of the row, then the inner words of the block
+module _ (b row : List ℕ) (r : row ≡ receivedRow (bitAt b)) (outer : Bool) (test : outer ≡ rowCodes row) where
+  outer-is : outerCodes (bitAt b) ≡ outer
+  outer-is = sym (received-codes (bitAt b)) ∙ ap rowCodes (sym r) ∙ sym test
+
+  pub words-tested : (inner : Bool) → outer ≡ true → inner ≡ innerCodes (bitAt b) → inner ≡ (outerCodes (bitAt b) && innerCodes (bitAt b))
+  words-tested inner t i = rw (outer-is, t) i
+
+  pub words-refused : outer ≡ false → false ≡ (outerCodes (bitAt b) && innerCodes (bitAt b))
+  words-refused t = rw (outer-is, t)
+
+is-block : (b : List ℕ) → length b ≡ 16320 → ((i : ℕ) → Fits w8 (getD b i 0)) → isBlock b ≡ true
+unfolding isBlock
+is-block b e bytes = rw (eq-eqb (length b) 16320 e, below-all 256 b (λ i l. omega (arith, bytes i)))
+
+-- the test of a block decides
+block-tested : (b : List ℕ) → length b ≡ 16320 → ((i : ℕ) → Fits w8 (getD b i 0)) → (t : Bool) → t ≡ (outerCodes (bitAt b) && innerCodes (bitAt b)) → isFrame b ≡ t
+block-tested b e bytes t test = is-frame b (is-block b e bytes) ∙ sym test
+
+module _ (b : List ℕ) where
+  pub check-length : (length b ≡ 16320 → ⊥) → 2 ≡ frameChecked b
+  unfolding frameChecked
+  check-length n = rw (ne-eqb (length b) 16320 n)
+
+  module _ (e : length b ≡ 16320) (bytes : (i : ℕ) → Fits w8 (getD b i 0)) (t : Bool) (test : t ≡ (outerCodes (bitAt b) && innerCodes (bitAt b))) where
+    pub check-accepted : t ≡ true → 0 ≡ frameChecked b
+    unfolding frameChecked
+    check-accepted h = rw (eq-eqb (length b) 16320 e, block-tested b e bytes t test, h)
+
+    pub check-no-frame : t ≡ false → 4 ≡ frameChecked b
+    unfolding frameChecked
+    check-no-frame h = rw (eq-eqb (length b) 16320 e, block-tested b e bytes t test, h)
+
+module _ (b o : List ℕ) where
+  pub extract-length : (length b ≡ 16320 → ⊥) → _≡_ {A = ℕ × List ℕ} (2, o) (payloadExtracted b o)
+  unfolding payloadExtracted answered
+  extract-length n = rw (ne-eqb (length b) 16320 n)
+
+  module _ (e : length b ≡ 16320) where
+    pub extract-space : (length o ≡ 15296 → ⊥) → _≡_ {A = ℕ × List ℕ} (3, o) (payloadExtracted b o)
+    unfolding payloadExtracted answered
+    extract-space n = rw (eq-eqb (length b) 16320 e, ne-eqb (length o) 15296 n)
+
+    module _ (f : length o ≡ 15296) (bytes : (i : ℕ) → Fits w8 (getD b i 0)) (t : Bool) (test : t ≡ (outerCodes (bitAt b) && innerCodes (bitAt b))) where
+      pub extract-no-frame : not t ≡ true → _≡_ {A = ℕ × List ℕ} (4, o) (payloadExtracted b o)
+      unfolding payloadExtracted answered
+      extract-no-frame h = rw (eq-eqb (length b) 16320 e, eq-eqb (length o) 15296 f, block-tested b e bytes t test, not-true t h)
+
+      pub extract-written : (row out : List ℕ) → not t ≡ false → row ≡ receivedRow (bitAt b) → out ≡ payloadInRow row → _≡_ {A = ℕ × List ℕ} (0, out) (payloadExtracted b o)
+      unfolding payloadExtracted answered
+      extract-written row out h r w =
+          rw (eq-eqb (length b) 16320 e, eq-eqb (length o) 15296 f, block-tested b e bytes t test, not-false t h, w, r, received-payload b)

@@ -1,0 +1,263 @@
+-- What the functions on the inner words of a frame compute. Assumes nothing.
+use mathlib.Core.Path.{_≡_, refl, sym, ap, _∙_}
+use mathlib.Core.Bool.{Bool, true, false}
+use mathlib.Core.List.{List}
+use Prim.Native.Nat.{ℕ, zero, suc, _+_, _-_, _*_, _/_, _%_, _^_, _≤_, _<_, zero-le}
+use native.Mathlib.Numerals.{add-one}
+use native.Mathlib.Omega.{arith}
+use borrow.Author.Tests.{eq-eqb, eqb-true, ne-eqb}
+use lib.Bits.{bitAnd, bitOr, bitXor, and-mask, or-shifted}
+use lib.Dec.{eqb, lit<}
+use lib.ListN.{length, getD, set, replicate, length-set, length-replicate}
+use lib.Pow.{pow-add, shl-exact, shl-lt}
+use mir.Facts.{fits-widen}
+use mir.Syntax.{w8, w64}
+use mir.Val.{Fits}
+use Rattle.fields.specs.Elements.{xor, scale}
+use Rattle.fields.proofs.Lists.{tabulate-at, tabulate-is, tabulate-length}
+use Rattle.fields.proofs.Ways.{past}
+use Rattle.words.specs.Places.{at, every, allBelow, bitOf, numberOf, bitAt, bytesOf}
+use Rattle.words.specs.OuterCode.{shiftedIn, divided}
+use Rattle.words.specs.InnerCode.{divisor, isInner}
+use Rattle.words.specs.Limbs.{number, Holds}
+use Rattle.words.proofs.Places.Bytes.{bitAt-lt, places-read, number-of-bits}
+use Rattle.words.proofs.Places.Filling.{zeros-at, Filled, filled-next, filled-end, filled-last, FilledOver, over-next, over-after}
+use Rattle.words.proofs.Places.Numbers.{bitOf-lt, bitOf-number, numberOf-same, number-parts, numberOf-bits}
+use Rattle.words.proofs.Places.Tests.{tests-agree, every-at, every-true, every-false, below-all}
+use Rattle.frames.specs.Frames.{innerWord, parityPlace, withParity}
+use Rattle.frames.specs.Received.{innerCodes}
+use Rattle.frames.specs.SideBySide.{placeAt, ones, masks, stepped, swept, parities, byteOf64, parityBytes, agrees}
+use Rattle.frames.specs.Symbols.{Placed}
+use Rattle.frames.proofs.Placing.{Placing, placing-next, placing-end}
+use Rattle.frames.proofs.FrameBits.{bytes-same, places-code, code-places, parity-cases}
+use Rattle.frames.proofs.SideBySide.{place-bit, place-lt, swept-lt, parities-bits}
+
+-- ---- eight bytes as a number
+
+pub byte-fits : {x : ℕ} → Fits w8 x → Fits w64 x
+byte-fits h = fits-widen tt h
+
+-- one byte more, below
+byte-below : (a w k : ℕ) → w < 256 → k + 8 ≤ 64 → bitOr (a * 2 ^ (k + 8)) (w * 2 ^ k % 2 ^ 64) ≡ (a * 256 + w) * 2 ^ k
+byte-below a w k h l =
+    let e : 8 + k ≡ k + 8 = omega arith in
+    ap (bitOr (a * 2 ^ (k + 8))) (shl-exact 8 k 64 h (omega arith)) ∙ or-shifted a (k + 8) (w * 2 ^ k) (rw e at (shl-lt 8 k h))
+    ∙ rw (pow-add 2 k 8) (omega arith)
+
+module _ (bytes : List ℕ) (p : ℕ) (small : (i : ℕ) → Fits w8 (getD bytes i 0)) where
+  abbrev bits : ℕ → ℕ
+  bits k = bitAt bytes (64 * p + k)
+
+  abbrev byte : ℕ → ℕ
+  byte m = getD bytes (8 * p + m) 0
+
+  byte-bits : (m : ℕ) → numberOf 8 (λ j. bits (8 * m + j)) ≡ byte m
+  byte-bits m =
+      let i = 64 * p + 8 * m in
+      let q : i / 8 ≡ 8 * p + m = omega arith in
+      let r : 8 - (i % 8 + 8) ≡ 0 = omega arith in
+      numberOf-same 8 _ _ (λ j h. ap (bitAt bytes) (omega arith)) ∙ places-read bytes i 8 (omega arith) ∙ rw (q, r) (omega (arith, small (8 * p + m)))
+
+  -- the bytes before byte m, and byte m
+  next-byte : (m : ℕ) {x : ℕ} → m < 8 → x ≡ numberOf (8 * m) bits * 2 ^ (64 - 8 * m) →
+      bitOr x (byte m * 2 ^ (56 - 8 * m) % 2 ^ 64) ≡ numberOf (8 * m + 8) bits * 2 ^ (56 - 8 * m)
+  next-byte m h e =
+      let k = 56 - 8 * m in
+      let a = numberOf (8 * m) bits in
+      let s : 64 - 8 * m ≡ k + 8 = omega arith in
+      ap (λ (y : ℕ). bitOr y (byte m * 2 ^ k % 2 ^ 64)) (e ∙ ap (λ (j : ℕ). a * 2 ^ j) s)
+      ∙ byte-below a (byte m) k (omega (arith, small (8 * p + m))) (omega arith)
+      ∙ ap (λ (y : ℕ). y * 2 ^ k) (sym (number-parts (8 * m) 8 bits ∙ ap (λ (y : ℕ). a * 256 + y) (byte-bits m)))
+
+  pub place-made : bitOr (bitOr (bitOr (bitOr (bitOr (bitOr (bitOr (getD bytes (8 * p) 0 * 2 ^ 56 % 2 ^ 64) (byte 1 * 2 ^ 48 % 2 ^ 64))
+      (byte 2 * 2 ^ 40 % 2 ^ 64)) (byte 3 * 2 ^ 32 % 2 ^ 64)) (byte 4 * 2 ^ 24 % 2 ^ 64)) (byte 5 * 2 ^ 16 % 2 ^ 64)) (byte 6 * 2 ^ 8 % 2 ^ 64)) (byte 7)
+      ≡ placeAt bytes p
+  unfolding placeAt
+  place-made =
+      let e : numberOf 8 bits ≡ getD bytes (8 * p) 0 =
+      numberOf-same 8 _ _ (λ j h. ap bits (omega arith)) ∙ byte-bits 0 ∙ ap (λ (i : ℕ). getD bytes i 0) (omega arith) in
+      let one : getD bytes (8 * p) 0 * 2 ^ 56 % 2 ^ 64 ≡ numberOf 8 bits * 2 ^ 56 = omega (arith, small (8 * p)) in
+      let three = next-byte 2 (lit< tt) (next-byte 1 (lit< tt) one) in
+      let seven = next-byte 6 (lit< tt) (next-byte 5 (lit< tt) (next-byte 4 (lit< tt) (next-byte 3 (lit< tt) three))) in
+      ap (λ (x : ℕ). bitOr x (byte 7)) seven ∙ or-shifted (numberOf 56 bits) 8 (byte 7) (omega (arith, small (8 * p + 7)))
+      ∙ sym (number-parts 56 8 bits ∙ ap (λ (y : ℕ). numberOf 56 bits * 256 + y) (byte-bits 7))
+
+-- ---- the divisor's coefficients
+
+pub ones-none : {c : ℕ} → c ≡ 0 → 0 ≡ ones c
+unfolding ones scale
+ones-none e = rw e
+
+pub ones-all : (c : ℕ) → (c ≡ 0 → ⊥) → 18446744073709551615 ≡ ones c
+unfolding ones scale
+ones-all zero n = absurd (n refl)
+ones-all (suc c) n = refl
+
+unfoldable pub maskAt : ℕ → ℕ
+maskAt i = ones (bitOf 88 divisor i)
+
+pub mask-next : {h l i c r : ℕ} {m : List ℕ} → Filled 88 maskAt i m → i < 88 → Holds h l divisor → c ≡ bitOf 88 (number h l) i → r ≡ ones c →
+    Filled 88 maskAt (i + 1) (set m i r)
+unfolding maskAt
+mask-next {h} {l} {i} f b d e q = filled-next f b (q ∙ ap ones (e ∙ ap (λ (x : ℕ). bitOf 88 x i) (d .value)))
+
+pub masks-end : {i : ℕ} {m : List ℕ} → Filled 88 maskAt i m → 88 ≤ i → m ≡ masks
+unfolding maskAt masks
+masks-end f b = filled-end f b
+
+-- ---- one step of the register, stored cell by cell over the register before it
+
+-- cell i of the register after reg; f is the leading coefficient
+unfoldable pub stepCell : List ℕ → List ℕ → ℕ → ℕ → ℕ
+stepCell ms reg f i = xor (at reg (suc i)) (bitAnd f (at ms i))
+
+module _ (ms reg cells : List ℕ) (f k : ℕ) (so-far : FilledOver 88 (stepCell ms reg f) reg k cells) where
+  pub stepping-next : k < 87 → FilledOver 88 (stepCell ms reg f) reg (k + 1) (set cells k (bitXor (getD cells (k + 1) 0) (bitAnd f (getD ms k 0))))
+  unfolding stepCell xor
+  stepping-next h = over-next so-far (omega arith) (ap (λ (x : ℕ). bitXor x (bitAnd f (getD ms k 0))) (over-after so-far))
+
+  pub stepping-long : (v : ℕ) → length reg ≡ 88 → length (set cells 87 v) ≡ length reg
+  stepping-long v e = length-set cells 87 v ∙ so-far .filled .long ∙ sym e
+
+  -- nothing moves up into the last cell
+  pub stepping-end : (x : ℕ) → f ≡ bitXor (getD reg 0 0) x → length reg ≡ 88 → 87 ≤ k → set cells 87 (bitAnd f (getD ms 87 0)) ≡ stepped ms reg x
+  unfolding stepped shiftedIn stepCell xor
+  stepping-end x ef long h =
+      rw (← ef) (filled-last (so-far .filled) h (ap (λ (y : ℕ). bitXor y (bitAnd f (getD ms 87 0))) (past reg 88 (omega arith))))
+
+-- ---- the register after the places so far
+
+pub record Sweeping (bytes : List ℕ) (p : ℕ) (cells : List ℕ) : Type 0 where
+  pub within : p ≤ 1952
+  pub long : length cells ≡ 88
+  pub value : cells ≡ swept bytes p
+
+pub sweeping-start : {bytes : List ℕ} → Sweeping bytes 0 (replicate 88 0)
+unfolding swept divided
+sweeping-start =
+    let long : length {A = ℕ} (replicate 88 0) ≡ 88 = length-replicate {A = ℕ} 88 0 in
+    record { within = zero-le; long = long; value = tabulate-is 88 (λ i. 0) (replicate 88 0) 0 long (λ i l. zeros-at 88 i) }
+
+pub sweeping-next : {bytes cells ms next : List ℕ} {p x : ℕ} → Sweeping bytes p cells → p < 1952 → ms ≡ masks → x ≡ placeAt bytes p →
+    next ≡ stepped ms cells x → Sweeping bytes (p + 1) next
+unfolding swept divided stepped shiftedIn
+sweeping-next s h em ex en =
+    record { within = omega arith; long = ap length en ∙ tabulate-length 88 _; value = rw (add-one, ← s .value, ← em, ← ex) en }
+
+pub sweeping-end : {bytes cells : List ℕ} {p : ℕ} → Sweeping bytes p cells → 1952 ≤ p → cells ≡ parities bytes
+unfolding parities
+sweeping-end {p = p} s h = let q : p ≡ 1952 = omega (arith, s .within) in rw q at (s .value)
+
+-- ---- the bytes of the parity places
+
+pub byte-made : (x j : ℕ) → j < 8 → bitAnd (x / 2 ^ (56 - 8 * j)) 255 ≡ byteOf64 x j
+unfolding byteOf64
+byte-made x j h =
+    let e : 56 - 8 * j ≡ 64 - (8 * j + 8) = omega arith in
+    and-mask (x / 2 ^ (56 - 8 * j)) 8 ∙ ap (λ (k : ℕ). x / 2 ^ k % 2 ^ 8) e ∙ sym (number-of-bits 64 x (8 * j) 8 (omega arith))
+
+module _ (cells : List ℕ) where
+  parity-bytes-length : length (parityBytes cells) ≡ 704
+  unfolding parityBytes
+  parity-bytes-length = tabulate-length 704 _
+
+  parity-byte : (m : ℕ) → m < 704 → at (parityBytes cells) m ≡ byteOf64 (at cells (m / 8)) (m % 8)
+  unfolding parityBytes
+  parity-byte m h = tabulate-at 704 _ m 0 h
+
+  module _ (before after : List ℕ) (m : ℕ) (so-far : Placing 15616 (parityBytes cells) m before after) where
+    pub storing-next : (r : ℕ) → m < 704 → length before ≡ 16320 → r ≡ byteOf64 (getD cells (m / 8) 0) (m % 8) →
+        Placing 15616 (parityBytes cells) (m + 1) before (set after (15616 + m) r)
+    storing-next r h long e =
+        placing-next so-far (omega (arith, parity-bytes-length)) (omega (arith, parity-bytes-length)) (e ∙ sym (parity-byte m h))
+
+    pub storing-end : 704 ≤ m → Placed 15616 (parityBytes cells) before after
+    storing-end h = placing-end so-far (omega (arith, parity-bytes-length))
+
+-- ---- the parity places of a block
+
+-- the first i parity places are the cells
+unfoldable pub agreesUpTo : List ℕ → List ℕ → ℕ → Bool
+agreesUpTo cells block i = every i (λ j. eqb (at cells j) (placeAt block (1952 + j)))
+
+module _ (cells block : List ℕ) where
+  pub agrees-none : agreesUpTo cells block 0 ≡ true
+  unfolding agreesUpTo every
+  agrees-none = refl
+
+  module _ (i : ℕ) where
+    pub agrees-not : (x : ℕ) → i < 88 → x ≡ placeAt block (1952 + i) → (getD cells i 0 ≡ x → ⊥) → false ≡ agrees cells block
+    unfolding agrees
+    agrees-not x h e n = sym (every-false 88 _ i h (ne-eqb (at cells i) (placeAt block (1952 + i)) (λ q. n (q ∙ sym e))))
+
+    module _ (so-far : agreesUpTo cells block i ≡ true) where
+      pub agrees-next : (x : ℕ) → x ≡ placeAt block (1952 + i) → getD cells i 0 ≡ x → agreesUpTo cells block (i + 1) ≡ true
+      unfolding agreesUpTo every
+      agrees-next x e q = rw (add-one, so-far) (eq-eqb (at cells i) (placeAt block (1952 + i)) (q ∙ e))
+
+      pub agrees-end : i ≤ 88 → 88 ≤ i → true ≡ agrees cells block
+      unfolding agreesUpTo agrees
+      agrees-end l h = let e : i ≡ 88 = omega arith in sym (rw e at so-far)
+
+-- ---- the frame with its parity places
+
+byte-bit : (x j i : ℕ) → i < 8 → bitOf 8 (byteOf64 x j) i ≡ bitOf 64 x (8 * j + i)
+unfolding byteOf64
+byte-bit x j i h = bitOf-number (λ i. bitOf 64 x (8 * j + i)) (λ i. bitOf-lt 64 x (8 * j + i)) 8 i h
+
+module _ (before after : List ℕ) where
+  stored-bit : Placed 15616 (parityBytes (parities before)) before after → (i : ℕ) → i < 130560 → withParity (bitAt before) i ≡ bitAt after i
+  unfolding bitAt
+  stored-bit stored i l =
+      let cells = parities before in
+      let p = i / 64 - 1952 in
+      let m = i / 8 - 15616 in
+      parity-cases (λ x. x ≡ bitAt after i) (bitAt before) i (λ h. ap (λ (x : ℕ). bitOf 8 x (i % 8)) (sym (stored .below (i / 8) (omega arith))))
+      (λ h. let e : i / 8 ≡ 15616 + m = omega arith in
+      let q : m / 8 ≡ p = omega arith in
+      let r : 8 * (m % 8) + i % 8 ≡ i % 64 = omega arith in
+      let byte : at after (i / 8) ≡ byteOf64 (at cells p) (m % 8) =
+      ap (at after) e ∙ stored .inside m (omega (arith, parity-bytes-length cells)) ∙ parity-byte cells m (omega arith)
+      ∙ ap (λ (j : ℕ). byteOf64 (at cells j) (m % 8)) q in
+      sym (ap (λ (x : ℕ). bitOf 8 x (i % 8)) byte ∙ byte-bit (at cells p) (m % 8) (i % 8) (omega arith)
+      ∙ ap (bitOf 64 (at cells p)) r ∙ parities-bits before (i % 64) (omega arith) p (omega arith)))
+
+  pub encoded : (cells : List ℕ) → cells ≡ parities before → Placed 15616 (parityBytes cells) before after → length before ≡ 16320 →
+      ((i : ℕ) → Fits w8 (getD after i 0)) → after ≡ bytesOf 16320 (withParity (bitAt before))
+  encoded cells e stored long small =
+      let below : allBelow 256 after ≡ true = below-all 256 after (λ i l. omega (arith, small i)) in
+      sym (bytes-same 16320 (withParity (bitAt before)) after (stored .long ∙ long) below (stored-bit (rw e at stored)))
+
+-- ---- code words
+
+module _ (block : List ℕ) where
+  abbrev b : ℕ → ℕ
+  b = bitAt block
+
+  place-parity : (i k : ℕ) → k < 64 → bitOf 64 (placeAt block (1952 + i)) k ≡ b (parityPlace i k)
+  unfolding parityPlace
+  place-parity i k m = place-bit block (1952 + i) k m ∙ ap b (omega arith)
+
+  agrees-code : agrees (parities block) block ≡ true → (k : ℕ) → k < 64 → isInner (innerWord b k) ≡ true
+  unfolding agrees
+  agrees-code t k m =
+      places-code b (bitAt-lt block) k (λ i l. sym (parities-bits block k m i l)
+      ∙ ap (λ (x : ℕ). bitOf 64 x k) (eqb-true (at (parities block) i) (placeAt block (1952 + i)) (every-at 88 _ t i l)) ∙ place-parity i k m)
+
+  code-agrees : ((k : ℕ) → k < 64 → isInner (innerWord b k) ≡ true) → agrees (parities block) block ≡ true
+  unfolding agrees parities
+  code-agrees inner = every-true 88 _ (λ i l. eq-eqb (at (parities block) i) (placeAt block (1952 + i)) (same i l))
+    where
+      same : (i : ℕ) → i < 88 → at (parities block) i ≡ placeAt block (1952 + i)
+      same i l =
+          let x = at (parities block) i in
+          let y = placeAt block (1952 + i) in
+          sym (numberOf-bits 64 x (swept-lt block 1952 i))
+          ∙ numberOf-same 64 (bitOf 64 x) (bitOf 64 y) (λ k m. parities-bits block k m i l ∙ code-places b k (inner k m) i l ∙ sym (place-parity i k m))
+          ∙ numberOf-bits 64 y (place-lt block (1952 + i))
+
+  pub codes-agree : (cells : List ℕ) (r : Bool) → cells ≡ parities block → r ≡ agrees cells block → r ≡ innerCodes (bitAt block)
+  unfolding innerCodes
+  codes-agree cells r e t =
+      t ∙ ap (λ (c : List ℕ). agrees c block) e
+      ∙ tests-agree (agrees (parities block) block) (innerCodes b) (λ a. every-true 64 _ (agrees-code a)) (λ a. code-agrees (every-at 64 _ a))

@@ -1,0 +1,166 @@
+-- The outer words in the row: stored one after the other, tested one after the other, and sent. Assumes nothing.
+use mathlib.Core.Path.{_≡_, refl, sym, ap, _∙_}
+use mathlib.Core.Bool.{Bool, true, false, not}
+use mathlib.Core.List.{List, []}
+use Prim.Native.Nat.{ℕ, _+_, _-_, _*_, _/_, _%_, _≤_, _<_}
+use native.Mathlib.Decide.{ℕ-discrete}
+use native.Mathlib.Nat.{not-suc-le-zero}
+use native.Mathlib.Numerals.{add-one}
+use native.Mathlib.Omega.{arith}
+use borrow.Author.Tests.{not-true, not-false}
+use lib.Dec.{lit<}
+use lib.ListN.{length, take, drop, length-drop}
+use lib.Seq.{getD-take, getD-drop, length-take-le}
+use Rattle.fields.specs.Lists.{tabulate}
+use Rattle.fields.proofs.Lists.{tabulate-at, tabulate-is, tabulate-length, tabulate-lt, tabulate-same}
+use Rattle.words.specs.Places.{at, every, allBelow, bitOf, bitAt, bytesOf}
+use Rattle.words.specs.OuterCode.{isOuter, outerParity}
+use Rattle.words.proofs.Places.Tests.{every-false, every-same, below-at, below-all}
+use Rattle.words.proofs.Places.Bytes.{bitAt-lt}
+use Rattle.frames.specs.Frames.{dataIn, outerData, outerWord, outerWords, rowBit, rowPlace, sentBit, payloadPlace, payloadOf}
+use Rattle.frames.specs.Received.{receivedSymbol, receivedRow, receivedWord, outerCodes}
+use Rattle.frames.specs.Symbols.{Placed, InRow, rowWord, rowCodes, symbolBit, symbolByte, dataPlace, dataSymbol, payloadByte, payloadInRow}
+use Rattle.frames.proofs.Placing.{placed-append}
+use Rattle.frames.proofs.FrameBits.{bits-same, dataIn-le, dataIn-is, outer-data-length, outer-word-length, outer-data-below, place-near}
+use Rattle.frames.proofs.ReceivedWords.{received-first, row-room, symbol-lt, symbol-bit}
+
+-- a part of a list, place by place
+part-places : (i n : ℕ) (l : List ℕ) → i + n ≤ length l → take n (drop i l) ≡ tabulate n (λ j. at l (i + j))
+part-places i n l room =
+    tabulate-is n (λ j. at l (i + j)) (take n (drop i l)) 0 (length-take-le n (drop i l) (omega (arith, length-drop i l)))
+    (λ j h. getD-take n (drop i l) j 0 h ∙ getD-drop i l j 0)
+
+-- a list that stands in a buffer is a part of it
+placed-part : (i n : ℕ) (xs before after : List ℕ) → Placed i xs before after → length xs ≡ n → i + n ≤ length before → take n (drop i after) ≡ xs
+placed-part i n xs before after p l room =
+    part-places i n after (omega (arith, p .long)) ∙ sym (tabulate-is n (λ j. at after (i + j)) xs 0 l (λ j h. sym (p .inside j (omega arith))))
+
+-- ---- the words of a payload, stored
+
+-- once its data symbols are stored, the part of the row with them is divided, and the register stored after them
+module _ (payload : List ℕ) (w n : ℕ) (before row : List ℕ) (e : n ≡ dataIn w) (h : w < 16) (long : length before ≡ 12496)
+    (p : Placed (781 * w) (outerData payload w) before row) where
+  data-part : take (781 * w + n - 781 * w) (drop (781 * w) row) ≡ outerData payload w
+  data-part =
+      let m : 781 * w + n - 781 * w ≡ n = omega arith in
+      rw m (placed-part (781 * w) n (outerData payload w) before row p (outer-data-length payload w ∙ sym e) (omega (arith, dataIn-le w)))
+
+  pub data-part-below : allBelow 1024 (take (781 * w + n - 781 * w) (drop (781 * w) row)) ≡ true
+  data-part-below = rw data-part (outer-data-below payload w)
+
+  pub word-placed : (cells after : List ℕ) → cells ≡ outerParity (take (781 * w + n - 781 * w) (drop (781 * w) row)) → Placed (781 * w + n) cells row after
+      → Placed (781 * w) (outerWord payload w) before after
+  unfolding outerWord
+  word-placed cells after c q =
+      let parity : cells ≡ outerParity (outerData payload w) = c ∙ ap outerParity data-part in
+      placed-append (outer-data-length payload w ∙ sym e) p (rw parity at q)
+
+-- the invariant: the first w words stand in the row
+pub record Written (payload : List ℕ) (w : ℕ) (row : List ℕ) : Type 0 where
+  pub long : length row ≡ 12496
+  pub within : w ≤ 16
+  pub place : (v s : ℕ) → v < w → s < dataIn v + 16 → at row (781 * v + s) ≡ at (outerWord payload v) s
+
+pub written-none : {payload row : List ℕ} → length row ≡ 12496 → Written payload 0 row
+written-none e = record { long = e; within = omega arith; place = λ v s h. absurd (not-suc-le-zero h) }
+
+pub written-next : {payload : List ℕ} {w : ℕ} {row after : List ℕ} → Written payload w row → w < 16 → Placed (781 * w) (outerWord payload w) row after
+    → Written payload (w + 1) after
+written-next {payload} {w} {row} {after} r h p =
+    record { long = p .long ∙ r .long; within = omega arith; place = λ v s k l. go v s k l (ℕ-discrete v w) }
+  where
+    go : (v s : ℕ) → v < w + 1 → s < dataIn v + 16 → Dec (v ≡ w) → at after (781 * v + s) ≡ at (outerWord payload v) s
+    go v s k l (yes e) = rw e (p .inside s (omega (arith, outer-word-length payload w, ap dataIn e)))
+    go v s k l (no e) = p .below (781 * v + s) (omega (arith, dataIn-le v)) ∙ r .place v s (omega arith) l
+
+pub written-all : {payload : List ℕ} {w : ℕ} {row : List ℕ} → Written payload w row → 16 ≤ w → InRow (outerWords payload) row
+unfolding outerWords
+written-all {payload} {w} {row} r h =
+    record { long = r .long; place = λ v s k l. r .place v s (omega arith) l ∙ sym (ap (λ (x : List ℕ). at x s) (tabulate-at 16 (outerWord payload) v [] k)) }
+
+-- ---- the words of a row, tested
+
+row-word-part : (row : List ℕ) (w n : ℕ) → length row ≡ 12496 → w < 16 → n ≡ dataIn w + 16 → take n (drop (781 * w) row) ≡ rowWord row w
+unfolding rowWord
+row-word-part row w n long h e =
+    part-places (781 * w) n row (omega (arith, dataIn-le w)) ∙ ap (λ (m : ℕ). tabulate m (λ s. at row (781 * w + s))) e
+
+-- the first w words of the row are code words
+unfoldable pub codesUpTo : List ℕ → ℕ → Bool
+codesUpTo row w = every w (λ v. isOuter (rowWord row v))
+
+pub codes-none : (row : List ℕ) → codesUpTo row 0 ≡ true
+unfolding codesUpTo every
+codes-none row = refl
+
+module _ (row : List ℕ) (long : length row ≡ 12496) (w n : ℕ) (h : w < 16) (e : n ≡ dataIn w) where
+  abbrev part : List ℕ
+  part = take (781 * w + n + 16 - 781 * w) (drop (781 * w) row)
+
+  part-is : part ≡ rowWord row w
+  part-is = row-word-part row w (781 * w + n + 16 - 781 * w) long h (omega arith)
+
+  part-long : length part ≡ dataIn w + 16
+  unfolding rowWord
+  part-long = ap length part-is ∙ tabulate-length (dataIn w + 16) _
+
+  pub part-least : 16 ≤ length part
+  part-least = omega (arith, part-long)
+
+  pub part-most : length part ≤ 1023
+  part-most = omega (arith, part-long, dataIn-le w)
+
+  pub part-below : allBelow 1024 row ≡ true → allBelow 1024 part ≡ true
+  unfolding rowWord
+  part-below b = rw part-is (below-all 1024 _ (λ i l. tabulate-lt 1024 (dataIn w + 16) (λ s. at row (781 * w + s)) (lit< tt) (λ s. below-at 1024 row (lit< tt) b (781 * w + s)) i))
+
+  module _ (t : Bool) (test : t ≡ isOuter part) (before : codesUpTo row w ≡ true) where
+    pub codes-not : not t ≡ true → false ≡ rowCodes row
+    unfolding rowCodes
+    codes-not f = sym (every-false 16 (λ v. isOuter (rowWord row v)) w h (sym (ap isOuter part-is) ∙ sym test ∙ not-true t f))
+
+    pub codes-next : not t ≡ false → codesUpTo row (w + 1) ≡ true
+    unfolding codesUpTo every
+    codes-next f = rw (add-one, before) (sym (ap isOuter part-is) ∙ sym test ∙ not-false t f)
+
+pub codes-all : (row : List ℕ) (w : ℕ) → codesUpTo row w ≡ true → w ≤ 16 → 16 ≤ w → true ≡ rowCodes row
+unfolding codesUpTo rowCodes
+codes-all row w t l g = let e : w ≡ 16 = omega arith in sym (rw e at t)
+
+-- the words of a received row are the block's
+pub received-codes : (b : ℕ → ℕ) → rowCodes (receivedRow b) ≡ outerCodes b
+unfolding rowCodes outerCodes rowWord receivedRow receivedWord
+received-codes b =
+    every-same 16 _ _ (λ w h. ap isOuter (tabulate-same (dataIn w + 16) _ _ (λ s l. tabulate-at 12496 (receivedSymbol b) (781 * w + s) 0 (omega (arith, row-room w s h l)))))
+
+pub received-below : (bytes : List ℕ) → allBelow 1024 (receivedRow (bitAt bytes)) ≡ true
+unfolding receivedRow
+received-below bytes = below-all 1024 _ (λ i l. tabulate-lt 1024 12496 (receivedSymbol (bitAt bytes)) (lit< tt) (symbol-lt (bitAt bytes) (bitAt-lt bytes)) i)
+
+pub received-long : (b : ℕ → ℕ) → length (receivedRow b) ≡ 12496
+unfolding receivedRow
+received-long b = tabulate-length 12496 (receivedSymbol b)
+
+-- ---- bits of the row
+
+-- what is sent of the words in a row
+pub row-sent : (words : List (List ℕ)) (row : List ℕ) → InRow words row → (i : ℕ) → i < 124928 → symbolBit (at row) (rowPlace i) ≡ sentBit words i
+unfolding symbolBit sentBit rowBit
+row-sent words row r i h =
+    let p = rowPlace i in
+    let e : p / 10 ≡ 781 * (p / 7810) + p % 7810 / 10 = omega arith in
+    let near : p < 124930 = omega (arith, place-near i) in
+    let w : p / 7810 < 16 = omega arith in
+    ap (λ (x : ℕ). bitOf 10 x (p % 10)) (ap (at row) e ∙ r .place (p / 7810) (p % 7810 / 10) w (omega (arith, dataIn-is (p / 7810) w)))
+
+-- the payload in a received row is the block's
+pub received-payload : (bytes : List ℕ) → payloadInRow (receivedRow (bitAt bytes)) ≡ payloadOf bytes
+unfolding payloadInRow payloadByte symbolByte symbolBit dataSymbol dataPlace payloadOf payloadPlace receivedRow bytesOf
+received-payload bytes =
+    bits-same 15296 (symbolBit (dataSymbol (receivedRow (bitAt bytes)))) _ (λ i l.
+    let u = i / 10 in
+    let t = 781 * (u / 765) + u % 765 in
+    let e : 10 * t + i % 10 ≡ 7810 * (i / 7650) + i % 7650 = omega arith in
+    ap (λ (x : ℕ). bitOf 10 x (i % 10)) (tabulate-at 12496 (receivedSymbol (bitAt bytes)) t 0 (omega arith))
+    ∙ symbol-bit (bitAt bytes) (bitAt-lt bytes) t (i % 10) (omega arith)
+    ∙ received-first (bitAt bytes) (10 * t + i % 10) (omega arith) ∙ ap (bitAt bytes) e)

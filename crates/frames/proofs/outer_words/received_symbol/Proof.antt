@@ -1,0 +1,50 @@
+-- `frames::outer_words::received_symbol` meets its contract. Assumes nothing.
+use borrow.Author.Needs.{needs}
+use Rattle.frames.proofs.RowSteps.{symbol-before, symbol-padded, symbol-after}
+use Rattle.frames.proofs.outer_words.received_symbol.Statement.{statement}
+use Rattle.frames.proofs.outer_words.received_symbol.Tie as tie
+
+mul-symbol : tie.Need-mul-symbol
+mul-symbol c = search needs
+
+symbol-requires : tie.Need-symbol-requires
+symbol-requires c κs = search needs
+
+returns : tie.Need-returns
+returns c = search (needs, symbol-before)
+
+mul-symbol-2 : tie.Need-mul-symbol-2
+mul-symbol-2 c = search needs
+
+symbol-requires-2 : tie.Need-symbol-requires-2
+symbol-requires-2 c κs = search needs
+
+returns-2 : tie.Need-returns-2
+returns-2 c = search (needs, symbol-padded)
+
+mul-symbol-3 : tie.Need-mul-symbol-3
+mul-symbol-3 c = search needs
+
+sub-symbol : tie.Need-sub-symbol
+sub-symbol c = search needs
+
+symbol-requires-3 : tie.Need-symbol-requires-3
+symbol-requires-3 c κs = search needs
+
+returns-3 : tie.Need-returns-3
+returns-3 c = search (needs, symbol-after)
+
+pub received-symbol-spec : {M : Type 1} → statement M
+received-symbol-spec =
+    tie.close
+    (tie.spec
+    mul-symbol
+    symbol-requires
+    returns
+    mul-symbol-2
+    symbol-requires-2
+    returns-2
+    mul-symbol-3
+    sub-symbol
+    symbol-requires-3
+    returns-3)

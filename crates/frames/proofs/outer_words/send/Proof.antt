@@ -1,0 +1,56 @@
+-- `frames::outer_words::send` meets its contract. Assumes nothing.
+use Prim.Native.Nat.{_-_}
+use borrow.Author.Needs.{needs}
+use Rattle.words.proofs.Places.Filling.{Filled, filled-start}
+use Rattle.frames.proofs.RowSteps.{sentByte, sent-next, sent-end}
+use Rattle.frames.proofs.outer_words.send.Statement.{statement}
+use Rattle.frames.proofs.outer_words.send.Tie as tie
+
+abbrev Inv-loop : tie.InvT-loop
+Inv-loop row out₀ k₀ out k = Filled 16320 (sentByte row) k out
+
+abbrev μ-loop : tie.MeasureT-loop
+μ-loop row out₀ k₀ out k = 15616 - k
+
+loop-holds : tie.Need-loop-holds Inv-loop μ-loop
+loop-holds c = search (needs, filled-start)
+
+row-place-requires : tie.Need-row-place-requires Inv-loop μ-loop
+row-place-requires c κs = search needs
+
+row-byte-requires : tie.Need-row-byte-requires Inv-loop μ-loop
+row-byte-requires c κs = search needs
+
+slice-write-out : tie.Need-slice-write-out Inv-loop μ-loop
+slice-write-out c = search needs
+
+add-k : tie.Need-add-k Inv-loop μ-loop
+add-k c = search needs
+
+loop-less : tie.Need-loop-less Inv-loop μ-loop
+loop-less c = search needs
+
+loop-again : tie.Need-loop-again Inv-loop μ-loop
+loop-again c = search (needs, sent-next)
+
+same-length : tie.Need-same-length Inv-loop μ-loop
+same-length c = search needs
+
+returns : tie.Need-returns Inv-loop μ-loop
+returns c = search (needs, sent-end)
+
+pub send-spec : {M : Type 1} → statement M
+send-spec =
+    tie.close
+    (tie.spec
+    Inv-loop
+    μ-loop
+    loop-holds
+    row-place-requires
+    row-byte-requires
+    slice-write-out
+    add-k
+    loop-less
+    loop-again
+    same-length
+    returns)

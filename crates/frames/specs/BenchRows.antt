@@ -1,0 +1,36 @@
+-- Document 01's twelve bench rows, as a table.
+use mathlib.Core.Path.{_≡_}
+use mathlib.Core.Bool.{true}
+use mathlib.Core.List.{List, [], _∷_}
+use Prim.Native.Nat.{ℕ}
+use lib.ListN.{replicate}
+use Rattle.fields.specs.Elements.{timesA, timesB}
+use Rattle.words.specs.Places.{at, bitAt}
+use Rattle.words.specs.InnerCode.{innerParity}
+use Rattle.frames.specs.Frames.{isPayload, innerData, frameOf}
+
+pub data Row : Type 0 where
+  product-a : ℕ → ℕ → ℕ → Row
+  product-b : ℕ → ℕ → ℕ → Row
+  payload-bit : ℕ → ℕ → Row
+  parity-bit : ℕ → ℕ → ℕ → Row
+  zero-payload : Row
+
+-- x times y is z in field A, in field B; payload bit i is frame bit f; parity bit p of inner word k is frame bit f; the zero payload has the zero frame
+unfoldable pub Holds : Row → Type 0
+Holds (product-a x y z) = timesA x y ≡ z
+Holds (product-b x y z) = timesB x y ≡ z
+Holds (payload-bit i f) = (p : List ℕ) → isPayload p ≡ true → bitAt (frameOf p) f ≡ bitAt p i
+Holds (parity-bit p k f) = (payload : List ℕ) → isPayload payload ≡ true →
+    bitAt (frameOf payload) f ≡ at (innerParity (innerData (bitAt (frameOf payload)) k)) p
+Holds zero-payload = frameOf (replicate 15296 0) ≡ replicate 16320 0
+
+unfoldable pub AllHold : List Row → Type 0
+AllHold [] = Unit {0}
+AllHold (row ∷ rows) = Holds row × AllHold rows
+
+unfoldable pub benchRows : List Row
+benchRows =
+    product-a 512 2 9 ∷ product-a 516 2 1 ∷ product-b 1024 2 5 ∷ product-b 1026 2 1
+    ∷ payload-bit 7649 7649 ∷ payload-bit 7650 7810 ∷ payload-bit 114749 116989 ∷ payload-bit 114750 117150 ∷ payload-bit 122367 124767
+    ∷ parity-bit 0 63 124991 ∷ parity-bit 1 0 124992 ∷ zero-payload ∷ []

@@ -1,0 +1,81 @@
+-- Frames: the outer words of a payload, the bits that are sent of them, the inner words with their parity bits, and the payload of a frame.
+-- Frame bits are given by a function b: bit i is b i. Bytes are lists, and `bitAt` reads their bits, the first bit of a byte its highest.
+use mathlib.Core.Bool.{Bool, _&&_, cond}
+use mathlib.Core.List.{List, [], _++_}
+use Prim.Native.Nat.{ℕ, _+_, _-_, _*_, _/_, _%_}
+use lib.Dec.{eqb, ltb}
+use lib.ListN.{length, getD}
+use Rattle.fields.specs.Lists.{tabulate}
+use Rattle.words.specs.Places.{at, allBelow, bitOf, numberOf, bitAt, bytesOf, sumTo, differs}
+use Rattle.words.specs.OuterCode.{outerParity}
+use Rattle.words.specs.InnerCode.{innerParity}
+
+-- a payload is 15,296 bytes, a block 16,320
+unfoldable pub isPayload : List ℕ → Bool
+isPayload p = eqb (length p) 15296 && allBelow 256 p
+
+unfoldable pub isBlock : List ℕ → Bool
+isBlock b = eqb (length b) 16320 && allBelow 256 b
+
+-- outer words 0 to 14 have 765 data symbols, word 15 has 762
+unfoldable pub dataIn : ℕ → ℕ
+dataIn w = cond (ltb w 15) 765 762
+
+-- ten bits in order make a symbol, the first at z^9: that of the bits b from bit i on
+unfoldable pub symbolAt : (ℕ → ℕ) → ℕ → ℕ
+symbolAt b i = numberOf 10 (λ j. b (i + j))
+
+-- data symbol s of outer word w begins at payload bit 7,650 w + 10 s. Past the payload's end a bit is 0, which gives the two padding bits ("fill zeros") of
+-- word 15
+unfoldable pub outerData : List ℕ → ℕ → List ℕ
+outerData payload w = tabulate (dataIn w) (λ s. symbolAt (bitAt payload) (7650 * w + 10 * s))
+
+unfoldable pub outerWord : List ℕ → ℕ → List ℕ
+outerWord payload w = outerData payload w ++ outerParity (outerData payload w)
+
+unfoldable pub outerWords : List ℕ → List (List ℕ)
+outerWords payload = tabulate 16 (outerWord payload)
+
+-- sixteen words stand in a row of 781 symbols each, ten bits a symbol: bit r of the row
+unfoldable pub rowBit : List (List ℕ) → ℕ → ℕ
+rowBit words r = bitOf 10 (at (getD words (r / 7810) []) (r % 7810 / 10)) (r % 10)
+
+-- the padding bits, 124,768 and 124,769 of the row, are not sent: frame bit i below 124,928 is bit `rowPlace i` of the row
+unfoldable pub rowPlace : ℕ → ℕ
+rowPlace i = cond (ltb i 124768) i (i + 2)
+
+unfoldable pub sentBit : List (List ℕ) → ℕ → ℕ
+sentBit words i = rowBit words (rowPlace i)
+
+-- frame bit 64 p + k is place p of inner word k: 1,952 data places, and with the parity places 2,040
+unfoldable pub innerData : (ℕ → ℕ) → ℕ → List ℕ
+innerData b k = tabulate 1952 (λ p. b (64 * p + k))
+
+unfoldable pub innerWord : (ℕ → ℕ) → ℕ → List ℕ
+innerWord b k = tabulate 2040 (λ p. b (64 * p + k))
+
+-- parity bit p of inner word k stands at frame bit 124,928 + 64 p + k
+unfoldable pub parityPlace : ℕ → ℕ → ℕ
+parityPlace p k = 124928 + 64 * p + k
+
+-- the bits b below 124,928, and after them the parity bits of their inner words
+unfoldable pub withParity : (ℕ → ℕ) → ℕ → ℕ
+withParity b i = cond (ltb i 124928) (b i) (at (innerParity (innerData b (i % 64))) (i / 64 - 1952))
+
+-- the frame of sixteen outer words, and of a payload
+unfoldable pub frameOfWords : List (List ℕ) → List ℕ
+frameOfWords words = bytesOf 16320 (withParity (sentBit words))
+
+unfoldable pub frameOf : List ℕ → List ℕ
+frameOf payload = frameOfWords (outerWords payload)
+
+-- payload bit i stands at frame bit `payloadPlace i`; the payload of a frame
+unfoldable pub payloadPlace : ℕ → ℕ
+payloadPlace i = 7810 * (i / 7650) + i % 7650
+
+unfoldable pub payloadOf : List ℕ → List ℕ
+payloadOf frame = bytesOf 15296 (λ i. bitAt frame (payloadPlace i))
+
+-- in how many of the 130,560 bits two blocks differ
+unfoldable pub wrongBits : List ℕ → List ℕ → ℕ
+wrongBits block frame = sumTo 130560 (λ i. differs (bitAt block i) (bitAt frame i))

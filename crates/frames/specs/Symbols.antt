@@ -1,0 +1,59 @@
+-- What the functions on bits and on the row of outer words give.
+use mathlib.Core.Path.{_≡_}
+use mathlib.Core.Bool.{Bool}
+use mathlib.Core.List.{List, []}
+use Prim.Native.Nat.{ℕ, _+_, _*_, _/_, _%_, _≤_, _<_}
+use lib.ListN.{length, getD}
+use Rattle.fields.specs.Lists.{tabulate}
+use Rattle.words.specs.Places.{at, every, bitOf, numberOf, bitAt}
+use Rattle.words.specs.OuterCode.{isOuter}
+use Rattle.frames.specs.Frames.{dataIn, rowPlace}
+
+-- the byte that eight of the twenty bits of two symbols make, from bit i on
+unfoldable pub byteAt : ℕ → ℕ → ℕ → ℕ
+byteAt x y i = numberOf 8 (λ j. bitOf 20 (1024 * x + y % 1024) (i + j))
+
+-- the list xs stands in a buffer from place i on, and the other places are as they were
+pub record Placed (i : ℕ) (xs before after : List ℕ) : Type 0 where
+  pub long : length after ≡ length before
+  pub inside : (j : ℕ) → j < length xs → at after (i + j) ≡ at xs j
+  pub below : (j : ℕ) → j < i → at after j ≡ at before j
+  pub above : (j : ℕ) → i + length xs ≤ j → at after j ≡ at before j
+
+-- sixteen outer words stand in the row, 781 places each
+pub record InRow (words : List (List ℕ)) (row : List ℕ) : Type 0 where
+  pub long : length row ≡ 12496
+  pub place : (w s : ℕ) → w < 16 → s < dataIn w + 16 → at row (781 * w + s) ≡ at (getD words w []) s
+
+-- outer word w of a row; each is a code word
+unfoldable pub rowWord : List ℕ → ℕ → List ℕ
+rowWord row w = tabulate (dataIn w + 16) (λ s. at row (781 * w + s))
+
+unfoldable pub rowCodes : List ℕ → Bool
+rowCodes row = every 16 (λ w. isOuter (rowWord row w))
+
+-- bit i of the symbols f 0, f 1, ..; and the byte that eight bits make, from bit i on
+unfoldable pub symbolBit : (ℕ → ℕ) → ℕ → ℕ
+symbolBit f i = bitOf 10 (f (i / 10)) (i % 10)
+
+unfoldable pub symbolByte : (ℕ → ℕ) → ℕ → ℕ
+symbolByte f i = numberOf 8 (λ j. symbolBit f (i + j))
+
+-- the bits of the row that are sent are the first in the buffer
+pub record Sent (row out : List ℕ) : Type 0 where
+  pub long : length out ≡ 16320
+  pub bits : (i : ℕ) → i < 124928 → bitAt out i ≡ symbolBit (at row) (rowPlace i)
+
+-- data symbol u of all outer words stands at this place of the row
+unfoldable pub dataPlace : ℕ → ℕ
+dataPlace u = 781 * (u / 765) + u % 765
+
+unfoldable pub dataSymbol : List ℕ → ℕ → ℕ
+dataSymbol row u = at row (dataPlace u)
+
+-- the payload in a row
+unfoldable pub payloadByte : List ℕ → ℕ → ℕ
+payloadByte row k = symbolByte (dataSymbol row) (8 * k)
+
+unfoldable pub payloadInRow : List ℕ → List ℕ
+payloadInRow row = tabulate 15296 (payloadByte row)

@@ -1,0 +1,116 @@
+// Frames of G.975.1, appendix I.4: the frame of a payload, whether a block is a frame, and the payload of a frame.
+//
+//     encode   the payload's bits, ten to a symbol, make sixteen outer words with their parity symbols, which stand in a row (module outer_words); the row's
+//              bits, but for the two padding bits, are the frame's first bytes; the parity bits of the 64 inner words follow (module inner_words)
+//     check    the block's bytes make the row again; a frame is a block whose outer and inner words are all code words
+//     extract  after the same test, the data symbols of the row are the payload
+//
+// Every input is answered: an entry returns 0, or the number of the refusal; a refusal leaves the output buffer as it was. Where there is more than one
+// fault, the order is 1 (length of the payload) or 2 (length of the block), 3 (size of the output buffer), then 4 (no frame).
+ghost use mathlib.Core.Path.{_≡_};
+ghost use mathlib.Core.Bool.{_&&_};
+ghost use lib.ListN.{length};
+ghost use Rattle.words.specs.Places.{bitAt};
+ghost use Rattle.frames.specs.Received.{receivedRow, outerCodes, innerCodes};
+ghost use Rattle.frames.specs.Answers.{frameEncoded, frameChecked, payloadExtracted};
+
+mod bits;
+mod inner_words;
+mod outer_words;
+
+// The frame and its parts.
+pub struct Frame;
+
+impl Frame {
+    // Outer words, and the symbols that each has place for.
+    pub const WORDS: usize = 16;
+
+    pub const WORD_SYMBOLS: usize = Frame::DATA_SYMBOLS + words::Outer::PARITY;
+
+    // Data symbols of an outer word, and of the last one.
+    pub const DATA_SYMBOLS: usize = 765;
+
+    pub const LAST_DATA_SYMBOLS: usize = 762;
+
+    // The row of outer words, in symbols.
+    pub const ROW: usize = Frame::WORDS * Frame::WORD_SYMBOLS;
+
+    pub const SYMBOL_BITS: usize = 10;
+
+    // The padding bits of the last outer word, which are not sent.
+    pub const PADDING: usize = 2;
+
+    pub const PAYLOAD_BYTES: usize = 15_296;
+
+    // Inner words: as many as a number has bits, so that eight bytes hold one place of them all.
+    pub const INNER_WORDS: usize = 64;
+
+    pub const PLACE_BYTES: usize = Frame::INNER_WORDS / 8;
+
+    // Data places of an inner word, and the bytes of all of them.
+    pub const DATA_PLACES: usize = words::Inner::PLACES - words::Inner::PARITY;
+
+    pub const DATA_BYTES: usize = Frame::PLACE_BYTES * Frame::DATA_PLACES;
+
+    pub const BYTES: usize = Frame::PLACE_BYTES * words::Inner::PLACES;
+}
+
+// Writes the frame of the payload and returns 0; 1 or 3.
+pub fn encode_frame(payload: &[u8], out: &mut [u8]) -> u8
+    ensures { λ r. ⌜ (r, now (out .exit)) ≡ frameEncoded (now (payload .entry)) (now (out .entry)) ⌝ }
+{
+    if payload.len() != Frame::PAYLOAD_BYTES {
+        return 1;
+    }
+    if out.len() != Frame::BYTES {
+        return 3;
+    }
+    let mut row = outer_words::blank();
+    outer_words::encode(payload, &mut row);
+    outer_words::send(&row, out);
+    inner_words::encode(out);
+    0
+}
+
+// The outer words of the block, which stand in the row, and its inner words are all code words.
+fn is_frame(block: &[u8], row: &[u16]) -> bool
+    requires { ⌜ (length (now block) ≡ 16320) × (now row ≡ receivedRow (bitAt (now block))) ⌝ }
+    ensures { λ r. ⌜ r ≡ (outerCodes (bitAt (now (block .entry))) && innerCodes (bitAt (now (block .entry)))) ⌝ }
+{
+    if outer_words::are_code_words(row) {
+        inner_words::are_code_words(block)
+    } else {
+        false
+    }
+}
+
+// 0 for a frame; 2 or 4.
+pub fn check_frame(block: &[u8]) -> u8
+    ensures { λ r. ⌜ r ≡ frameChecked (now (block .entry)) ⌝ }
+{
+    if block.len() != Frame::BYTES {
+        return 2;
+    }
+    let mut row = outer_words::blank();
+    outer_words::receive(block, &mut row);
+    if is_frame(block, &row) { 0 } else { 4 }
+}
+
+// Writes the payload of the frame and returns 0; 2, 3 or 4.
+pub fn extract_payload(block: &[u8], out: &mut [u8]) -> u8
+    ensures { λ r. ⌜ (r, now (out .exit)) ≡ payloadExtracted (now (block .entry)) (now (out .entry)) ⌝ }
+{
+    if block.len() != Frame::BYTES {
+        return 2;
+    }
+    if out.len() != Frame::PAYLOAD_BYTES {
+        return 3;
+    }
+    let mut row = outer_words::blank();
+    outer_words::receive(block, &mut row);
+    if !is_frame(block, &row) {
+        return 4;
+    }
+    outer_words::extract(&row, out);
+    0
+}

@@ -1,0 +1,210 @@
+// The outer words of a frame stand in a row, 781 symbols each: the row of a payload and of a block, the bytes that are sent of it, and the payload in it.
+use crate::Frame;
+use crate::bits;
+use words::division;
+use words::reed_solomon;
+ghost use mathlib.Core.Path.{_≡_};
+ghost use mathlib.Core.Bool.{true};
+ghost use Prim.Native.Nat.{_+_, _*_, _≤_, _<_};
+ghost use lib.ListN.{length};
+ghost use Rattle.words.specs.Places.{at, allBelow, bitAt};
+ghost use Rattle.words.specs.Division.{multiples};
+ghost use Rattle.frames.specs.Frames.{dataIn, outerData, outerWord, outerWords, rowPlace};
+ghost use Rattle.frames.specs.Received.{receivedSymbol, receivedRow};
+ghost use Rattle.frames.specs.Symbols.{Placed, InRow, Sent, rowCodes, symbolByte, dataPlace, payloadByte, payloadInRow};
+
+const LAST: usize = Frame::WORDS - 1;
+
+const WORD_BITS: usize = Frame::SYMBOL_BITS * Frame::DATA_SYMBOLS;
+
+// The symbol of the row that ends with the padding bits, and the mask that clears them.
+const PADDED: usize = LAST * Frame::WORD_SYMBOLS + Frame::LAST_DATA_SYMBOLS - 1;
+
+const UNPADDED: u16 = 1020;
+
+// Frame bytes from this one on come from the row past the padding bits.
+const AFTER_PADDING: usize = (Frame::SYMBOL_BITS * (PADDED + 1) - Frame::PADDING) / 8;
+
+// A row to write into: its length is all that is promised.
+pub fn blank() -> [u16; Frame::ROW]
+    ensures { λ r. ⌜ length r ≡ 12496 ⌝ }
+{
+    [0; Frame::ROW]
+}
+
+fn data_in(w: usize) -> usize
+    ensures { λ r. ⌜ (r ≡ dataIn w) × (r ≤ 765) ⌝ }
+{
+    if w < LAST {
+        Frame::DATA_SYMBOLS
+    } else {
+        Frame::LAST_DATA_SYMBOLS
+    }
+}
+
+// Writes the data symbols of outer word w into the row.
+fn write_data(payload: &[u8], w: usize, row: &mut [u16])
+    requires { ⌜ (w < 16) × (length (now row) ≡ 12496) ⌝ }
+    ensures { λ _. ⌜ Placed (781 * w) (outerData (now (payload .entry)) w) (now (row .entry)) (now (row .exit)) ⌝ }
+{
+    let n = data_in(w);
+    let mut s: usize = 0;
+    while s < n {
+        row[Frame::WORD_SYMBOLS * w + s] = bits::symbol(
+            payload,
+            WORD_BITS * w + Frame::SYMBOL_BITS * s,
+        );
+        s += 1;
+    }
+}
+
+// Writes the parity symbols into the row from place i on.
+fn write_parity(cells: [u16; words::Outer::PARITY], i: usize, row: &mut [u16])
+    requires { ⌜ (i ≤ 12480) × (length (now row) ≡ 12496) ⌝ }
+    ensures { λ _. ⌜ Placed i cells (now (row .entry)) (now (row .exit)) ⌝ }
+{
+    let mut j: usize = 0;
+    while j < words::Outer::PARITY {
+        row[i + j] = cells[j];
+        j += 1;
+    }
+}
+
+// Writes outer word w of the payload into the row.
+fn write_word(low: &[u16], high: &[u16], payload: &[u8], w: usize, row: &mut [u16])
+    requires { ⌜ (now low ≡ multiples 1) × (now high ≡ multiples 32) ⌝ }
+    requires { ⌜ (w < 16) × (length (now row) ≡ 12496) ⌝ }
+    ensures { λ _. ⌜ Placed (781 * w) (outerWord (now (payload .entry)) w) (now (row .entry)) (now (row .exit)) ⌝ }
+{
+    write_data(payload, w, row);
+    let from = Frame::WORD_SYMBOLS * w;
+    let end = from + data_in(w);
+    let register = division::divide(low, high, &row[from..end]);
+    let cells = register.cells;
+    write_parity(cells, end, row);
+}
+
+// Writes the outer words of the payload into the row.
+pub fn encode(payload: &[u8], row: &mut [u16])
+    requires { ⌜ length (now row) ≡ 12496 ⌝ }
+    ensures { λ _. ⌜ InRow (outerWords (now (payload .entry))) (now (row .exit)) ⌝ }
+{
+    let low = division::low_multiples();
+    let high = division::high_multiples();
+    let mut w: usize = 0;
+    while w < Frame::WORDS {
+        write_word(&low, &high, payload, w, row);
+        w += 1;
+    }
+}
+
+// The eight bits of the row from bit r on.
+fn row_byte(row: &[u16], r: usize) -> u8
+    ensures { λ b. ⌜ b ≡ symbolByte (at (now (row .entry))) r ⌝ }
+{
+    let t = r / Frame::SYMBOL_BITS;
+    let x = reed_solomon::symbol(row, t);
+    let y = reed_solomon::symbol(row, t + 1);
+    bits::byte_of(x, y, r % Frame::SYMBOL_BITS)
+}
+
+// The place in the row of the first bit of frame byte k.
+fn row_place(k: usize) -> usize
+    requires { ⌜ k < 15616 ⌝ }
+    ensures { λ r. ⌜ r ≡ rowPlace (8 * k) ⌝ }
+{
+    if k < AFTER_PADDING {
+        8 * k
+    } else {
+        8 * k + Frame::PADDING
+    }
+}
+
+// Writes what is sent of the row, the frame's data bytes.
+pub fn send(row: &[u16], out: &mut [u8])
+    requires { ⌜ length (now out) ≡ 16320 ⌝ }
+    ensures { λ _. ⌜ Sent (now (row .entry)) (now (out .exit)) ⌝ }
+{
+    let mut k: usize = 0;
+    while k < Frame::DATA_BYTES {
+        out[k] = row_byte(row, row_place(k));
+        k += 1;
+    }
+}
+
+// Symbol t of the row of a block, in which the padding bits are zeros.
+fn received_symbol(block: &[u8], t: usize) -> u16
+    requires { ⌜ t < 12496 ⌝ }
+    ensures { λ r. ⌜ r ≡ receivedSymbol (bitAt (now (block .entry))) t ⌝ }
+{
+    if t < PADDED {
+        return bits::symbol(block, Frame::SYMBOL_BITS * t);
+    }
+    if t == PADDED {
+        return bits::symbol(block, Frame::SYMBOL_BITS * t) & UNPADDED;
+    }
+    bits::symbol(block, Frame::SYMBOL_BITS * t - Frame::PADDING)
+}
+
+// Writes the row of a block.
+pub fn receive(block: &[u8], row: &mut [u16])
+    requires { ⌜ length (now row) ≡ 12496 ⌝ }
+    ensures { λ _. ⌜ now (row .exit) ≡ receivedRow (bitAt (now (block .entry))) ⌝ }
+{
+    let mut t: usize = 0;
+    while t < Frame::ROW {
+        row[t] = received_symbol(block, t);
+        t += 1;
+    }
+}
+
+// Each outer word in the row is a code word.
+pub fn are_code_words(row: &[u16]) -> bool
+    requires { ⌜ (length (now row) ≡ 12496) × (allBelow 1024 (now row) ≡ true) ⌝ }
+    ensures { λ r. ⌜ r ≡ rowCodes (now (row .entry)) ⌝ }
+{
+    let low = division::low_multiples();
+    let high = division::high_multiples();
+    let mut v: usize = 0;
+    while v < Frame::WORDS {
+        let from = Frame::WORD_SYMBOLS * v;
+        let end = from + data_in(v) + words::Outer::PARITY;
+        if !division::is_code_word(&low, &high, &row[from..end]) {
+            return false;
+        }
+        v += 1;
+    }
+    true
+}
+
+// The place in the row of data symbol u of all outer words.
+fn data_place(u: usize) -> usize
+    requires { ⌜ u < 12240 ⌝ }
+    ensures { λ r. ⌜ r ≡ dataPlace u ⌝ }
+{
+    Frame::WORD_SYMBOLS * (u / Frame::DATA_SYMBOLS) + u % Frame::DATA_SYMBOLS
+}
+
+// Byte k of the payload in the row.
+fn payload_byte(row: &[u16], k: usize) -> u8
+    requires { ⌜ k < 15296 ⌝ }
+    ensures { λ r. ⌜ r ≡ payloadByte (now (row .entry)) k ⌝ }
+{
+    let i = 8 * k;
+    let u = i / Frame::SYMBOL_BITS;
+    let x = reed_solomon::symbol(row, data_place(u));
+    let y = reed_solomon::symbol(row, data_place(u + 1));
+    bits::byte_of(x, y, i % Frame::SYMBOL_BITS)
+}
+
+// Writes the payload in the row.
+pub fn extract(row: &[u16], out: &mut [u8])
+    requires { ⌜ length (now out) ≡ 15296 ⌝ }
+    ensures { λ _. ⌜ now (out .exit) ≡ payloadInRow (now (row .entry)) ⌝ }
+{
+    let mut k: usize = 0;
+    while k < Frame::PAYLOAD_BYTES {
+        out[k] = payload_byte(row, k);
+        k += 1;
+    }
+}

@@ -253,6 +253,91 @@ fn nearest_inner(word: &[u32]) -> Option<Vec<u32>> {
     Some(bytes(&c))
 }
 
+// ---- frames
+
+// Groups of ten bits as symbols, and symbols as their bits.
+fn symbols(bits: &[u32]) -> Vec<u32> {
+    bits.chunks(10).map(|c| c.iter().fold(0, |v, b| 2 * v + b)).collect()
+}
+
+fn symbol_bits(symbols: &[u32]) -> Vec<u32> {
+    symbols.iter().flat_map(|s| (0..10).rev().map(move |i| s >> i & 1)).collect()
+}
+
+// The frame as document 01 builds it up: the payload's bits are dealt out to sixteen words, each word is completed and sent, but for the two padding
+// bits of the last; then the 64 inner words are picked out, and their parity bits dealt out again, one of each word in turn.
+fn frame(payload: &[u32]) -> Vec<u32> {
+    let mut rest = bits(payload);
+    let mut sent = Vec::new();
+    for w in 0..16 {
+        let taken = if w < 15 { 7650 } else { 7618 };
+        let mut own: Vec<u32> = rest.drain(..taken).collect();
+        if w == 15 {
+            own.extend([0, 0]);
+        }
+        let data = symbols(&own);
+        let parity = outer_parity(&data);
+        sent.extend(&own[..taken]);
+        sent.extend(symbol_bits(&parity));
+    }
+    assert!(rest.is_empty() && sent.len() == 124_928);
+    let parts: Vec<Vec<u32>> = (0..64)
+        .map(|k| {
+            let own: Vec<u32> = sent.iter().copied().skip(k).step_by(64).collect();
+            bits(&inner_parity(&bytes(&own)))
+        })
+        .collect();
+    for p in 0..88 {
+        sent.extend(parts.iter().map(|part| part[p]));
+    }
+    bytes(&sent)
+}
+
+// The payload in a block: the words' own bits, one word after the other.
+fn payload(block: &[u32]) -> Vec<u32> {
+    let mut rest = bits(block);
+    let mut own = Vec::new();
+    for w in 0..16 {
+        let word: Vec<u32> = rest.drain(..if w < 15 { 7810 } else { 7778 }).collect();
+        own.extend(&word[..word.len() - 160]);
+    }
+    bytes(&own)
+}
+
+fn encode_frame(data: &[u32], out: &mut Vec<u32>) -> u32 {
+    if data.len() != 15_296 {
+        1
+    } else if out.len() != 16_320 {
+        3
+    } else {
+        *out = frame(data);
+        0
+    }
+}
+
+fn check_frame(block: &[u32]) -> u32 {
+    if block.len() != 16_320 {
+        2
+    } else if frame(&payload(block)) != block {
+        4
+    } else {
+        0
+    }
+}
+
+fn extract_payload(block: &[u32], out: &mut Vec<u32>) -> u32 {
+    if block.len() != 16_320 {
+        2
+    } else if out.len() != 15_296 {
+        3
+    } else if check_frame(block) != 0 {
+        4
+    } else {
+        *out = payload(block);
+        0
+    }
+}
+
 // ---- rows
 
 fn corrected(name: &str, n: usize, number: u32, changed: usize, same: bool) {
@@ -310,6 +395,32 @@ fn made(name: &str, encode: fn(&[u32], &mut Vec<u32>) -> u32, data: &[u32], spac
     let mut out = vec![9; space];
     row(name, data.len(), encode(data, &mut out));
     list("out", &out);
+}
+
+// A number that tells lists of bytes apart.
+fn digest(bytes: &[u32]) -> u64 {
+    bytes.iter().fold(0, |h, b| (257 * h + *b as u64 + 1) % 1_000_000_007)
+}
+
+fn row_digest(name: &str, n: usize, result: u32, out: &[u32]) {
+    println!("{name} {n}: {result} {}", digest(out));
+}
+
+// A call with a buffer of nines, and the digest of what is in it afterwards.
+fn digested(name: &str, n: usize, call: fn(&[u32], &mut Vec<u32>) -> u32, given: &[u32], space: usize) {
+    let mut out = vec![9; space];
+    let result = call(given, &mut out);
+    row_digest(name, n, result, &out);
+}
+
+// A payload, its frame, and the payload again.
+fn there_and_back(name: &str, n: usize, payload: &[u32]) {
+    digested(&format!("encode, {name}"), n, encode_frame, payload, 16_320);
+    let sent = frame(payload);
+    row(&format!("check, {name}"), n, check_frame(&sent));
+    digested(&format!("extract, {name}"), n, extract_payload, &sent, 15_296);
+    assert!(crate::payload(&sent) == payload);
+    println!("payload, {name} {n}: {}", digest(payload));
 }
 
 fn with(n: usize, places: &[(usize, u32)]) -> Vec<u32> {
@@ -403,5 +514,30 @@ fn main() {
     }
     for n in [254, 256] {
         corrected("correct inner, zeros, buffer of", n, 3, 0, false);
+    }
+
+    there_and_back("each byte", 0, &[0; 15_296]);
+    there_and_back("each byte", 255, &[255; 15_296]);
+    there_and_back("bytes counted modulo", 251, &(0..15_296).map(|i| i % 251).collect::<Vec<u32>>());
+    for i in [0, 7_649, 7_650, 114_749, 114_750, 122_367] {
+        there_and_back("payload bit", i, &with(15_296, &[(i / 8, 128 >> (i % 8))]));
+    }
+    for n in [0, 15_295, 15_297] {
+        digested("encode, zeros, length", n, encode_frame, &vec![0; n], 16_319);
+    }
+    for n in [0, 16_319, 16_321] {
+        digested("encode, zeros, buffer of", n, encode_frame, &[0; 15_296], n);
+    }
+    for n in [0, 16_319, 16_321] {
+        row("check, zeros, length", n, check_frame(&vec![0; n]));
+        digested("extract, zeros, length", n, extract_payload, &vec![0; n], 15_295);
+    }
+    for i in [0, 64, 124_767, 124_768, 124_927, 124_928, 130_559] {
+        let block = with(16_320, &[(i / 8, 128 >> (i % 8))]);
+        row("check, frame bit set", i, check_frame(&block));
+        digested("extract, frame bit set", i, extract_payload, &block, 15_296);
+    }
+    for n in [0, 15_295, 15_297] {
+        digested("extract, all bits set, buffer of", n, extract_payload, &[255; 16_320], n);
     }
 }

@@ -1,13 +1,21 @@
-// The rows of document 01 that are run by a program, so far those on single words: some words with their parity, and words with errors corrected.
-// A line names the row and gives its result: 0 or the refusal's number; for a correction then how many symbols or places it changed, and 1 if the buffer
-// has the sent word. `stdout` is what tests/vectors.rs computes from the documents; words written out here are printed
-// too, so that it holds them as well.
+// The rows of document 01 that are run by a program, but for the correction of frames: single words with their parity, words with errors corrected, and
+// frames (module frame_rows). A line names the row and gives its result: 0 or the refusal's number; for a correction then how many symbols or places it
+// changed, and 1 if the buffer has the sent word. `stdout` is what tests/vectors.rs computes from the documents; words written out here are printed too, so
+// that it holds them as well.
+ghost use mathlib.Core.Path.{_≡_};
+ghost use Prim.Native.Nat.{_<_};
 
-fn wide(x: u16) -> u64 {
+mod frame_rows;
+
+fn wide(x: u16) -> u64
+    ensures { λ r. ⌜ r ≡ x ⌝ }
+{
     x as u64
 }
 
-fn widened(x: u8) -> u16 {
+fn widened(x: u8) -> u16
+    ensures { λ r. ⌜ r < 256 ⌝ }
+{
     x as u16
 }
 
@@ -597,4 +605,7 @@ fn main() {
     correct_outer_refusals();
     inner_corrections();
     correct_inner_refusals();
+    frame_rows::payloads();
+    frame_rows::encode_refusals();
+    frame_rows::block_refusals();
 }

@@ -2,26 +2,13 @@
 // words of 2,040 places), turn by turn in one run. The sent words are made by the peers' encoders; each answer is compared with the sent word.
 #include <fec.h>
 #include <linux/bch.h>
-#include <stdint.h>
-#include <stdio.h>
-#include <stdlib.h>
 #include <string.h>
-#include <time.h>
+#include "rounds.h"
 
 uint8_t timing_correct_outer(const uint16_t *word, size_t word_len, uint16_t *out, size_t out_len);
 uint8_t timing_correct_inner(const uint8_t *word, size_t word_len, uint8_t *out, size_t out_len);
 
-enum { ROUNDS = 2001, SYMBOLS = 781, DATA = 765, BYTES = 255, DATA_BYTES = 244, PLACES = 2040 };
-
-static uint64_t state = 88172645463325252u;
-
-static uint32_t next_random(uint32_t below)
-{
-	state ^= state << 13;
-	state ^= state >> 7;
-	state ^= state << 17;
-	return (uint32_t)(state >> 20) % below;
-}
+enum { SYMBOLS = 781, DATA = 765, BYTES = 255, DATA_BYTES = 244, PLACES = 2040 };
 
 // n distinct places below `below`
 static void choose(uint32_t *places, int n, uint32_t below)
@@ -37,27 +24,6 @@ static void choose(uint32_t *places, int n, uint32_t below)
 	}
 }
 
-static double now(void)
-{
-	struct timespec t;
-	clock_gettime(CLOCK_MONOTONIC, &t);
-	return t.tv_sec * 1e9 + t.tv_nsec;
-}
-
-static int by_size(const void *a, const void *b)
-{
-	double x = *(const double *)a, y = *(const double *)b;
-	return (x > y) - (x < y);
-}
-
-static double median(double *times)
-{
-	qsort(times, ROUNDS, sizeof(double), by_size);
-	return times[ROUNDS / 2];
-}
-
-static double ours[ROUNDS], theirs[ROUNDS];
-
 static void report(const char *word, const char *peer, int errors)
 {
 	double a = median(ours), b = median(theirs);
@@ -68,14 +34,6 @@ static void report(const char *word, const char *peer, int errors)
 static void report_taken(const char *peer, int taken)
 {
 	printf("    of %d words with nine errors the proved corrector took 0, %s %d\n", ROUNDS, peer, taken);
-}
-
-static void require(int condition, const char *what, int errors)
-{
-	if (!condition) {
-		printf("%s: wrong answer at %d errors\n", what, errors);
-		exit(1);
-	}
 }
 
 static void outer(void *rs, int errors)

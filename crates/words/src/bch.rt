@@ -1,5 +1,6 @@
 // Inner words: binary polynomials, the divisor that the eight factors make, the remainder of a word after division by it, and correction: the syndromes
-// from the remainder, the errors that explain them, and the places inverted. `divisor` and `coefficient` are for the crates above too.
+// from the remainder, the errors that explain them, and the places inverted. `divisor`, `coefficient`,
+// `copy` and `flip` are for the crates above too.
 use crate::Inner;
 use crate::decoder;
 use crate::decoder::Errors;
@@ -347,7 +348,7 @@ pub fn explains(exp: &[u16], e: Errors) -> bool
     }
 }
 
-fn copy(word: &[u8], out: &mut [u8])
+pub fn copy(word: &[u8], out: &mut [u8])
     requires { ⌜ length (now out) ≡ length (now word) ⌝ }
     ensures { λ _. ⌜ now (out .exit) ≡ now (word .entry) ⌝ }
 {
@@ -359,7 +360,7 @@ fn copy(word: &[u8], out: &mut [u8])
 }
 
 // Inverts place i, if the value is not zero; a place past the end changes nothing.
-fn flip(out: &mut [u8], i: usize, value: u16)
+pub fn flip(out: &mut [u8], i: usize, value: u16)
     ensures { λ _. ⌜ ((l : ℕ) → l < 8 * length (now (out .entry)) → bitAt (now (out .exit)) l ≡ xor (bitAt (now (out .entry)) l) (cond (eqb i l) (differs value 0) 0)) ⌝ }
 {
     if value == 0 {

@@ -120,15 +120,25 @@ inner-make-says d o o′ r e =
 
 -- ---- corrections
 
-near-says : (w c : List ℕ) → length c ≡ length w → Places.apart w c ≤ 8 → isNear w c ≡ true
+pub near-says : (w c : List ℕ) → length c ≡ length w → Places.apart w c ≤ 8 → isNear w c ≡ true
 near-says w c e h = rw (eq-eqb (length w) (length c) (sym e), apart-agrees w c (sym e)) (le-leb (Places.apart w c) 8 h)
 
-far-says : (w c : List ℕ) → (length c ≡ length w → 8 < Places.apart w c) → isNear w c ≡ false
+pub far-says : (w c : List ℕ) → (length c ≡ length w → 8 < Places.apart w c) → isNear w c ≡ false
 far-says w c h = go (eqb (length w) (length c)) refl
   where
     go : (b : Bool) → eqb (length w) (length c) ≡ b → (b && leb (apart w c) 8) ≡ false
     go false e = refl
     go true e = let l : length w ≡ length c = eqb-true (length w) (length c) e in rw (apart-agrees w c l) (lt-leb (Places.apart w c) 8 (h (sym l)))
+
+-- and back
+pub near-is : (w c : List ℕ) → isNear w c ≡ true → (length c ≡ length w) × (Places.apart w c ≤ 8)
+near-is w c h =
+    let t = and-eq-true-iff (eqb (length w) (length c)) (leb (apart w c) 8) .0 h in
+    let l : length w ≡ length c = eqb-true (length w) (length c) (t .0) in
+    (sym l, rw (apart-agrees w c l) at (leb-true (apart w c) 8 (t .1)))
+
+pub far-is : (w c : List ℕ) → isNear w c ≡ false → length c ≡ length w → 8 < Places.apart w c
+far-is w c h e = leb-false (Places.apart w c) 8 (rw (eq-eqb (length w) (length c) (sym e), apart-agrees w c (sym e)) at h)
 
 -- a word w and the buffer o; our test of code words and the document's; what is stored of a code word, by ours and by the document
 module _ (isCode isCode′ : List ℕ → Bool) (agree : (c : List ℕ) → isCode′ c ≡ isCode c) (q : ℕ) (content out : List ℕ → List ℕ) (w o : List ℕ) where

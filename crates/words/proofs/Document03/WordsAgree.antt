@@ -44,7 +44,7 @@ same-is (x ∷ xs) [] t = let z : _≡_ {A = ℕ} 0 1 = cc in absurd (omega arit
 same-is (x ∷ xs) (y ∷ ys) t = let a = and-eq-true-iff (eqb x y) (same xs ys) .0 t in ap₂ _∷_ (eqb-true x y (a .0)) (same-is xs ys (a .1))
 
 -- the distance, first symbol first
-sum-first : (n : ℕ) (f : ℕ → ℕ) → sumTo (suc n) f ≡ f 0 + sumTo n (λ i. f (suc i))
+pub sum-first : (n : ℕ) (f : ℕ → ℕ) → sumTo (suc n) f ≡ f 0 + sumTo n (λ i. f (suc i))
 unfolding sumTo
 sum-first zero f = add-comm 0 (f 0)
 sum-first (suc n) f = ap (λ (k : ℕ). k + f (suc n)) (sum-first n f) ∙ add-assoc (f 0) _ _

@@ -62,7 +62,7 @@ apart-append c a b =
 
 -- ---- the triangle inequality
 
-sum-mono : (n : ℕ) (f g : ℕ → ℕ) → ((i : ℕ) → i < n → f i ≤ g i) → sumTo n f ≤ sumTo n g
+pub sum-mono : (n : ℕ) (f g : ℕ → ℕ) → ((i : ℕ) → i < n → f i ≤ g i) → sumTo n f ≤ sumTo n g
 unfolding sumTo
 sum-mono zero f g h = zero-le
 sum-mono (suc n) f g h = omega (arith, sum-mono n f g (λ i l. h i (omega arith)), h n (le-refl (suc n)))
@@ -81,7 +81,7 @@ differs-none x y h = go (eqb x y) refl
     go false e = let z : _≡_ {A = ℕ} 1 0 = rw e at h in omega arith
 
 -- a number that is 0 only where two symbols are equal
-differs-by : (x y n : ℕ) → (n ≡ 0 → x ≡ y) → differs x y ≤ n
+pub differs-by : (x y n : ℕ) → (n ≡ 0 → x ≡ y) → differs x y ≤ n
 differs-by x y zero h = rw (h refl) (omega (arith, differs-self y))
 differs-by x y (suc n) h = omega (arith, differs-most x y)
 

@@ -1,7 +1,7 @@
--- Sums over places, and words that differ nowhere. Assumes nothing.
+-- Sums over places, numbers that differ in a bit, and words that differ nowhere. Assumes nothing.
 use mathlib.Core.Path.{_≡_, refl, ap₂}
 use mathlib.Core.List.{List}
-use Prim.Native.Nat.{ℕ, zero, suc, _+_, _*_, _≤_, _<_}
+use Prim.Native.Nat.{ℕ, zero, suc, _+_, _*_, _≤_, _<_, min}
 use native.Mathlib.Decide.{ℕ-discrete}
 use native.Mathlib.Nat.{add-suc, add-zero, mul-suc, mul-zero, not-suc-le-zero}
 use native.Mathlib.Omega.{arith}
@@ -9,8 +9,9 @@ use lib.ListN.{length}
 use lib.Seq.{ext-getD}
 use Rattle.fields.specs.Lists.{tabulate}
 use Rattle.fields.proofs.Lists.{tabulate-at, tabulate-length}
-use Rattle.words.specs.Places.{at, sumTo, differs, apart}
-use Rattle.words.proofs.Places.Counting.{differs-self, differs-none, sum-zero, sum-add, sum-same}
+use Rattle.words.specs.Places.{at, numberOf, sumTo, differs, apart}
+use Rattle.words.proofs.Places.Numbers.{numberOf-same}
+use Rattle.words.proofs.Places.Counting.{differs-self, differs-none, differs-by, sum-zero, sum-add, sum-same}
 
 -- each is at most the sum
 pub sum-at : (n : ℕ) (f : ℕ → ℕ) (i : ℕ) → i < n → f i ≤ sumTo n f
@@ -33,6 +34,13 @@ unfolding sumTo
 sum-grid m zero f = rw mul-zero (sum-zero m _ (λ k l. refl))
 sum-grid m (suc n) f =
     rw mul-suc (omega (arith, sum-add m (λ k. sumTo n (λ p. f (m * p + k))) (λ k. f (m * n + k)), sum-grid m n f, sum-plus (m * n) m f))
+
+-- two numbers differ only where a bit does; h is at least 1 at each bit that differs
+pub number-differs : (n : ℕ) (b c h : ℕ → ℕ) → ((j : ℕ) → j < n → differs (b j) (c j) ≤ h j) →
+    differs (numberOf n b) (numberOf n c) ≤ min 1 (sumTo n h)
+number-differs n b c h d =
+    differs-by (numberOf n b) (numberOf n c) (min 1 (sumTo n h))
+    (λ e. numberOf-same n b c (λ j l. differs-none (b j) (c j) (omega (arith, d j l, sum-at n h j l))))
 
 pub apart-tables : (n : ℕ) (f g : ℕ → ℕ) → apart (tabulate n f) (tabulate n g) ≡ sumTo n (λ i. differs (f i) (g i))
 unfolding apart

@@ -1,5 +1,6 @@
 -- Document 03 on frames: its definitions, that they agree with ours, and its statements.
 pub mod Statements
+pub mod Menders
 pub mod Says
 pub mod ListsAgree
 pub mod OuterWordsAgree
@@ -7,5 +8,10 @@ pub mod SentBitsAgree
 pub mod ParityBitsAgree
 pub mod PayloadsAgree
 pub mod FramesAgree
+pub mod BlocksAgree
+pub mod PassesAgree
+pub mod ReportsAgree
+pub mod LostSymbolsAgree
 pub mod StatementsHold
+pub mod DemandsHold
 pub mod SaysHold

@@ -1,19 +1,19 @@
 -- Frames of different payloads differ in at least 17 bits. Assumes nothing.
-use mathlib.Core.Path.{_≡_, sym, ap, _∙_}
+use mathlib.Core.Path.{_≡_, sym, _∙_}
 use mathlib.Core.Bool.{true}
 use mathlib.Core.List.{List}
-use Prim.Native.Nat.{ℕ, _+_, _*_, _/_, _%_, _≤_, _<_}
+use Prim.Native.Nat.{ℕ, _+_, _*_, _%_, _≤_, _<_}
 use native.Mathlib.Decide.{decLe}
 use native.Mathlib.Omega.{arith}
-use Rattle.words.specs.Places.{at, bitAt, sumTo, differs, apart}
+use Rattle.words.specs.Places.{bitAt, sumTo, differs, apart}
 use Rattle.words.proofs.Places.Counting.{sum-same}
 use Rattle.words.proofs.Codes.Proved.{codes}
 use Rattle.frames.specs.Frames.{isPayload, outerWords, innerWord, frameOf, payloadPlace, payloadOf, wrongBits}
 use Rattle.frames.proofs.Differences.{sum-at, sum-grid, apart-tables}
-use Rattle.frames.proofs.FrameBits.{bytes-same, payload-is, bit-to-place, frame-inner, payload-bits, payload-back}
+use Rattle.frames.proofs.FrameBits.{bytes-same, payload-is, word-to-bit, frame-inner, payload-bits, payload-back}
 
 -- the wrong bits of a block are those of its inner words
-wrong-parts : (a b : List ℕ) → wrongBits a b ≡ sumTo 64 (λ k. apart (innerWord (bitAt a) k) (innerWord (bitAt b) k))
+pub wrong-parts : (a b : List ℕ) → wrongBits a b ≡ sumTo 64 (λ k. apart (innerWord (bitAt a) k) (innerWord (bitAt b) k))
 unfolding wrongBits innerWord
 wrong-parts a b =
     sym (sum-same 64 _ _ (λ k l. apart-tables 2040 (λ p. bitAt a (64 * p + k)) (λ p. bitAt b (64 * p + k)))
@@ -29,9 +29,7 @@ module _ (p q : List ℕ) where
       let k : i % 64 < 64 = omega arith in
       let near : apart (innerWord f (i % 64)) (innerWord g (i % 64)) ≤ 16 =
       omega (arith, wrong-parts (frameOf p) (frameOf q), sum-at 64 (λ k. apart (innerWord f k) (innerWord g k)) (i % 64) k) in
-      bit-to-place f i l
-      ∙ ap (λ (w : List ℕ). at w (i / 64)) (codes .inner-far _ _ (frame-inner (outerWords p) (i % 64) k) (frame-inner (outerWords q) (i % 64) k) near)
-      ∙ sym (bit-to-place g i l)
+      word-to-bit f g i l (codes .inner-far _ _ (frame-inner (outerWords p) (i % 64) k) (frame-inner (outerWords q) (i % 64) k) near)
 
   pub far : isPayload p ≡ true → isPayload q ≡ true → (p ≡ q → ⊥) → 17 ≤ wrongBits (frameOf p) (frameOf q)
   unfolding payloadOf payloadPlace

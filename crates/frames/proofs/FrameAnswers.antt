@@ -28,10 +28,11 @@ with-parity-same b c h i l =
     parity-cases (λ x. x ≡ withParity c i) b i (λ m. h i m ∙ sym (parity-before c i m))
     (λ m. ap (λ (d : List ℕ). at (innerParity d) (i / 64 - 1952)) (data-same b c h (i % 64) (omega arith)) ∙ sym (parity-after c i m))
 
-frame-written : (p row mid : List ℕ) → InRow (outerWords p) row → Sent row mid → bytesOf 16320 (withParity (bitAt mid)) ≡ frameOf p
-unfolding frameOf frameOfWords
-frame-written p row mid r s =
-    bits-same 16320 _ _ (with-parity-same (bitAt mid) (sentBit (outerWords p)) (λ i l. s .bits i l ∙ row-sent (outerWords p) row r i l))
+-- the words of a row, what is sent of it and the parity bits after that are the frame of the words
+pub frame-written : (words : List (List ℕ)) (row mid : List ℕ) → InRow words row → Sent row mid → bytesOf 16320 (withParity (bitAt mid)) ≡ frameOfWords words
+unfolding frameOfWords
+frame-written words row mid r s =
+    bits-same 16320 _ _ (with-parity-same (bitAt mid) (sentBit words) (λ i l. s .bits i l ∙ row-sent words row r i l))
 
 module _ (p o : List ℕ) where
   pub encode-length : (length p ≡ 15296 → ⊥) → _≡_ {A = ℕ × List ℕ} (1, o) (frameEncoded p o)
@@ -45,8 +46,8 @@ module _ (p o : List ℕ) where
 
     pub encode-written : (row mid out : List ℕ) → length o ≡ 16320 → InRow (outerWords p) row → Sent row mid → out ≡ bytesOf 16320 (withParity (bitAt mid)) →
         _≡_ {A = ℕ × List ℕ} (0, out) (frameEncoded p o)
-    unfolding frameEncoded answered
-    encode-written row mid out f r s w = rw (eq-eqb (length p) 15296 e, eq-eqb (length o) 16320 f, w, frame-written p row mid r s)
+    unfolding frameEncoded answered frameOf
+    encode-written row mid out f r s w = rw (eq-eqb (length p) 15296 e, eq-eqb (length o) 16320 f, w, frame-written (outerWords p) row mid r s)
 
 -- ---- blocks
 

@@ -23,7 +23,7 @@ use Rattle.frames.specs.Frames.{symbolAt, isPayload, isBlock, dataIn, ou
 -- ---- bytes and their bits
 
 module _ (n : ℕ) (b : ℕ → ℕ) where
-  bytes-length : length (bytesOf n b) ≡ n
+  pub bytes-length : length (bytesOf n b) ≡ n
   unfolding bytesOf
   bytes-length = tabulate-length n (λ k. numberOf 8 (λ j. b (8 * k + j)))
 
@@ -32,7 +32,7 @@ module _ (n : ℕ) (b : ℕ → ℕ) where
     unfolding bytesOf
     bytes-below = below-all 256 _ (λ i l. tabulate-lt 256 n _ (lit< tt) (λ k. numberOf-lt (λ j. b (8 * k + j)) (λ j. bits (8 * k + j)) 8) i)
 
-    bytes-bit : (i : ℕ) → i < 8 * n → bitAt (bytesOf n b) i ≡ b i
+    pub bytes-bit : (i : ℕ) → i < 8 * n → bitAt (bytesOf n b) i ≡ b i
     unfolding bitAt bytesOf
     bytes-bit i l =
         ap (λ (x : ℕ). bitOf 8 x (i % 8)) (tabulate-at n (λ k. numberOf 8 (λ j. b (8 * k + j))) (i / 8) 0 (omega arith))
@@ -81,6 +81,14 @@ place-to-bit b k p l = tabulate-at 2040 _ p 0 l
 
 pub bit-to-place : (b : ℕ → ℕ) (i : ℕ) → i < 130560 → b i ≡ at (innerWord b (i % 64)) (i / 64)
 bit-to-place b i l = sym (place-to-bit b (i % 64) (i / 64) (omega arith) ∙ ap b (omega arith))
+
+-- bits are the same where their inner words are
+pub word-to-bit : (b c : ℕ → ℕ) (i : ℕ) → i < 130560 → innerWord b (i % 64) ≡ innerWord c (i % 64) → b i ≡ c i
+word-to-bit b c i l e = bit-to-place b i l ∙ ap (λ (w : List ℕ). at w (i / 64)) e ∙ sym (bit-to-place c i l)
+
+pub inner-word-length : (b : ℕ → ℕ) (k : ℕ) → length (innerWord b k) ≡ 2040
+unfolding innerWord
+inner-word-length b k = tabulate-length 2040 (λ p. b (64 * p + k))
 
 -- the first 1,952 places of an inner word, and the last 88
 inner-parts : (b : ℕ → ℕ) (k : ℕ) → innerWord b k ≡ innerData b k ++ tabulate 88 (λ p. b (parityPlace p k))

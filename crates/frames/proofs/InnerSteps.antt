@@ -1,36 +1,39 @@
 -- What the functions on the inner words of a frame compute. Assumes nothing.
-use mathlib.Core.Path.{_≡_, refl, sym, ap, _∙_}
-use mathlib.Core.Bool.{Bool, true, false}
+use mathlib.Core.Path.{_≡_, refl, sym, ap, ap₂, _∙_}
+use mathlib.Core.Bool.{Bool, true, false, cond}
 use mathlib.Core.List.{List}
 use Prim.Native.Nat.{ℕ, zero, suc, _+_, _-_, _*_, _/_, _%_, _^_, _≤_, _<_, zero-le}
 use native.Mathlib.Numerals.{add-one}
 use native.Mathlib.Omega.{arith}
-use borrow.Author.Tests.{eq-eqb, eqb-true, ne-eqb}
+use borrow.Author.Tests.{eq-eqb, eqb-true}
 use lib.Bits.{bitAnd, bitOr, bitXor, and-mask, or-shifted}
 use lib.Dec.{eqb, lit<}
 use lib.ListN.{length, getD, set, replicate, length-set, length-replicate}
-use lib.Pow.{pow-add, shl-exact, shl-lt}
+use lib.Pow.{pow-add, pow-pos, shl-exact, shl-lt}
 use mir.Facts.{fits-widen}
 use mir.Syntax.{w8, w64}
 use mir.Val.{Fits}
 use Rattle.fields.specs.Elements.{xor, scale}
 use Rattle.fields.proofs.Lists.{tabulate-at, tabulate-is, tabulate-length}
 use Rattle.fields.proofs.Ways.{past}
+use Rattle.fields.proofs.Xor.{xor-cancel, xor-lt, xor-self, xor-zero-r}
 use Rattle.words.specs.Places.{at, every, allBelow, bitOf, numberOf, bitAt, bytesOf}
 use Rattle.words.specs.OuterCode.{shiftedIn, divided}
-use Rattle.words.specs.InnerCode.{divisor, isInner}
+use Rattle.words.specs.InnerCode.{divisor, isInner, innerParity}
 use Rattle.words.specs.Limbs.{number, Holds}
 use Rattle.words.proofs.Places.Bytes.{bitAt-lt, places-read, number-of-bits}
 use Rattle.words.proofs.Places.Filling.{zeros-at, Filled, filled-next, filled-end, filled-last, FilledOver, over-next, over-after}
-use Rattle.words.proofs.Places.Numbers.{bitOf-lt, bitOf-number, numberOf-same, number-parts, numberOf-bits}
-use Rattle.words.proofs.Places.Tests.{tests-agree, every-at, every-true, every-false, below-all}
-use Rattle.frames.specs.Frames.{innerWord, parityPlace, withParity}
+use Rattle.words.proofs.Places.Numbers.{bitOf-lt, bitOf-zero, bitOf-number, numberOf-same, number-parts, numberOf-bits}
+use Rattle.words.proofs.Places.Tests.{tests-agree, every-at, every-true, below-all}
+use Rattle.words.proofs.Codes.ShiftedBits.{bitOf-sum}
+use Rattle.frames.specs.Frames.{innerData, innerWord, parityPlace, withParity}
 use Rattle.frames.specs.Received.{innerCodes}
-use Rattle.frames.specs.SideBySide.{placeAt, ones, masks, stepped, swept, parities, byteOf64, parityBytes, agrees}
+use Rattle.frames.specs.SideBySide.{placeAt, ones, masks, stepped, swept, parities, byteOf64, parityBytes, orTo, differing}
 use Rattle.frames.specs.Symbols.{Placed}
+use Rattle.frames.specs.Passes.{wrongWords}
 use Rattle.frames.proofs.Placing.{Placing, placing-next, placing-end}
 use Rattle.frames.proofs.FrameBits.{bytes-same, places-code, code-places, parity-cases}
-use Rattle.frames.proofs.SideBySide.{place-bit, place-lt, swept-lt, parities-bits}
+use Rattle.frames.proofs.SideBySide.{orTo-bit, orTo-lt, place-bit, place-lt, swept-lt, parities-bits}
 
 -- ---- eight bytes as a number
 
@@ -176,28 +179,23 @@ module _ (cells : List ℕ) where
 
 -- ---- the parity places of a block
 
--- the first i parity places are the cells
-unfoldable pub agreesUpTo : List ℕ → List ℕ → ℕ → Bool
-agreesUpTo cells block i = every i (λ j. eqb (at cells j) (placeAt block (1952 + j)))
+-- the bits in which the first i parity places differ from the cells
+unfoldable pub differingTo : List ℕ → List ℕ → ℕ → ℕ
+differingTo cells block i = orTo i (λ j. xor (at cells j) (placeAt block (1952 + j)))
 
 module _ (cells block : List ℕ) where
-  pub agrees-none : agreesUpTo cells block 0 ≡ true
-  unfolding agreesUpTo every
-  agrees-none = refl
+  pub differing-none : 0 ≡ differingTo cells block 0
+  unfolding differingTo orTo
+  differing-none = refl
 
-  module _ (i : ℕ) where
-    pub agrees-not : (x : ℕ) → i < 88 → x ≡ placeAt block (1952 + i) → (getD cells i 0 ≡ x → ⊥) → false ≡ agrees cells block
-    unfolding agrees
-    agrees-not x h e n = sym (every-false 88 _ i h (ne-eqb (at cells i) (placeAt block (1952 + i)) (λ q. n (q ∙ sym e))))
+  module _ (i x : ℕ) (so-far : x ≡ differingTo cells block i) where
+    pub differing-next : (y : ℕ) → y ≡ placeAt block (1952 + i) → bitOr x (bitXor (getD cells i 0) y) ≡ differingTo cells block (i + 1)
+    unfolding differingTo orTo xor
+    differing-next y e = rw (add-one, so-far, e)
 
-    module _ (so-far : agreesUpTo cells block i ≡ true) where
-      pub agrees-next : (x : ℕ) → x ≡ placeAt block (1952 + i) → getD cells i 0 ≡ x → agreesUpTo cells block (i + 1) ≡ true
-      unfolding agreesUpTo every
-      agrees-next x e q = rw (add-one, so-far) (eq-eqb (at cells i) (placeAt block (1952 + i)) (q ∙ e))
-
-      pub agrees-end : i ≤ 88 → 88 ≤ i → true ≡ agrees cells block
-      unfolding agreesUpTo agrees
-      agrees-end l h = let e : i ≡ 88 = omega arith in sym (rw e at so-far)
+    pub differing-end : i ≤ 88 → 88 ≤ i → x ≡ differing cells block
+    unfolding differingTo differing
+    differing-end l h = let e : i ≡ 88 = omega arith in rw e at so-far
 
 -- ---- the frame with its parity places
 
@@ -230,6 +228,9 @@ module _ (before after : List ℕ) where
 
 -- ---- code words
 
+sum-none : (x y : ℕ) → xor x y ≡ 0 → x ≡ y
+sum-none x y z = sym (xor-zero-r x) ∙ ap (xor x) (sym z) ∙ xor-cancel x y
+
 module _ (block : List ℕ) where
   abbrev b : ℕ → ℕ
   b = bitAt block
@@ -238,26 +239,55 @@ module _ (block : List ℕ) where
   unfolding parityPlace
   place-parity i k m = place-bit block (1952 + i) k m ∙ ap b (omega arith)
 
-  agrees-code : agrees (parities block) block ≡ true → (k : ℕ) → k < 64 → isInner (innerWord b k) ≡ true
-  unfolding agrees
-  agrees-code t k m =
-      places-code b (bitAt-lt block) k (λ i l. sym (parities-bits block k m i l)
-      ∙ ap (λ (x : ℕ). bitOf 64 x k) (eqb-true (at (parities block) i) (placeAt block (1952 + i)) (every-at 88 _ t i l)) ∙ place-parity i k m)
+  -- the bits in which parity place i differs from what the register holds
+  abbrev difference : ℕ → ℕ
+  difference i = xor (at (parities block) i) (placeAt block (1952 + i))
 
-  code-agrees : ((k : ℕ) → k < 64 → isInner (innerWord b k) ≡ true) → agrees (parities block) block ≡ true
-  unfolding agrees parities
-  code-agrees inner = every-true 88 _ (λ i l. eq-eqb (at (parities block) i) (placeAt block (1952 + i)) (same i l))
+  difference-bit : (k : ℕ) → k < 64 → (i : ℕ) → i < 88 → bitOf 64 (difference i) k ≡ xor (at (innerParity (innerData b k)) i) (b (parityPlace i k))
+  difference-bit k m i l = bitOf-sum 64 k _ _ ∙ ap₂ xor (parities-bits block k m i l) (place-parity i k m)
+
+  -- inner word k is a code word just where no parity place differs in bit k
+  same-code : (k : ℕ) → k < 64 → every 88 (λ i. eqb (bitOf 64 (difference i) k) 0) ≡ isInner (innerWord b k)
+  same-code k m =
+      tests-agree _ _
+      (λ t. places-code b (bitAt-lt block) k (λ i l. sum-none _ _ (sym (difference-bit k m i l) ∙ eqb-true _ 0 (every-at 88 _ t i l))))
+      (λ t. every-true 88 _ (λ i l. eq-eqb _ 0 (difference-bit k m i l ∙ rw (code-places b k t i l) (xor-self _))))
+
+  differing-lt : differing (parities block) block < 2 ^ 64
+  unfolding differing parities
+  differing-lt = orTo-lt 64 88 _ (λ i l. xor-lt 64 _ _ (swept-lt block 1952 i) (place-lt block (1952 + i)))
+
+  -- so the bits that differ are those of the words that are wrong
+  differing-wrong : differing (parities block) block ≡ wrongWords b
+  unfolding differing wrongWords
+  differing-wrong =
+      sym (numberOf-bits 64 _ differing-lt)
+      ∙ numberOf-same 64 (bitOf 64 (differing (parities block) block)) _ (λ k m. orTo-bit 64 k 88 _ ∙ ap (λ (t : Bool). cond t 0 1) (same-code k m))
+
+  pub words-wrong : (cells : List ℕ) (x : ℕ) → cells ≡ parities block → x ≡ differing cells block → x ≡ wrongWords (bitAt block)
+  words-wrong cells x e h = h ∙ ap (λ (c : List ℕ). differing c block) e ∙ differing-wrong
+
+-- 0 where a test holds, else 1
+wrong-lt : (t : Bool) → cond t 0 1 < 2
+wrong-lt true = lit< tt
+wrong-lt false = lit< tt
+
+pub wrong-not : (t : Bool) → _≡_ {A = ℕ} (cond t 0 1) 0 → t ≡ true
+wrong-not true e = refl
+wrong-not false e = absurd (omega arith)
+
+module _ (b : ℕ → ℕ) where
+  pub wrong-bit : (k : ℕ) → k < 64 → bitOf 64 (wrongWords b) k ≡ cond (isInner (innerWord b k)) 0 1
+  unfolding wrongWords
+  wrong-bit k l = bitOf-number (λ k. cond (isInner (innerWord b k)) 0 1) (λ k. wrong-lt (isInner (innerWord b k))) 64 k l
+
+  -- no word is wrong: each is a code word
+  pub none-wrong : (x : ℕ) → x ≡ wrongWords b → eqb x 0 ≡ innerCodes b
+  unfolding innerCodes wrongWords
+  none-wrong x e = tests-agree (eqb x 0) (innerCodes b) (λ t. every-true 64 _ (right (eqb-true x 0 t))) (λ t. eq-eqb x 0 (e ∙ none (every-at 64 _ t)))
     where
-      same : (i : ℕ) → i < 88 → at (parities block) i ≡ placeAt block (1952 + i)
-      same i l =
-          let x = at (parities block) i in
-          let y = placeAt block (1952 + i) in
-          sym (numberOf-bits 64 x (swept-lt block 1952 i))
-          ∙ numberOf-same 64 (bitOf 64 x) (bitOf 64 y) (λ k m. parities-bits block k m i l ∙ code-places b k (inner k m) i l ∙ sym (place-parity i k m))
-          ∙ numberOf-bits 64 y (place-lt block (1952 + i))
+      right : x ≡ 0 → (k : ℕ) → k < 64 → isInner (innerWord b k) ≡ true
+      right z k l = wrong-not _ (sym (wrong-bit k l) ∙ ap (λ (y : ℕ). bitOf 64 y k) (sym e ∙ z) ∙ bitOf-zero 64 k)
 
-  pub codes-agree : (cells : List ℕ) (r : Bool) → cells ≡ parities block → r ≡ agrees cells block → r ≡ innerCodes (bitAt block)
-  unfolding innerCodes
-  codes-agree cells r e t =
-      t ∙ ap (λ (c : List ℕ). agrees c block) e
-      ∙ tests-agree (agrees (parities block) block) (innerCodes b) (λ a. every-true 64 _ (agrees-code a)) (λ a. code-agrees (every-at 64 _ a))
+      none : ((k : ℕ) → k < 64 → isInner (innerWord b k) ≡ true) → wrongWords b ≡ 0
+      none all = numberOf-same 64 _ (bitOf 64 0) (λ k l. ap (λ (t : Bool). cond t 0 1) (all k l) ∙ sym (bitOf-zero 64 k)) ∙ numberOf-bits 64 0 (pow-pos 64)

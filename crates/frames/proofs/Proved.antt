@@ -7,7 +7,6 @@ use Rattle.frames.specs.Frames.{isPayload, outerWords, frameOf, payloadO
 use Rattle.frames.specs.FrameLaws.{FrameLaws}
 use Rattle.frames.proofs.FrameBits.{payload-is, payloadOf-length, payloadOf-below, place-to-bit, bit-to-place, frame-block, frame-parity, frame-inner, outer-code, payload-bits, payload-back}
 use Rattle.frames.proofs.ReceivedWords.{frame-same, same-frame}
-use Rattle.frames.proofs.FarApart.{far}
 use Rattle.frames.proofs.Bench.{bench}
 
 back : (p : List ℕ) → isPayload p ≡ true → payloadOf (frameOf p) ≡ p
@@ -30,6 +29,5 @@ frame-laws =
       place-to-bit = place-to-bit;
       bit-to-place = bit-to-place;
       parity-bits = λ payload p k h l m. frame-parity (outerWords payload) p k l m;
-      far = far;
       bench = bench;
     }

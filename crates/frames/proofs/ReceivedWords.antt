@@ -20,7 +20,8 @@ use Rattle.words.proofs.Codes.OuterWords.{outer-is}
 use Rattle.words.proofs.Codes.Proved.{codes}
 use Rattle.frames.specs.Frames.{symbolAt, isBlock, dataIn, outerData, outerWord, outerWords, rowBit, rowPlace, sentBit, innerWord, parityPlace, withParity, frameOfWords, frameOf, payloadPlace, payloadOf}
 use Rattle.frames.specs.Answers.{isFrame}
-use Rattle.frames.specs.Received.{receivedBit, receivedSymbol, receivedWord, outerCodes, innerCodes}
+use Rattle.frames.specs.Correction.{receivedBit, receivedSymbol, receivedWord}
+use Rattle.frames.specs.Received.{outerCodes, innerCodes}
 use Rattle.frames.proofs.Differences.{apart-self, apart-none}
 use Rattle.frames.proofs.FrameBits.{bytes-same, block-is, payload-past, payloadOf-length, payloadOf-bit, data-same, code-places, parity-cases, frame-length, frame-data, frame-inner, dataIn-last, dataIn-le, dataIn-is, outer-data-length, outer-word-length, outer-code, place-first, place-last, place-near, row-bit, payload-row}
 
@@ -60,6 +61,10 @@ received-place b i = go (decLt i 124768)
 pub row-room : (w s : ℕ) → w < 16 → s < dataIn w + 16 → 781 * w + s < 12493
 row-room w s k l = omega (arith, dataIn-is w k)
 
+pub received-length : (b : ℕ → ℕ) (w : ℕ) → length (receivedWord b w) ≡ dataIn w + 16
+unfolding receivedWord
+received-length b w = tabulate-length (dataIn w + 16) _
+
 received-at : (b : ℕ → ℕ) (w s : ℕ) → s < dataIn w + 16 → at (receivedWord b w) s ≡ receivedSymbol b (781 * w + s)
 unfolding receivedWord
 received-at b w s l = tabulate-at (dataIn w + 16) _ s 0 l
@@ -96,7 +101,7 @@ module _ (ws : List (List ℕ)) (padding : (r : ℕ) → 124768 ≤ r → r < 12
       received-cases (λ x. x ≡ rowBit ws r) (bitAt (frameOfWords ws)) r (λ h. frame-data ws r (omega arith) ∙ ap (rowBit ws) (place-first r h))
       (λ g h. sym (padding r g h)) (λ g. frame-data ws (r - 2) (omega arith) ∙ ap (rowBit ws) (place-last (r - 2) (omega arith) ∙ omega arith))
 
-  received-words : (w : ℕ) → w < 16 → length (getD ws w []) ≡ dataIn w + 16 → ((s : ℕ) → at (getD ws w []) s < 1024) →
+  pub received-words : (w : ℕ) → w < 16 → length (getD ws w []) ≡ dataIn w + 16 → ((s : ℕ) → at (getD ws w []) s < 1024) →
       receivedWord (bitAt (frameOfWords ws)) w ≡ getD ws w []
   unfolding receivedWord receivedSymbol symbolAt
   received-words w k long small =
@@ -106,13 +111,13 @@ module _ (ws : List (List ℕ)) (padding : (r : ℕ) → 124768 ≤ r → r < 12
       ∙ numberOf-bits 10 (at (getD ws w []) s) (small s))))
 
 -- the padding bits of a payload's words are bits past its end
-payload-padding : (p : List ℕ) → length p ≡ 15296 → (r : ℕ) → 124768 ≤ r → r < 124770 → rowBit (outerWords p) r ≡ 0
+pub payload-padding : (p : List ℕ) → length p ≡ 15296 → (r : ℕ) → 124768 ≤ r → r < 124770 → rowBit (outerWords p) r ≡ 0
 payload-padding p long r g l =
     let e : r ≡ 10 * (781 * 15 + 761) + r % 10 = omega arith in
     ap (rowBit (outerWords p)) e ∙ payload-row p 15 761 (r % 10) (omega arith) (omega (arith, dataIn-last 15 (omega arith))) (omega arith)
     ∙ payload-past p long (7650 * 15 + 10 * 761 + r % 10) (omega arith)
 
-received-own : (p : List ℕ) → length p ≡ 15296 → (w : ℕ) → w < 16 → receivedWord (bitAt (frameOf p)) w ≡ outerWord p w
+pub received-own : (p : List ℕ) → length p ≡ 15296 → (w : ℕ) → w < 16 → receivedWord (bitAt (frameOf p)) w ≡ outerWord p w
 unfolding frameOf outerWords
 received-own p long w k =
     let e : getD (outerWords p) w [] ≡ outerWord p w = tabulate-at 16 (outerWord p) w [] k in

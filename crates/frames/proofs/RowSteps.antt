@@ -11,7 +11,8 @@ use Rattle.words.proofs.Places.Bytes.{bitAt-lt}
 use Rattle.words.proofs.Places.Filling.{Filled, filled-next, filled-end}
 use Rattle.words.proofs.Places.Numbers.{bitOf-lt, bitOf-number, numberOf-lt, numberOf-same}
 use Rattle.frames.specs.Frames.{symbolAt, dataIn, outerData, rowPlace}
-use Rattle.frames.specs.Received.{receivedSymbol, receivedRow}
+use Rattle.frames.specs.Correction.{receivedSymbol}
+use Rattle.frames.specs.Received.{receivedRow}
 use Rattle.frames.specs.Symbols.{Placed, Sent, byteAt, symbolBit, symbolByte, dataPlace, dataSymbol, payloadByte, payloadInRow}
 use Rattle.frames.proofs.FrameBits.{dataIn-le, outer-data-length, outer-data-at, place-first, place-last}
 use Rattle.frames.proofs.Placing.{Placing, placing-next, placing-end}
@@ -31,14 +32,6 @@ data-next payload w {s} p en l k long e =
 pub data-end : (payload : List ℕ) (w : ℕ) {s n : ℕ} {before row : List ℕ} → Placing (781 * w) (outerData payload w) s before row → n ≡ dataIn w → n ≤ s →
     Placed (781 * w) (outerData payload w) before row
 data-end payload w p en l = placing-end p (omega (arith, outer-data-length payload w))
-
--- sixteen parity symbols
-module _ {i j : ℕ} {cells before row : List ℕ} (long : length cells ≡ 16) (p : Placing i cells j before row) where
-  pub parity-next : {v : ℕ} → j < 16 → i ≤ 12480 → length before ≡ 12496 → v ≡ at cells j → Placing i cells (j + 1) before (set row (i + j) v)
-  parity-next l h room e = placing-next p (omega arith) (omega arith) e
-
-  pub parity-end : 16 ≤ j → Placed i cells before row
-  parity-end l = placing-end p (omega arith)
 
 -- ---- the bytes that are sent of a row
 

@@ -17,8 +17,10 @@ use Rattle.words.specs.Places.{at, every, allBelow, bitOf, bitAt, bytesOf}
 use Rattle.words.specs.OuterCode.{isOuter, outerParity}
 use Rattle.words.proofs.Places.Tests.{every-false, every-same, below-at, below-all}
 use Rattle.words.proofs.Places.Bytes.{bitAt-lt}
+use Rattle.words.proofs.Codes.Proved.{codes}
 use Rattle.frames.specs.Frames.{dataIn, outerData, outerWord, outerWords, rowBit, rowPlace, sentBit, payloadPlace, payloadOf}
-use Rattle.frames.specs.Received.{receivedSymbol, receivedRow, receivedWord, outerCodes}
+use Rattle.frames.specs.Correction.{receivedSymbol, receivedWord}
+use Rattle.frames.specs.Received.{receivedRow, outerCodes}
 use Rattle.frames.specs.Symbols.{Placed, InRow, rowWord, rowCodes, symbolBit, symbolByte, dataPlace, dataSymbol, payloadByte, payloadInRow}
 use Rattle.frames.proofs.Placing.{placed-append}
 use Rattle.frames.proofs.FrameBits.{bits-same, dataIn-le, dataIn-is, outer-data-length, outer-word-length, outer-data-below, place-near}
@@ -47,6 +49,12 @@ module _ (payload : List ℕ) (w n : ℕ) (before row : List ℕ) (e : n ≡ dat
 
   pub data-part-below : allBelow 1024 (take (781 * w + n - 781 * w) (drop (781 * w) row)) ≡ true
   data-part-below = rw data-part (outer-data-below payload w)
+
+  pub data-long : length row ≡ 12496
+  data-long = p .long ∙ long
+
+  pub parity-room : (cells : List ℕ) → cells ≡ outerParity (take (781 * w + n - 781 * w) (drop (781 * w) row)) → 781 * w + n + length cells ≤ length row
+  parity-room cells c = omega (arith, data-long, dataIn-le w, ap length c, codes .outer-length (take (781 * w + n - 781 * w) (drop (781 * w) row)))
 
   pub word-placed : (cells after : List ℕ) → cells ≡ outerParity (take (781 * w + n - 781 * w) (drop (781 * w) row)) → Placed (781 * w + n) cells row after
       → Placed (781 * w) (outerWord payload w) before after
@@ -80,7 +88,16 @@ written-all {payload} {w} {row} r h =
 
 -- ---- the words of a row, tested
 
-row-word-part : (row : List ℕ) (w n : ℕ) → length row ≡ 12496 → w < 16 → n ≡ dataIn w + 16 → take n (drop (781 * w) row) ≡ rowWord row w
+pub word-length : (row : List ℕ) (w : ℕ) → length (rowWord row w) ≡ dataIn w + 16
+unfolding rowWord
+word-length row w = tabulate-length (dataIn w + 16) _
+
+pub word-below : (row : List ℕ) (w : ℕ) → allBelow 1024 row ≡ true → allBelow 1024 (rowWord row w) ≡ true
+unfolding rowWord
+word-below row w b =
+    below-all 1024 _ (λ i l. tabulate-lt 1024 (dataIn w + 16) (λ s. at row (781 * w + s)) (lit< tt) (λ s. below-at 1024 row (lit< tt) b (781 * w + s)) i)
+
+pub row-word-part : (row : List ℕ) (w n : ℕ) → length row ≡ 12496 → w < 16 → n ≡ dataIn w + 16 → take n (drop (781 * w) row) ≡ rowWord row w
 unfolding rowWord
 row-word-part row w n long h e =
     part-places (781 * w) n row (omega (arith, dataIn-le w)) ∙ ap (λ (m : ℕ). tabulate m (λ s. at row (781 * w + s))) e
@@ -97,12 +114,11 @@ module _ (row : List ℕ) (long : length row ≡ 12496) (w n : ℕ) (h : w < 16)
   abbrev part : List ℕ
   part = take (781 * w + n + 16 - 781 * w) (drop (781 * w) row)
 
-  part-is : part ≡ rowWord row w
+  pub part-is : part ≡ rowWord row w
   part-is = row-word-part row w (781 * w + n + 16 - 781 * w) long h (omega arith)
 
   part-long : length part ≡ dataIn w + 16
-  unfolding rowWord
-  part-long = ap length part-is ∙ tabulate-length (dataIn w + 16) _
+  part-long = ap length part-is ∙ word-length row w
 
   pub part-least : 16 ≤ length part
   part-least = omega (arith, part-long)
@@ -110,28 +126,34 @@ module _ (row : List ℕ) (long : length row ≡ 12496) (w n : ℕ) (h : w < 16)
   pub part-most : length part ≤ 1023
   part-most = omega (arith, part-long, dataIn-le w)
 
-  pub part-below : allBelow 1024 row ≡ true → allBelow 1024 part ≡ true
-  unfolding rowWord
-  part-below b = rw part-is (below-all 1024 _ (λ i l. tabulate-lt 1024 (dataIn w + 16) (λ s. at row (781 * w + s)) (lit< tt) (λ s. below-at 1024 row (lit< tt) b (781 * w + s)) i))
+  pub part-below : allBelow 1024 (rowWord row w) ≡ true → allBelow 1024 part ≡ true
+  part-below b = rw part-is b
 
-  module _ (t : Bool) (test : t ≡ isOuter part) (before : codesUpTo row w ≡ true) where
-    pub codes-not : not t ≡ true → false ≡ rowCodes row
-    unfolding rowCodes
-    codes-not f = sym (every-false 16 (λ v. isOuter (rowWord row v)) w h (sym (ap isOuter part-is) ∙ sym test ∙ not-true t f))
+  module _ (t : Bool) (test : t ≡ isOuter part) where
+    pub word-tested : t ≡ isOuter (rowWord row w)
+    word-tested = test ∙ ap isOuter part-is
 
-    pub codes-next : not t ≡ false → codesUpTo row (w + 1) ≡ true
-    unfolding codesUpTo every
-    codes-next f = rw (add-one, before) (sym (ap isOuter part-is) ∙ sym test ∙ not-false t f)
+    module _ (before : codesUpTo row w ≡ true) where
+      pub codes-not : not t ≡ true → false ≡ rowCodes row
+      unfolding rowCodes
+      codes-not f = sym (every-false 16 (λ v. isOuter (rowWord row v)) w h (sym word-tested ∙ not-true t f))
+
+      pub codes-next : not t ≡ false → codesUpTo row (w + 1) ≡ true
+      unfolding codesUpTo every
+      codes-next f = rw (add-one, before) (sym word-tested ∙ not-false t f)
 
 pub codes-all : (row : List ℕ) (w : ℕ) → codesUpTo row w ≡ true → w ≤ 16 → 16 ≤ w → true ≡ rowCodes row
 unfolding codesUpTo rowCodes
 codes-all row w t l g = let e : w ≡ 16 = omega arith in sym (rw e at t)
 
 -- the words of a received row are the block's
+pub received-word : (b : ℕ → ℕ) (w : ℕ) → w < 16 → rowWord (receivedRow b) w ≡ receivedWord b w
+unfolding rowWord receivedRow receivedWord
+received-word b w h = tabulate-same (dataIn w + 16) _ _ (λ s l. tabulate-at 12496 (receivedSymbol b) (781 * w + s) 0 (omega (arith, row-room w s h l)))
+
 pub received-codes : (b : ℕ → ℕ) → rowCodes (receivedRow b) ≡ outerCodes b
-unfolding rowCodes outerCodes rowWord receivedRow receivedWord
-received-codes b =
-    every-same 16 _ _ (λ w h. ap isOuter (tabulate-same (dataIn w + 16) _ _ (λ s l. tabulate-at 12496 (receivedSymbol b) (781 * w + s) 0 (omega (arith, row-room w s h l)))))
+unfolding rowCodes outerCodes
+received-codes b = every-same 16 _ _ (λ w h. ap isOuter (received-word b w h))
 
 pub received-below : (bytes : List ℕ) → allBelow 1024 (receivedRow (bitAt bytes)) ≡ true
 unfolding receivedRow

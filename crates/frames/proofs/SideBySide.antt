@@ -1,16 +1,18 @@
 -- The 64 inner words of a frame side by side: bit k of the register is the register of inner word k. Assumes nothing.
 use mathlib.Core.Path.{_≡_, refl, sym, ap, _∙_}
+use mathlib.Core.Bool.{Bool, true, false, _&&_, cond}
 use mathlib.Core.List.{List, _∷_}
 use Prim.Native.Nat.{ℕ, zero, suc, _+_, _-_, _*_, _/_, _%_, _^_, _<_}
+use native.Mathlib.Nat.{le-refl}
 use native.Mathlib.Omega.{arith}
-use lib.Bits.{bitAnd, and-shr, and-mod, and-le-l}
-use lib.Dec.{lit<}
+use lib.Bits.{bitAnd, bitOr, and-shr, and-mod, and-le-l, or-shr, or-mod, or-lt}
+use lib.Dec.{eqb, lit<}
 use lib.Pow.{pow-pos}
 use Rattle.fields.specs.Elements.{xor, scale, doubled}
 use Rattle.fields.proofs.Xor.{xor-lt}
 use Rattle.fields.proofs.Doubling.{doubled-sum}
 use Rattle.fields.proofs.Lists.{tabulate-at, tabulate-lt}
-use Rattle.words.specs.Places.{at, bitOf, numberOf, horner, bitAt}
+use Rattle.words.specs.Places.{at, every, bitOf, numberOf, horner, bitAt}
 use Rattle.words.specs.OuterCode.{shiftedIn, divided}
 use Rattle.words.specs.InnerCode.{divisor, remainder, innerRemainder, innerParity}
 use Rattle.words.proofs.Places.Numbers.{bitOf-lt, bitOf-zero, bitOf-number, numberOf-lt}
@@ -20,7 +22,7 @@ use Rattle.words.proofs.Codes.ShiftedBits.{bitOf-sum}
 use Rattle.words.proofs.Codes.BinaryRegister.{divided-bits}
 use Rattle.words.proofs.Codes.Division.{divided-carried}
 use Rattle.frames.specs.Frames.{innerData}
-use Rattle.frames.specs.SideBySide.{placeAt, ones, masks, swept, parities}
+use Rattle.frames.specs.SideBySide.{placeAt, ones, masks, swept, parities, orTo}
 use Rattle.frames.proofs.FrameBits.{data-length}
 
 -- ---- bit k of a number
@@ -38,6 +40,30 @@ unfolding bitOf
 bit-product n k x y =
     let e = n - suc k in
     ap (λ (z : ℕ). z % 2) (and-shr x y e) ∙ and-mod (x / 2 ^ e) (y / 2 ^ e) 1 ∙ bits-product (x / 2 ^ e % 2) (y / 2 ^ e % 2) (omega arith) (omega arith)
+
+-- a bit of `orTo` is 0 just where it is 0 in each number
+bits-or : (t : Bool) (y : ℕ) → y < 2 → bitOr (cond t 0 1) y ≡ cond (t && eqb y 0) 0 1
+bits-or true zero h = refl
+bits-or true (suc zero) h = refl
+bits-or false zero h = refl
+bits-or false (suc zero) h = refl
+bits-or t (suc (suc y)) h = absurd (omega arith)
+
+bit-or : (n k x y : ℕ) → bitOf n (bitOr x y) k ≡ bitOr (bitOf n x k) (bitOf n y k)
+unfolding bitOf
+bit-or n k x y = let e = n - suc k in ap (λ (z : ℕ). z % 2) (or-shr x y e) ∙ or-mod (x / 2 ^ e) (y / 2 ^ e) 1
+
+pub orTo-bit : (n k m : ℕ) (f : ℕ → ℕ) → bitOf n (orTo m f) k ≡ cond (every m (λ i. eqb (bitOf n (f i) k) 0)) 0 1
+unfolding orTo every
+orTo-bit n k zero f = bitOf-zero n k
+orTo-bit n k (suc m) f =
+    bit-or n k (orTo m f) (f m) ∙ ap (λ (x : ℕ). bitOr x (bitOf n (f m) k)) (orTo-bit n k m f)
+    ∙ bits-or (every m (λ i. eqb (bitOf n (f i) k) 0)) (bitOf n (f m) k) (bitOf-lt n (f m) k)
+
+pub orTo-lt : (n m : ℕ) (f : ℕ → ℕ) → ((i : ℕ) → i < m → f i < 2 ^ n) → orTo m f < 2 ^ n
+unfolding orTo
+orTo-lt n zero f h = pow-pos n
+orTo-lt n (suc m) f h = or-lt n (orTo m f) (f m) (orTo-lt n m f (λ i l. h i (omega arith))) (h m (le-refl (suc m)))
 
 -- all ones: what a bit is in one place it is in each
 all-ones : 2 ^ 64 - 1 ≡ numberOf 64 (λ i. 1)

@@ -1,4 +1,4 @@
--- Bits of a number that is made of parts: ten bits of three bytes, and eight bits of two symbols. Assumes nothing.
+-- One bit of a number and of bytes, and bits of a number that is made of parts: ten bits of three bytes, and eight bits of two symbols. Assumes nothing.
 use mathlib.Core.Path.{_≡_, sym, ap, _∙_}
 use mathlib.Core.List.{List}
 use Prim.Native.Nat.{ℕ, suc, _+_, _-_, _*_, _/_, _%_, _^_, _<_}
@@ -10,7 +10,7 @@ use mir.Val.{Fits}
 use lib.Bits.{bitAnd, and-mask}
 use lib.Pow.{pow-pos, high, low, field, mod-mod-pow, shr-shr}
 use Rattle.words.specs.Places.{at, bitOf, bitAt}
-use Rattle.words.proofs.Places.Numbers.{numberOf-same}
+use Rattle.words.proofs.Places.Numbers.{bitOf-lt, numberOf-same}
 use Rattle.words.proofs.Places.Bytes.{number-of-bits}
 use Rattle.frames.specs.Frames.{symbolAt}
 use Rattle.frames.specs.Symbols.{byteAt, symbolBit, symbolByte}
@@ -43,6 +43,9 @@ module _ (m n x y i : ℕ) where
       ∙ ap (λ (s : ℕ). bitOf n s i) (low x n (mod-lt y (pow-pos n))) ∙ bit-rest n y i l
 
 -- what a mask leaves fits
+pub one-fit : (x : ℕ) → Fits w8 (bitAnd x 1)
+one-fit x = record { fits = omega (arith, and-mask x 1) }
+
 pub ten-fit : (x : ℕ) → Fits w16 (bitAnd x 1023)
 ten-fit x = record { fits = omega (arith, and-mask x 10) }
 
@@ -51,6 +54,19 @@ eight-fit x = record { fits = omega (arith, and-mask x 8) }
 
 pub twenty-fit : (x y : ℕ) → x < 65536 → Fits w32 (x * 2 ^ 10 % 2 ^ 32 + bitAnd y 1023)
 twenty-fit x y h = record { fits = omega (arith, and-mask y 10) }
+
+-- ---- one bit, by a shift and a mask
+
+pub masked-bit : (n x k s : ℕ) → s ≡ n - suc k → bitAnd (x / 2 ^ s) 1 ≡ bitOf n x k
+unfolding bitOf
+masked-bit n x k s e = and-mask (x / 2 ^ s) 1 ∙ ap (λ (j : ℕ). x / 2 ^ j % 2) e
+
+pub bit-read : (bytes : List ℕ) (i a : ℕ) → a ≡ at bytes (i / 8) →
+    (bitAnd (a / 2 ^ (7 - i % 8)) 1 ≡ bitAt bytes i) × (bitAnd (a / 2 ^ (7 - i % 8)) 1 < 2)
+unfolding bitAt
+bit-read bytes i a e =
+    let m : bitAnd (a / 2 ^ (7 - i % 8)) 1 ≡ bitOf 8 a (i % 8) = masked-bit 8 a (i % 8) (7 - i % 8) (omega arith) in
+    (m ∙ ap (λ (x : ℕ). bitOf 8 x (i % 8)) e, omega (arith, m, bitOf-lt 8 a (i % 8)))
 
 -- ---- ten bits of three bytes
 

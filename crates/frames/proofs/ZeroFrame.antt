@@ -19,7 +19,7 @@ use Rattle.words.proofs.Places.Tests.{below-all, every-true}
 use Rattle.words.proofs.Places.Numbers.{bitOf-zero, numberOf-bits, numberOf-same}
 use Rattle.words.proofs.Codes.Horner.{horner-zero}
 use Rattle.frames.specs.Frames.{symbolAt, isBlock, dataIn, innerWord, frameOf, payloadPlace, payloadOf}
-use Rattle.frames.specs.Received.{receivedBit, receivedSymbol, receivedWord}
+use Rattle.frames.specs.Correction.{receivedBit, receivedSymbol, receivedWord}
 use Rattle.frames.proofs.FrameBits.{bytes-same}
 use Rattle.frames.proofs.ReceivedWords.{received-cases, code-words-frame}
 

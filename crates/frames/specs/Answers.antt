@@ -1,12 +1,15 @@
 -- What the entries answer: a refusal's number, or 0, and the output buffer ("lent space").
-use mathlib.Core.Bool.{Bool}
+use mathlib.Core.Bool.{Bool, cond}
 use mathlib.Core.List.{List}
+use mathlib.Core.Option.{Option, none, some}
 use Prim.Native.Nat.{ℕ}
 use lib.Dec.{eqb}
 use lib.ListN.{length}
+use Rattle.fields.specs.Lists.{tabulate}
 use Rattle.words.specs.Places.{apart}
 use Rattle.words.specs.Answers.{unless, answered}
 use Rattle.frames.specs.Frames.{frameOf, payloadOf}
+use Rattle.frames.specs.Correction.{restoredFrame, reportOf, total}
 
 -- a block that differs nowhere from the frame of the payload that stands in it. No other block is written for any payload (`written-only`)
 unfoldable pub isFrame : List ℕ → Bool
@@ -24,3 +27,27 @@ frameChecked block = unless (eqb (length block) 16320) 2 (unless (isFrame block)
 unfoldable pub payloadExtracted : List ℕ → List ℕ → ℕ × List ℕ
 payloadExtracted block buffer =
     answered (unless (eqb (length block) 16320) 2 (unless (eqb (length buffer) 15296) 3 (unless (isFrame block) 4 0))) (payloadOf block) buffer
+
+-- what the corrector answers: a number, the 64 counts of the report and their sum, and the buffer. A refusal carries its number and nothing else
+abbrev pub Corrected : Type 0
+Corrected = ℕ × List ℕ × ℕ × List ℕ
+
+unfoldable pub noCounts : List ℕ
+noCounts = tabulate 64 (λ k. 0)
+
+unfoldable pub refused : ℕ → List ℕ → Corrected
+refused n buffer = (n, noCounts, 0, buffer)
+
+-- the restored frame with its report; or 5, uncorrectable ("beyond reach")
+unfoldable pub reported : List ℕ → List ℕ → Option (List ℕ) → Corrected
+reported block buffer none = refused 5 buffer
+reported block buffer (some frame) = (0, reportOf block frame, total (reportOf block frame), frame)
+
+-- corrector ("mender"): 2, 3, 5
+unfoldable pub frameCorrected : List ℕ → List ℕ → Corrected
+frameCorrected block buffer =
+    cond (eqb (length block) 16320) (cond (eqb (length buffer) 16320) (reported block buffer (restoredFrame block)) (refused 3 buffer)) (refused 2 buffer)
+
+-- for the C host, to which no report is handed out: number and buffer
+unfoldable pub withoutReport : Corrected → ℕ × List ℕ
+withoutReport a = (a .0, a .3)

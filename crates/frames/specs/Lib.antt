@@ -1,9 +1,12 @@
--- Frames: the definitions in document 01's order, what the entries answer, the bench rows, and what is proved of frames.
+-- Frames: the definitions in document 01's order, correction, what the entries answer, the bench rows, and what is proved: `Demands` lists it all.
 pub mod Frames
+pub mod Correction
 pub mod Answers
 pub mod BenchRows
 pub mod FrameLaws
+pub mod Demands
 -- what the functions below the entries give
 pub mod Received
 pub mod Symbols
 pub mod SideBySide
+pub mod Passes

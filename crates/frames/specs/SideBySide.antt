@@ -1,12 +1,10 @@
 -- The 64 inner words of a frame side by side: a number's bit k, the highest of 64 first, belongs to inner word k.
-use mathlib.Core.Bool.{Bool}
 use mathlib.Core.List.{List, _∷_}
-use Prim.Native.Nat.{ℕ, _+_, _-_, _*_, _/_, _%_, _^_}
-use lib.Bits.{bitAnd}
-use lib.Dec.{eqb}
+use Prim.Native.Nat.{ℕ, zero, suc, _+_, _-_, _*_, _/_, _%_, _^_}
+use lib.Bits.{bitAnd, bitOr}
 use Rattle.fields.specs.Lists.{tabulate}
-use Rattle.fields.specs.Elements.{scale}
-use Rattle.words.specs.Places.{at, every, bitOf, numberOf, bitAt}
+use Rattle.fields.specs.Elements.{xor, scale}
+use Rattle.words.specs.Places.{at, bitOf, numberOf, bitAt}
 use Rattle.words.specs.OuterCode.{shiftedIn, divided}
 use Rattle.words.specs.InnerCode.{divisor}
 
@@ -39,6 +37,11 @@ byteOf64 x j = numberOf 8 (λ i. bitOf 64 x (8 * j + i))
 unfoldable pub parityBytes : List ℕ → List ℕ
 parityBytes cells = tabulate 704 (λ m. byteOf64 (at cells (m / 8)) (m % 8))
 
--- the parity places of the block are the cells
-unfoldable pub agrees : List ℕ → List ℕ → Bool
-agrees cells block = every 88 (λ i. eqb (at cells i) (placeAt block (1952 + i)))
+-- a bit is 1 where it is 1 in some of f 0, .. f (n - 1)
+unfoldable pub orTo : ℕ → (ℕ → ℕ) → ℕ
+orTo zero f = 0
+orTo (suc n) f = bitOr (orTo n f) (f n)
+
+-- the parity places of the block that differ from the cells
+unfoldable pub differing : List ℕ → List ℕ → ℕ
+differing cells block = orTo 88 (λ i. xor (at cells i) (placeAt block (1952 + i)))

@@ -1,4 +1,4 @@
-// Ten bits of bytes as a symbol, and eight bits of symbols as a byte; the first bit is the highest.
+// A bit of bytes, ten bits of bytes as a symbol, and eight bits of symbols as a byte; the first bit is the highest.
 ghost use mathlib.Core.Path.{_≡_};
 ghost use Prim.Native.Nat.{_+_, _<_};
 ghost use Rattle.words.specs.Places.{at, bitAt};
@@ -15,6 +15,13 @@ fn byte(bytes: &[u8], k: usize) -> u32
     ensures { λ r. ⌜ (r ≡ at (now (bytes .entry)) k) × (r < 256) ⌝ }
 {
     if k < bytes.len() { bytes[k] as u32 } else { 0 }
+}
+
+// Bit i of the bytes; 0 past the end.
+pub fn bit(bytes: &[u8], i: usize) -> u8
+    ensures { λ r. ⌜ (r ≡ bitAt (now (bytes .entry)) i) × (r < 2) ⌝ }
+{
+    ((byte(bytes, i / 8) >> (7 - i % 8)) & 1) as u8
 }
 
 // The symbol that the ten bits from bit i on make. They lie in three bytes.

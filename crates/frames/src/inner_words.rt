@@ -1,20 +1,25 @@
 // The 64 inner words of a frame, side by side: eight bytes are one place of them all, the bits of one number, so one register of 88 numbers holds 64
-// divisions by the divisor.
+// divisions by the divisor. It gives the parity bits, and tells which inner words of a block are no code words; those are corrected one by one.
 use crate::Frame;
+use crate::bits;
 use words::bch;
 ghost use mathlib.Core.Path.{_≡_};
+ghost use mathlib.Core.Bool.{cond};
 ghost use Prim.Native.Nat.{_+_, _*_, _≤_, _<_};
 ghost use lib.ListN.{length};
-ghost use Rattle.words.specs.Places.{bitAt, bytesOf};
-ghost use Rattle.frames.specs.Frames.{withParity};
+ghost use Rattle.words.specs.Places.{at, bitOf, bitAt, bytesOf};
+ghost use Rattle.words.specs.InnerCode.{isInner};
+ghost use Rattle.frames.specs.Frames.{innerWord, withParity};
+ghost use Rattle.frames.specs.Correction.{innerRestored};
 ghost use Rattle.frames.specs.Received.{innerCodes};
 ghost use Rattle.frames.specs.Symbols.{Placed};
-ghost use Rattle.frames.specs.SideBySide.{placeAt, ones, masks, stepped, parities, byteOf64, parityBytes, agrees};
+ghost use Rattle.frames.specs.SideBySide.{placeAt, ones, masks, stepped, parities, byteOf64, parityBytes, differing};
+ghost use Rattle.frames.specs.Passes.{wrongWords, wordByte, wordBytes, WordPut, InnerPassed};
 
 const PARITY_BYTES: usize = Frame::BYTES - Frame::DATA_BYTES;
 
 // Place p of every inner word: bit k, the highest first, is that of word k.
-fn place(bytes: &[u8], p: usize) -> u64
+pub fn place(bytes: &[u8], p: usize) -> u64
     requires { ⌜ (p < 2040) × (8 * p + 8 ≤ length (now bytes)) ⌝ }
     ensures { λ r. ⌜ r ≡ placeAt (now (bytes .entry)) p ⌝ }
 {
@@ -108,19 +113,27 @@ pub fn encode(out: &mut [u8])
     store(&cells, out);
 }
 
-// The parity places are what the register holds.
-fn agrees(cells: &[u64], block: &[u8]) -> bool
+// The bits in which the parity places differ from what the register holds, of all 88 places together.
+fn differing(cells: &[u64], block: &[u8]) -> u64
     requires { ⌜ (length (now cells) ≡ 88) × (length (now block) ≡ 16320) ⌝ }
-    ensures { λ r. ⌜ r ≡ agrees (now (cells .entry)) (now (block .entry)) ⌝ }
+    ensures { λ r. ⌜ r ≡ differing (now (cells .entry)) (now (block .entry)) ⌝ }
 {
+    let mut x: u64 = 0;
     let mut i: usize = 0;
     while i < words::Inner::PARITY {
-        if cells[i] != place(block, Frame::DATA_PLACES + i) {
-            return false;
-        }
+        x = x | (cells[i] ^ place(block, Frame::DATA_PLACES + i));
         i += 1;
     }
-    true
+    x
+}
+
+// The inner words of the block that are no code words: bit k, the highest first, is 1 for word k.
+fn wrong_words(block: &[u8]) -> u64
+    requires { ⌜ length (now block) ≡ 16320 ⌝ }
+    ensures { λ r. ⌜ r ≡ wrongWords (bitAt (now (block .entry))) ⌝ }
+{
+    let cells = parities(block);
+    differing(&cells, block)
 }
 
 // Each inner word of the block is a code word.
@@ -128,6 +141,89 @@ pub fn are_code_words(block: &[u8]) -> bool
     requires { ⌜ length (now block) ≡ 16320 ⌝ }
     ensures { λ r. ⌜ r ≡ innerCodes (bitAt (now (block .entry))) ⌝ }
 {
-    let cells = parities(block);
-    agrees(&cells, block)
+    wrong_words(block) == 0
+}
+
+// A block to write into: its length is all that is promised.
+pub fn blank() -> [u8; Frame::BYTES]
+    ensures { λ r. ⌜ length r ≡ 16320 ⌝ }
+{
+    [0; Frame::BYTES]
+}
+
+// Byte j of inner word k of the block.
+fn word_byte(block: &[u8], k: usize, j: usize) -> u8
+    requires { ⌜ (length (now block) ≡ 16320) × (k < 64) × (j < 255) ⌝ }
+    ensures { λ r. ⌜ r ≡ wordByte (now (block .entry)) k j ⌝ }
+{
+    let mut byte: u8 = 0;
+    let mut i: usize = 0;
+    while i < 8 {
+        byte = 2 * byte + bits::bit(block, Frame::INNER_WORDS * (8 * j + i) + k);
+        i += 1;
+    }
+    byte
+}
+
+// Inner word k of the block, as bytes.
+fn word(block: &[u8], k: usize) -> [u8; words::Inner::BYTES]
+    requires { ⌜ (length (now block) ≡ 16320) × (k < 64) ⌝ }
+    ensures { λ r. ⌜ r ≡ wordBytes (now (block .entry)) k ⌝ }
+{
+    let mut w = [0u8; words::Inner::BYTES];
+    let mut j: usize = 0;
+    while j < words::Inner::BYTES {
+        w[j] = word_byte(block, k, j);
+        j += 1;
+    }
+    w
+}
+
+// Writes the word, lent as bytes, as inner word k of the block.
+fn put(word: &[u8], k: usize, block: &mut [u8])
+    requires { ⌜ (length (now word) ≡ 255) × (length (now block) ≡ 16320) × (k < 64) ⌝ }
+    ensures { λ _. ⌜ WordPut k (bitAt (now (word .entry))) (now (block .entry)) (now (block .exit)) ⌝ }
+{
+    let mut p: usize = 0;
+    while p < words::Inner::PLACES {
+        let i = Frame::INNER_WORDS * p + k;
+        let wrong = bits::bit(block, i) ^ bits::bit(word, p);
+        bch::flip(block, i, wrong as u16);
+        p += 1;
+    }
+}
+
+// Inner word k of the block becomes the code word within eight places; a refusal leaves it as received.
+fn correct_word(k: usize, block: &mut [u8])
+    requires { ⌜ (length (now block) ≡ 16320) × (k < 64) ⌝ }
+    ensures { λ _. ⌜ WordPut k (at (innerRestored (innerWord (bitAt (now (block .entry))) k))) (now (block .entry)) (now (block .exit)) ⌝ }
+{
+    let received = word(block, k);
+    let mut restored = received;
+    words::correct_inner(&received, &mut restored);
+    put(&restored, k, block);
+}
+
+// The same where the word's bit of those that are wrong is 1; a code word stays as it is.
+fn correct_wrong(wrong: u64, k: usize, block: &mut [u8])
+    requires { ⌜ (length (now block) ≡ 16320) × (k < 64) ⌝ }
+    requires { ⌜ bitOf 64 wrong k ≡ cond (isInner (innerWord (bitAt (now block)) k)) 0 1 ⌝ }
+    ensures { λ _. ⌜ WordPut k (at (innerRestored (innerWord (bitAt (now (block .entry))) k))) (now (block .entry)) (now (block .exit)) ⌝ }
+{
+    if (wrong >> (Frame::INNER_WORDS - 1 - k)) & 1 == 1 {
+        correct_word(k, block);
+    }
+}
+
+// The inner pass: each inner word of the block becomes the code word within eight places; where there is none it is left as received.
+pub fn correct(block: &mut [u8])
+    requires { ⌜ length (now block) ≡ 16320 ⌝ }
+    ensures { λ _. ⌜ InnerPassed (now (block .entry)) (now (block .exit)) ⌝ }
+{
+    let wrong = wrong_words(block);
+    let mut k: usize = 0;
+    while k < Frame::INNER_WORDS {
+        correct_wrong(wrong, k, block);
+        k += 1;
+    }
 }

@@ -1,20 +1,29 @@
-// Frames of G.975.1, appendix I.4: the frame of a payload, whether a block is a frame, and the payload of a frame.
+// Frames of G.975.1, appendix I.4: the frame of a payload, whether a block is a frame, the payload of a frame, and the frame restored from a received block.
 //
 //     encode   the payload's bits, ten to a symbol, make sixteen outer words with their parity symbols, which stand in a row (module outer_words); the row's
 //              bits, but for the two padding bits, are the frame's first bytes; the parity bits of the 64 inner words follow (module inner_words)
 //     check    the block's bytes make the row again; a frame is a block whose outer and inner words are all code words
 //     extract  after the same test, the data symbols of the row are the payload
+//     correct  inner pass: the inner words of a copy of the block that are no code words become the code words within eight places, those that have none
+//              stay; outer pass: the copy's bytes make the row, and its outer words become the code words within eight symbols; if each has one, the row
+//              is sent and parity bits are made as in encoding, and the report compares block and frame (module comparison)
 //
 // Every input is answered: an entry returns 0, or the number of the refusal; a refusal leaves the output buffer as it was. Where there is more than one
-// fault, the order is 1 (length of the payload) or 2 (length of the block), 3 (size of the output buffer), then 4 (no frame).
+// fault, the order is 1 (length of the payload) or 2 (length of the block), 3 (size of the output buffer), then 4 (no frame) or 5
+// (uncorrectable).
+use words::bch;
 ghost use mathlib.Core.Path.{_≡_};
 ghost use mathlib.Core.Bool.{_&&_};
 ghost use lib.ListN.{length};
 ghost use Rattle.words.specs.Places.{bitAt};
+ghost use Rattle.frames.specs.Correction.{innerPass, outerPass};
 ghost use Rattle.frames.specs.Received.{receivedRow, outerCodes, innerCodes};
-ghost use Rattle.frames.specs.Answers.{frameEncoded, frameChecked, payloadExtracted};
+ghost use Rattle.frames.specs.Passes.{provided, rowWords};
+ghost use Rattle.frames.specs.Answers.{frameEncoded, frameChecked, payloadExtracted, noCounts, frameCorrected};
 
 mod bits;
+pub mod c_entries;
+mod comparison;
 mod inner_words;
 mod outer_words;
 
@@ -113,4 +122,59 @@ pub fn extract_payload(block: &[u8], out: &mut [u8]) -> u8
     }
     outer_words::extract(&row, out);
     0
+}
+
+// What a correction answers: the refusal's number, or 0; then for each inner word the number of places where received block and restored frame differ, and
+// their sum. A refusal carries its number and nothing else: its counts are 0.
+pub struct Report {
+    pub refusal: u8,
+    pub counts: [u16; Frame::INNER_WORDS],
+    pub sum: u32,
+}
+
+fn refused(number: u8) -> Report
+    ensures { λ r. ⌜ (r .refusal ≡ number) × (r .counts ≡ noCounts) × (r .sum ≡ 0) ⌝ }
+{
+    Report {
+        refusal: number,
+        counts: [0; Frame::INNER_WORDS],
+        sum: 0,
+    }
+}
+
+// The two passes: writes the row of restored outer words; false, if some outer word has none.
+fn restore(block: &[u8], row: &mut [u16]) -> bool
+    requires { ⌜ (length (now block) ≡ 16320) × (length (now row) ≡ 12496) ⌝ }
+    ensures { λ r. ⌜ (length (now (row .exit)) ≡ 12496) × (provided r (rowWords (now (row .exit))) ≡ outerPass (innerPass (bitAt (now (block .entry))))) ⌝ }
+{
+    let mut passed = inner_words::blank();
+    bch::copy(block, &mut passed);
+    inner_words::correct(&mut passed);
+    outer_words::receive(&passed, row);
+    outer_words::correct(row)
+}
+
+// Writes the restored frame and gives the report; 2, 3 or 5.
+pub fn correct_frame(block: &[u8], out: &mut [u8]) -> Report
+    ensures { λ r. ⌜ (r .refusal, r .counts, r .sum, now (out .exit)) ≡ frameCorrected (now (block .entry)) (now (out .entry)) ⌝ }
+{
+    if block.len() != Frame::BYTES {
+        return refused(2);
+    }
+    if out.len() != Frame::BYTES {
+        return refused(3);
+    }
+    let mut row = outer_words::blank();
+    if !restore(block, &mut row) {
+        return refused(5);
+    }
+    outer_words::send(&row, out);
+    inner_words::encode(out);
+    let counts = comparison::counts(block, out);
+    let sum = comparison::sum(&counts);
+    Report {
+        refusal: 0,
+        counts,
+        sum,
+    }
 }

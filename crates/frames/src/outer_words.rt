@@ -1,17 +1,22 @@
-// The outer words of a frame stand in a row, 781 symbols each: the row of a payload and of a block, the bytes that are sent of it, and the payload in it.
+// The outer words of a frame stand in a row, 781 symbols each: the row of a payload and of a block, the bytes that are sent of it, the outer pass over it,
+// and the payload in it.
 use crate::Frame;
 use crate::bits;
+use words::Correction;
 use words::division;
 use words::reed_solomon;
 ghost use mathlib.Core.Path.{_≡_};
-ghost use mathlib.Core.Bool.{true};
+ghost use mathlib.Core.Bool.{true, false};
 ghost use Prim.Native.Nat.{_+_, _*_, _≤_, _<_};
 ghost use lib.ListN.{length};
 ghost use Rattle.words.specs.Places.{at, allBelow, bitAt};
+ghost use Rattle.words.specs.OuterCode.{isOuter};
 ghost use Rattle.words.specs.Division.{multiples};
 ghost use Rattle.frames.specs.Frames.{dataIn, outerData, outerWord, outerWords, rowPlace};
-ghost use Rattle.frames.specs.Received.{receivedSymbol, receivedRow};
-ghost use Rattle.frames.specs.Symbols.{Placed, InRow, Sent, rowCodes, symbolByte, dataPlace, payloadByte, payloadInRow};
+ghost use Rattle.frames.specs.Correction.{receivedSymbol, isPadded};
+ghost use Rattle.frames.specs.Received.{receivedRow};
+ghost use Rattle.frames.specs.Symbols.{Placed, InRow, Sent, rowWord, rowCodes, symbolByte, dataPlace, payloadByte, payloadInRow};
+ghost use Rattle.frames.specs.Passes.{provided, WordRestored, rowWords, rowRestored};
 
 const LAST: usize = Frame::WORDS - 1;
 
@@ -21,6 +26,9 @@ const WORD_BITS: usize = Frame::SYMBOL_BITS * Frame::DATA_SYMBOLS;
 const PADDED: usize = LAST * Frame::WORD_SYMBOLS + Frame::LAST_DATA_SYMBOLS - 1;
 
 const UNPADDED: u16 = 1020;
+
+// The padding bits, the low ones of their symbol.
+const PADDING_MASK: u16 = 3;
 
 // Frame bytes from this one on come from the row past the padding bits.
 const AFTER_PADDING: usize = (Frame::SYMBOL_BITS * (PADDED + 1) - Frame::PADDING) / 8;
@@ -58,14 +66,14 @@ fn write_data(payload: &[u8], w: usize, row: &mut [u16])
     }
 }
 
-// Writes the parity symbols into the row from place i on.
-fn write_parity(cells: [u16; words::Outer::PARITY], i: usize, row: &mut [u16])
-    requires { ⌜ (i ≤ 12480) × (length (now row) ≡ 12496) ⌝ }
-    ensures { λ _. ⌜ Placed i cells (now (row .entry)) (now (row .exit)) ⌝ }
+// Writes the symbols into the row from place i on.
+fn write(symbols: &[u16], i: usize, row: &mut [u16])
+    requires { ⌜ (i + length (now symbols) ≤ length (now row)) × (length (now row) ≡ 12496) ⌝ }
+    ensures { λ _. ⌜ Placed i (now (symbols .entry)) (now (row .entry)) (now (row .exit)) ⌝ }
 {
     let mut j: usize = 0;
-    while j < words::Outer::PARITY {
-        row[i + j] = cells[j];
+    while j < symbols.len() {
+        row[i + j] = symbols[j];
         j += 1;
     }
 }
@@ -81,7 +89,7 @@ fn write_word(low: &[u16], high: &[u16], payload: &[u8], w: usize, row: &mut [u1
     let end = from + data_in(w);
     let register = division::divide(low, high, &row[from..end]);
     let cells = register.cells;
-    write_parity(cells, end, row);
+    write(&cells, end, row);
 }
 
 // Writes the outer words of the payload into the row.
@@ -173,6 +181,76 @@ pub fn are_code_words(row: &[u16]) -> bool
             return false;
         }
         v += 1;
+    }
+    true
+}
+
+// The padding bits of a word that is to be outer word w are zeros; only the last outer word has them.
+fn is_padded(w: usize, word: &[u16]) -> bool
+    ensures { λ r. ⌜ r ≡ isPadded w (now (word .entry)) ⌝ }
+{
+    if w < LAST {
+        return true;
+    }
+    reed_solomon::symbol(word, Frame::LAST_DATA_SYMBOLS - 1) & PADDING_MASK == 0
+}
+
+// Outer word w of the row, which is no code word, becomes the permitted code word within eight symbols, and the answer is true; false, if there is none.
+// `word` is space for it.
+fn restore(w: usize, row: &mut [u16], word: &mut [u16]) -> bool
+    requires { ⌜ (w < 16) × (length (now row) ≡ 12496) × (length (now word) ≡ dataIn w + 16) × (allBelow 1024 (rowWord (now row) w) ≡ true) ⌝ }
+    requires { ⌜ isOuter (rowWord (now row) w) ≡ false ⌝ }
+    ensures { λ r. ⌜ WordRestored w (now (row .entry)) (now (row .exit)) r ⌝ }
+{
+    let from = Frame::WORD_SYMBOLS * w;
+    let end = from + word.len();
+    match words::correct_outer(&row[from..end], word) {
+        Correction::Corrected { changed: _ } => {
+            if !is_padded(w, word) {
+                return false;
+            }
+            write(word, from, row);
+            true
+        }
+        Correction::Refused { number: _ } => false,
+    }
+}
+
+// A word to write into: its length is all that is promised.
+fn blank_word() -> [u16; Frame::WORD_SYMBOLS]
+    ensures { λ r. ⌜ length r ≡ 781 ⌝ }
+{
+    [0; Frame::WORD_SYMBOLS]
+}
+
+// The same, of any outer word: a code word is left as it is, and the answer is whether it is permitted.
+fn correct_word(low: &[u16], high: &[u16], w: usize, row: &mut [u16]) -> bool
+    requires { ⌜ (now low ≡ multiples 1) × (now high ≡ multiples 32) ⌝ }
+    requires { ⌜ (w < 16) × (length (now row) ≡ 12496) × (allBelow 1024 (rowWord (now row) w) ≡ true) ⌝ }
+    ensures { λ r. ⌜ WordRestored w (now (row .entry)) (now (row .exit)) r ⌝ }
+{
+    let from = Frame::WORD_SYMBOLS * w;
+    let end = from + data_in(w) + words::Outer::PARITY;
+    if division::is_code_word(low, high, &row[from..end]) {
+        return is_padded(w, &row[from..end]);
+    }
+    let mut word = blank_word();
+    restore(w, row, &mut word[0..end - from])
+}
+
+// The outer pass: each outer word in the row becomes the permitted code word within eight symbols; false, if some word has none.
+pub fn correct(row: &mut [u16]) -> bool
+    requires { ⌜ (length (now row) ≡ 12496) × (allBelow 1024 (now row) ≡ true) ⌝ }
+    ensures { λ r. ⌜ (length (now (row .exit)) ≡ 12496) × (provided r (rowWords (now (row .exit))) ≡ rowRestored (now (row .entry))) ⌝ }
+{
+    let low = division::low_multiples();
+    let high = division::high_multiples();
+    let mut w: usize = 0;
+    while w < Frame::WORDS {
+        if !correct_word(&low, &high, w, row) {
+            return false;
+        }
+        w += 1;
     }
     true
 }

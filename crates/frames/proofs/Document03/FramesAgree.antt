@@ -7,7 +7,7 @@ use native.Mathlib.Nat.{zero-add}
 use native.Mathlib.Numerals.{one-add}
 use native.Mathlib.Omega.{arith}
 use lib.Dec.{eqb, eqb·suc-zero}
-use lib.ListN.{length}
+use lib.ListN.{length, getD}
 use Rattle.words.specs.Places.{at, sumTo, differs}
 use Rattle.words.specs.Places as Places
 use Rattle.words.proofs.Places.Bytes.{bits-length, bits-at}
@@ -16,7 +16,7 @@ use Rattle.words.proofs.Document03.Statements.{when, same, apart}
 use Rattle.words.proofs.Document03.Says.{bytesOf}
 use Rattle.words.proofs.Document03.WordsAgree.{apart-agrees}
 use Rattle.words.proofs.Document03.BytesAgree.{bytes-agree}
-use Rattle.frames.specs.Frames.{sentBit, withParity, wrongBits}
+use Rattle.frames.specs.Frames.{dataIn, sentBit, withParity, wrongBits}
 use Rattle.frames.specs.Frames as Frames
 use Rattle.frames.specs.Answers as Answers
 use Rattle.frames.proofs.FrameBits.{bits-same, payloadOf-length, sentBit-lt, frame-length}
@@ -27,7 +27,11 @@ use Rattle.frames.proofs.Document03.SentBitsAgree.{Words, sent-long, se
 use Rattle.frames.proofs.Document03.ParityBitsAgree.{with-long, with-at}
 use Rattle.frames.proofs.Document03.PayloadsAgree.{payload-agrees}
 
--- the frame of sixteen words of their lengths
+-- sixteen words of their lengths, and their frame
+pub sixteen-words : (ws : List (List ℕ)) → length ws ≡ 16 → ((w : ℕ) → w < 16 → length (getD ws w []) ≡ dataIn w + 16) → Words 0 ws
+sixteen-words ws sixteen long =
+    record { count = omega arith; long = λ w l. long w (omega arith) ∙ ap (λ (k : ℕ). dataIn k + 16) (omega arith) }
+
 module _ (ws : List (List ℕ)) (h : Words 0 ws) where
   pub frame-long : length (frameOfWords ws) ≡ 130560
   frame-long = with-long (sentFrom 0 ws) (sentBit ws) (sent-long ws h) (sent-at ws h) (sentBit-lt ws)
@@ -35,17 +39,13 @@ module _ (ws : List (List ℕ)) (h : Words 0 ws) where
   pub frame-at : (i : ℕ) → i < 130560 → at (frameOfWords ws) i ≡ withParity (sentBit ws) i
   frame-at = with-at (sentFrom 0 ws) (sentBit ws) (sent-long ws h) (sent-at ws h) (sentBit-lt ws)
 
-  words-bytes : bytesOf (frameOfWords ws) ≡ Frames.frameOfWords ws
+  pub words-bytes : bytesOf (frameOfWords ws) ≡ Frames.frameOfWords ws
   unfolding Frames.frameOfWords
   words-bytes = bytes-agree 16320 (frameOfWords ws) (frame-long ∙ omega arith) ∙ bits-same 16320 _ _ (λ i l. frame-at i (omega arith))
 
 -- that of a payload
 pub payload-words : (p : List ℕ) → Words 0 (Frames.outerWords p)
-payload-words p =
-    record {
-      count = omega (arith, words-long p);
-      long = λ w l. word-long p w (omega (arith, words-long p)) ∙ ap (λ (k : ℕ). Frames.dataIn k + 16) (omega arith);
-    }
+payload-words p = sixteen-words (Frames.outerWords p) (words-long p) (word-long p)
 
 pub frame-bytes : (p : List ℕ) → length p ≡ 15296 → frameBytes p ≡ Frames.frameOf p
 unfolding Frames.frameOf

@@ -20,10 +20,10 @@ use Rattle.frames.proofs.FrameBits.{dataIn-first, outer-data-below, out
 use Rattle.frames.proofs.Document03.Statements.{dataSymbols, outerWord, wordsFrom, outerWords}
 use Rattle.frames.proofs.Document03.ListsAgree.{bits-long, bit-at, pick-lt, filled-at, all-agree}
 
--- n symbols of ten bits, the bits of p from bit m on
-symbols-agree : (p : List ℕ) (m n : ℕ) (bs : List ℕ) → 10 * n ≤ length bs → ((i : ℕ) → at bs i ≡ bitAt p (m + i))
-    → groupsFrom n 10 bs ≡ tabulate n (λ s. numberOf 10 (λ j. bitAt p (m + 10 * s + j)))
-symbols-agree p m n bs h e = groups-agree 10 n bs h ∙ tabulate-same n _ _ (λ s l. numberOf-same 10 _ _ (λ j g. e (10 * s + j) ∙ ap (bitAt p) (omega arith)))
+-- n symbols of ten bits: those of symbol s are g s 0, g s 1, ..
+pub symbols-agree : (n : ℕ) (bs : List ℕ) (g : ℕ → ℕ → ℕ) → 10 * n ≤ length bs → ((s j : ℕ) → s < n → j < 10 → at bs (10 * s + j) ≡ g s j)
+    → groupsFrom n 10 bs ≡ tabulate n (λ s. numberOf 10 (g s))
+symbols-agree n bs g h e = groups-agree 10 n bs h ∙ tabulate-same n _ _ (λ s l. numberOf-same 10 _ _ (λ j m. e s j l m))
 
 module _ (p : List ℕ) (long : length p ≡ 15296) where
   data-first : (w : ℕ) → w < 15 → dataSymbols w (bitsOf p) ≡ outerData p w
@@ -31,8 +31,8 @@ module _ (p : List ℕ) (long : length p ≡ 15296) where
   data-first w h =
       let bs = bitsOf p in
       pick-lt _ _ w 15 h
-      ∙ symbols-agree p (7650 * w) 765 (drop (7650 * w) bs) (omega (arith, length-drop (7650 * w) bs, bits-long p))
-      (λ i. getD-drop (7650 * w) bs i 0 ∙ bit-at p _)
+      ∙ symbols-agree 765 (drop (7650 * w) bs) (λ s j. bitAt p (7650 * w + 10 * s + j)) (omega (arith, length-drop (7650 * w) bs, bits-long p))
+      (λ s j l m. getD-drop (7650 * w) bs (10 * s + j) 0 ∙ bit-at p _ ∙ ap (bitAt p) (omega arith))
       ∙ ap (λ (n : ℕ). tabulate n (λ s. numberOf 10 (λ j. bitAt p (7650 * w + 10 * s + j)))) (sym (dataIn-first w h))
 
   data-last : dataSymbols 15 (bitsOf p) ≡ outerData p 15
@@ -40,8 +40,9 @@ module _ (p : List ℕ) (long : length p ≡ 15296) where
   data-last =
       let bs = bitsOf p in
       let ds = drop 114750 bs in
-      symbols-agree p 114750 762 (ds ++ (0 ∷ (0 ∷ []))) (omega (arith, length-append ds (0 ∷ (0 ∷ [])), length-drop 114750 bs, bits-long p))
-      (λ i. filled-at ds i ∙ getD-drop 114750 bs i 0 ∙ bit-at p _)
+      symbols-agree 762 (ds ++ (0 ∷ (0 ∷ []))) (λ s j. bitAt p (114750 + 10 * s + j))
+      (omega (arith, length-append ds (0 ∷ (0 ∷ [])), length-drop 114750 bs, bits-long p))
+      (λ s j l m. filled-at ds (10 * s + j) ∙ getD-drop 114750 bs (10 * s + j) 0 ∙ bit-at p _ ∙ ap (bitAt p) (omega arith))
 
   data-agrees : (w : ℕ) → w < 16 → dataSymbols w (bitsOf p) ≡ outerData p w
   data-agrees w h = go (decLt w 15)

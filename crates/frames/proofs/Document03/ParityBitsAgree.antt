@@ -27,7 +27,7 @@ every-first zero bs = refl
 every-first (suc n) bs =
     ap₂ _∷_ (ap (at bs) (omega arith)) (every-first n (drop 64 bs) ∙ tabulate-same n _ _ (λ p l. getD-drop 64 bs (64 * p) 0 ∙ ap (at bs) (omega arith)))
 
-every-agrees : (n k : ℕ) (bs : List ℕ) → everyFrom n (drop k bs) ≡ tabulate n (λ p. at bs (64 * p + k))
+pub every-agrees : (n k : ℕ) (bs : List ℕ) → everyFrom n (drop k bs) ≡ tabulate n (λ p. at bs (64 * p + k))
 every-agrees n k bs = every-first n (drop k bs) ∙ tabulate-same n _ _ (λ p l. getD-drop k bs (64 * p) 0 ∙ ap (at bs) (omega arith))
 
 -- words woven into each other: place p of word k is place m p + k, if there are m words

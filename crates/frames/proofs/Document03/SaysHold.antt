@@ -1,21 +1,35 @@
--- What the entries answer is what document 03 asks of the calls that encode, check and extract. Assumes nothing.
-use mathlib.Core.Path.{_≡_, refl, sym, ap, _∙_}
+-- What the entries answer is what document 03 asks of the calls that encode, check, extract and correct. Assumes nothing.
+use mathlib.Core.Path.{_≡_, refl, sym, ap, _∙_, subst}
 use mathlib.Core.Bool.{Bool, true, false, not}
 use mathlib.Core.List.{List}
+use mathlib.Core.Logic.{inl, inr}
 use Prim.Native.Nat.{ℕ, suc}
 use native.Mathlib.Omega.{arith}
 use borrow.Author.Tests.{eqb-true}
 use lib.Dec.{eqb}
 use lib.ListN.{length}
+use Rattle.fields.specs.Lists.{tabulate}
+use Rattle.words.specs.Places.{at, bitAt}
 use Rattle.words.specs.Answers.{unless}
+use Rattle.words.proofs.Places.Bytes.{bits-at}
 use Rattle.words.proofs.Document03.Statements.{when}
-use Rattle.words.proofs.Document03.Says.{firstOf}
+use Rattle.words.proofs.Document03.Says.{firstOf, bitsOf}
 use Rattle.words.proofs.Document03.SaysHold.{answered-says}
-use Rattle.frames.specs.Answers.{frameEncoded, frameChecked, payloadExtracted}
+use Rattle.frames.specs.Frames as Frames
+use Rattle.frames.specs.Correction.{innerPass}
+use Rattle.frames.specs.Correction as Correction
+use Rattle.frames.specs.Answers.{frameEncoded, frameChecked, payloadExtracted, Corrected, refused, frameCorrected}
 use Rattle.frames.specs.Answers as Answers
-use Rattle.frames.proofs.Document03.Says.{MakeSays, isFrame, CheckSays, ReadSays}
+use Rattle.frames.proofs.Demands.{two-passes}
+use Rattle.frames.proofs.Document03.Statements.{frameOfWords}
+use Rattle.frames.proofs.Document03.Menders.{reportOf}
+use Rattle.frames.proofs.Document03.Says.{MakeSays, isFrame, CheckSays, ReadSays, mendFault, Refused, MendWith, MendSays}
+use Rattle.frames.proofs.Document03.ListsAgree.{bits-long, bit-at}
 use Rattle.frames.proofs.Document03.PayloadsAgree.{payload-agrees}
-use Rattle.frames.proofs.Document03.FramesAgree.{frame-bytes, isFrame-agrees}
+use Rattle.frames.proofs.Document03.FramesAgree.{sixteen-words, words-bytes, frame-bytes, isFrame-agrees}
+use Rattle.frames.proofs.Document03.PassesAgree.{Outcome, restored-mends, uncorrectable-beyond}
+use Rattle.frames.proofs.Document03.ReportsAgree.{report-agrees, total-agrees}
+use Rattle.frames.proofs.Document03.StatementsHold.{words-frame-agrees}
 
 -- refusals, the first and the last; what follows matters only if the test holds
 refused-first : (test : Bool) (n next next′ : ℕ) → (test ≡ true → next ≡ next′) → unless test (suc n) next ≡ firstOf (when (not test) (suc n)) next′
@@ -51,3 +65,59 @@ read-says b o o′ r e =
     let long = eqb (length b) 16320 in
     answered-says _ _ o o′ r _ _ e (refused-first long 1 _ _ (λ t. refused-first (eqb (length o) 15296) 2 _ _ (λ u. block-says b t)))
     (λ z. sym (payload-agrees b (eqb-true (length b) 16320 (passed long 1 _ z))))
+
+-- ---- corrections
+
+refused-says : (n : ℕ) (o : List ℕ) → (let r = refused n o in Refused n o (r .3) (r .0) (r .1) (r .2))
+unfolding refused tabulate Answers.noCounts
+refused-says n o = (refl, refl, refl, refl)
+
+module _ (b o : List ℕ) where
+  length-refused : eqb (length b) 16320 ≡ false → frameCorrected b o ≡ refused 2 o
+  unfolding frameCorrected
+  length-refused e = rw e
+
+  space-refused : eqb (length b) 16320 ≡ true → eqb (length o) 16320 ≡ false → frameCorrected b o ≡ refused 3 o
+  unfolding frameCorrected
+  space-refused e f = rw (e, f)
+
+module _ (b o : List ℕ) where
+  abbrev Said : ℕ → Corrected → Type 0
+  Said fault r = MendWith fault b o (r .3) (r .0) (r .1) (r .2)
+
+  -- a block and a buffer of their lengths
+  block-corrected : length b ≡ 16320 → length o ≡ 16320 → Said 0 (frameCorrected b o)
+  block-corrected lb lo = go (two-passes .one-or-other b)
+    where
+      bits : length (bitsOf b) ≡ 130560
+      bits = bits-long b ∙ omega arith
+
+      go : Outcome (innerPass (bitAt b)) → Said 0 (frameCorrected b o)
+      go (inl (ws, r)) =
+          let frame = Frames.frameOfWords ws in
+          let words = sixteen-words ws (r .sixteen) (r .long) in
+          let e : reportOf (bitsOf b) (frameOfWords ws) ≡ Correction.reportOf b frame =
+          report-agrees (bitsOf b) (frameOfWords ws) b frame (bit-at b) (λ i. ap (λ (xs : List ℕ). at xs i) (words-frame-agrees ws words) ∙ bits-at frame i) in
+          subst (Said 0) (sym (two-passes .corrected b o ws lb lo r))
+          (inl (
+            frameOfWords ws,
+            restored-mends (bitsOf b) (bitAt b) bits (bit-at b) ws r,
+            refl,
+            sym (words-bytes ws words),
+            sym e,
+            sym (ap Correction.total e) ∙ sym (total-agrees (reportOf (bitsOf b) (frameOfWords ws))),
+          ))
+      go (inr (w, l, far)) =
+          subst (Said 0) (sym (two-passes .uncorrectable b o w lb lo l far))
+          (inr (uncorrectable-beyond (bitsOf b) (bitAt b) bits (bit-at b) w l far, refused-says 5 o))
+
+  corrected-says : Said (mendFault b o) (frameCorrected b o)
+  corrected-says = go (eqb (length b) 16320) (eqb (length o) 16320) refl refl
+    where
+      go : (t u : Bool) → eqb (length b) 16320 ≡ t → eqb (length o) 16320 ≡ u → Said (firstOf (when (not t) 2) (when (not u) 3)) (frameCorrected b o)
+      go true true e f = block-corrected (eqb-true (length b) 16320 e) (eqb-true (length o) 16320 f)
+      go true false e f = subst (Said 3) (sym (space-refused b o e f)) (refused-says 3 o)
+      go false u e f = subst (Said 2) (sym (length-refused b o e)) (refused-says 2 o)
+
+  pub mend-says : (o′ counts : List ℕ) (n s : ℕ) → _≡_ {A = Corrected} (n, counts, s, o′) (frameCorrected b o) → MendSays b o o′ n counts s
+  mend-says o′ counts n s e = subst (Said (mendFault b o)) (sym e) corrected-says

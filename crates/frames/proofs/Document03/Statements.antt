@@ -70,6 +70,16 @@ frameOfWords ws = withChecks (sentFrom 0 ws)
 abbrev pub frameOf : List ℕ → List ℕ
 frameOf payload = frameOfWords (outerWords (bitsOf payload))
 
+-- a block's inner words and outer words
+abbrev pub innerWord : ℕ → List ℕ → List ℕ
+innerWord k fs = everyFrom 2040 (drop k fs)
+
+abbrev pub symbolsFrom : ℕ → List ℕ → List ℕ
+symbolsFrom n bs = groupsFrom n 10 bs
+
+abbrev pub outerOf : ℕ → List ℕ → List ℕ
+outerOf w fs = pick (ltb w 15) (symbolsFrom 781 (drop (7810 * w) fs)) (let b = take 7778 (drop 117150 fs) in symbolsFrom 778 (take 7618 b ++ (0 ∷ (0 ∷ drop 7618 b))))
+
 -- the payload's bits of a frame
 abbrev pub payloadFrom : ℕ → ℕ → List ℕ → List ℕ
 payloadFrom zero w fs = []

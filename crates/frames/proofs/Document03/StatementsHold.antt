@@ -17,6 +17,7 @@ use Rattle.words.proofs.Document03.WordsAgree.{all-below, same-refl}
 use Rattle.frames.specs.Frames.{isPayload}
 use Rattle.frames.specs.Frames as Frames
 use Rattle.frames.proofs.FrameBits.{frame-length, frame-bit}
+use Rattle.frames.proofs.FarApart.{far}
 use Rattle.frames.proofs.Proved.{frame-laws}
 use Rattle.frames.proofs.Document03.Statements.{frameOfWords, frameOf, payloadOf, allBytes}
 use Rattle.frames.proofs.Document03.Says.{payloadLong, frameBytes}
@@ -25,7 +26,7 @@ use Rattle.frames.proofs.Document03.SentBitsAgree.{Words}
 use Rattle.frames.proofs.Document03.PayloadsAgree.{payload-agrees}
 use Rattle.frames.proofs.Document03.FramesAgree.{frame-long, frame-at, payload-words, frame-bytes, bytes-long, apart-bits}
 
-payload-is : (p : List ℕ) → length p ≡ 15296 → allBytes p ≡ true → isPayload p ≡ true
+pub payload-is : (p : List ℕ) → length p ≡ 15296 → allBytes p ≡ true → isPayload p ≡ true
 unfolding isPayload
 payload-is p long bytes =
     and-eq-true-iff (eqb (length p) 15296) (allBelow 256 p) .1 (eq-eqb (length p) 15296 long, sym (all-below 256 allBytes refl (λ b bs. refl) p) ∙ bytes)
@@ -52,7 +53,7 @@ pub second-half : (p q : List ℕ) → length p ≡ 15296 → length q ≡ 15296
 second-half p q hp hq bp bq other =
     let e : apart (frameOf p) (frameOf q) ≡ Frames.wrongBits (Frames.frameOf p) (Frames.frameOf q) =
     ap₂ apart (frame-agrees p hp) (frame-agrees q hq) ∙ apart-bits (Frames.frameOf p) (Frames.frameOf q) (bytes-long p) (bytes-long q) in
-    omega (arith, e, frame-laws .far p q (payload-is p hp bp) (payload-is q hq bq) (differ p q other))
+    omega (arith, e, far p q (payload-is p hp bp) (payload-is q hq bq) (differ p q other))
 
 pub reads-back : (p : List ℕ) → length p ≡ payloadLong → allBytes p ≡ true → payloadOf (bitsOf (frameBytes p)) ≡ p
 reads-back p long bytes =

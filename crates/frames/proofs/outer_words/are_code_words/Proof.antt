@@ -4,7 +4,7 @@ use mathlib.Core.Bool.{true}
 use Prim.Native.Nat.{_-_, _≤_}
 use borrow.Author.Needs.{needs}
 use Rattle.words.specs.Division.{multiples}
-use Rattle.frames.proofs.RowWords.{codesUpTo, codes-none, part-least, part-most, part-below, codes-not, codes-next, codes-all}
+use Rattle.frames.proofs.RowWords.{codesUpTo, codes-none, part-least, part-most, part-below, word-below, codes-not, codes-next, codes-all}
 use Rattle.frames.proofs.outer_words.are_code_words.Statement.{statement}
 use Rattle.frames.proofs.outer_words.are_code_words.Tie as tie
 
@@ -54,7 +54,7 @@ part-is-code-word-end : tie.Need-part-is-code-word-end Inv-loop μ-loop
 part-is-code-word-end c = search needs
 
 is-code-word-requires : tie.Need-is-code-word-requires Inv-loop μ-loop
-is-code-word-requires c κs = search (needs, part-least, part-most, part-below)
+is-code-word-requires c κs = search (needs, part-least, part-most, part-below, word-below)
 
 returns : tie.Need-returns Inv-loop μ-loop
 returns c = search (needs, codes-not)

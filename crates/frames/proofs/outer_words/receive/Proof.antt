@@ -3,7 +3,7 @@ use Prim.Native.Nat.{_-_}
 use borrow.Author.Needs.{needs}
 use Rattle.words.specs.Places.{bitAt}
 use Rattle.words.proofs.Places.Filling.{Filled, filled-start, filled-next}
-use Rattle.frames.specs.Received.{receivedSymbol}
+use Rattle.frames.specs.Correction.{receivedSymbol}
 use Rattle.frames.proofs.RowSteps.{row-end}
 use Rattle.frames.proofs.outer_words.receive.Statement.{statement}
 use Rattle.frames.proofs.outer_words.receive.Tie as tie

@@ -1,6 +1,6 @@
 -- `frames::outer_words::write_word` meets its contract. Assumes nothing.
 use borrow.Author.Needs.{needs}
-use Rattle.frames.proofs.RowWords.{data-part-below, word-placed}
+use Rattle.frames.proofs.RowWords.{data-part-below, data-long, parity-room, word-placed}
 use Rattle.frames.proofs.outer_words.write_word.Statement.{statement}
 use Rattle.frames.proofs.outer_words.write_word.Tie as tie
 
@@ -31,8 +31,11 @@ part-divide-end c = search needs
 divide-requires : tie.Need-divide-requires
 divide-requires c κs = search (needs, data-part-below)
 
-write-parity-requires : tie.Need-write-parity-requires
-write-parity-requires c κs = search needs
+slice-aggregate-write : tie.Need-slice-aggregate-write
+slice-aggregate-write c = search needs
+
+write-requires : tie.Need-write-requires
+write-requires c κs = (search (needs, parity-room), search (needs, data-long))
 
 same-length : tie.Need-same-length
 same-length c = search needs
@@ -53,6 +56,7 @@ write-word-spec =
     part-divide-start
     part-divide-end
     divide-requires
-    write-parity-requires
+    slice-aggregate-write
+    write-requires
     same-length
     returns)

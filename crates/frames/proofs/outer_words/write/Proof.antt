@@ -1,16 +1,16 @@
--- `frames::outer_words::write_parity` meets its contract. Assumes nothing.
+-- `frames::outer_words::write` meets its contract. Assumes nothing.
 use Prim.Native.Nat.{_-_}
 use borrow.Author.Needs.{needs}
-use Rattle.frames.proofs.Placing.{Placing, placing-start}
-use Rattle.frames.proofs.RowSteps.{parity-next, parity-end}
-use Rattle.frames.proofs.outer_words.write_parity.Statement.{statement}
-use Rattle.frames.proofs.outer_words.write_parity.Tie as tie
+use lib.ListN.{length}
+use Rattle.frames.proofs.Placing.{Placing, placing-start, placing-next, placing-end}
+use Rattle.frames.proofs.outer_words.write.Statement.{statement}
+use Rattle.frames.proofs.outer_words.write.Tie as tie
 
 abbrev Inv-loop : tie.InvT-loop
-Inv-loop i row₀ cells j₀ row j = Placing i cells j row₀ row
+Inv-loop symbols i row₀ j₀ row j = Placing i symbols j row₀ row
 
 abbrev μ-loop : tie.MeasureT-loop
-μ-loop i row₀ cells j₀ row j = 16 - j
+μ-loop symbols i row₀ j₀ row j = length symbols - j
 
 loop-holds : tie.Need-loop-holds Inv-loop μ-loop
 loop-holds c = search (needs, placing-start)
@@ -18,8 +18,8 @@ loop-holds c = search (needs, placing-start)
 mul-row : tie.Need-mul-row Inv-loop μ-loop
 mul-row c = search needs
 
-array-read-row : tie.Need-array-read-row Inv-loop μ-loop
-array-read-row c = search needs
+shared-slice-read-row : tie.Need-shared-slice-read-row Inv-loop μ-loop
+shared-slice-read-row c = search needs
 
 add-row : tie.Need-add-row Inv-loop μ-loop
 add-row c = search needs
@@ -37,23 +37,23 @@ loop-less : tie.Need-loop-less Inv-loop μ-loop
 loop-less c = search needs
 
 loop-again : tie.Need-loop-again Inv-loop μ-loop
-loop-again c = search (needs, parity-next)
+loop-again c = search (needs, placing-next)
 
 same-length : tie.Need-same-length Inv-loop μ-loop
 same-length c = search needs
 
 returns : tie.Need-returns Inv-loop μ-loop
-returns c = search (needs, parity-end)
+returns c = search (needs, placing-end)
 
-pub write-parity-spec : {M : Type 1} → statement M
-write-parity-spec =
+pub write-spec : {M : Type 1} → statement M
+write-spec =
     tie.close
     (tie.spec
     Inv-loop
     μ-loop
     loop-holds
     mul-row
-    array-read-row
+    shared-slice-read-row
     add-row
     mul-row-2
     slice-write-row

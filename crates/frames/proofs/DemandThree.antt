@@ -1,0 +1,93 @@
+-- Demand 3, the first half: lost inner words cost an outer word at most eight symbols, so the sent frame comes back, and the report counts the wrong bits.
+-- Assumes nothing.
+use mathlib.Core.Path.{_≡_, refl, sym, _∙_}
+use mathlib.Core.Bool.{Bool, true, false, cond}
+use mathlib.Core.List.{List, []}
+use Prim.Native.Nat.{ℕ, _+_, _-_, _*_, _%_, _≤_, _<_, min}
+use native.Mathlib.Omega.{arith}
+use lib.Dec.{ltb}
+use lib.ListN.{length}
+use Rattle.fields.proofs.Lists.{tabulate-at, tabulate-length}
+use Rattle.words.specs.Places.{bitAt, sumTo, differs, apart}
+use Rattle.words.proofs.Places.Counting.{differs-self, sum-mono, sum-same}
+use Rattle.frames.specs.Frames.{isPayload, dataIn, outerWord, outerWords, symbolAt, innerWord, frameOf, wrongBits}
+use Rattle.frames.specs.Correction.{receivedBit, receivedSymbol, receivedWord, reportOf, total}
+use Rattle.frames.specs.Answers.{frameCorrected}
+use Rattle.frames.specs.Demands.{Restored, wrongAt, wrongCounts, lostSymbols, Premise}
+use Rattle.frames.proofs.Differences.{number-differs, apart-tables}
+use Rattle.frames.proofs.FrameBits.{payload-is, word-to-bit, frame-inner, dataIn-le, outer-word-length}
+use Rattle.frames.proofs.ReceivedWords.{received-own}
+use Rattle.frames.proofs.Permitted.{payload-permitted}
+use Rattle.frames.proofs.FarApart.{wrong-parts}
+use Rattle.frames.proofs.ReportCounts.{wrong-in, report-counts}
+use Rattle.frames.proofs.RestoredWords.{inner-near, inner-lost, passed, corrected}
+
+-- ---- the report
+
+module _ (block frame : List ℕ) where
+  -- the sum of the report is the number of wrong bits in the block
+  report-total : total (reportOf block frame) ≡ wrongBits block frame
+  unfolding reportOf total
+  report-total = rw tabulate-length (sum-same 64 _ _ (λ k l. tabulate-at 64 _ k 0 l) ∙ sym (wrong-parts block frame))
+
+-- ---- outer words
+
+-- h is at least 1 at each bit where a and b differ
+module _ (a b h : ℕ → ℕ) (covers : (i : ℕ) → i < 130560 → differs (a i) (b i) ≤ h i) where
+  received-differs : (r : ℕ) → r < 130560 → differs (receivedBit a r) (receivedBit b r) ≤ receivedBit h r
+  unfolding receivedBit
+  received-differs r l = go (ltb r 124768) (ltb r 124770)
+    where
+      go : (s t : Bool) → differs (cond s (a r) (cond t 0 (a (r - 2)))) (cond s (b r) (cond t 0 (b (r - 2)))) ≤ cond s (h r) (cond t 0 (h (r - 2)))
+      go true t = covers r l
+      go false true = omega (arith, differs-self 0)
+      go false false = covers (r - 2) (omega arith)
+
+  -- an outer word differs at most in the symbols that have such a bit
+  symbols-differ : (w : ℕ) → w < 16 →
+      apart (receivedWord a w) (receivedWord b w) ≤ sumTo (dataIn w + 16) (λ s. min 1 (sumTo 10 (λ j. receivedBit h (7810 * w + 10 * s + j))))
+  unfolding receivedWord receivedSymbol symbolAt
+  symbols-differ w k =
+      rw (apart-tables (dataIn w + 16) (λ s. receivedSymbol a (781 * w + s)) (λ s. receivedSymbol b (781 * w + s)))
+      (sum-mono (dataIn w + 16) _ _ (λ s l. number-differs 10 _ _ (λ j. receivedBit h (7810 * w + 10 * s + j)) (λ j m.
+      let e : 10 * (781 * w + s) + j ≡ 7810 * w + 10 * s + j = omega arith in
+      rw e (received-differs (7810 * w + 10 * s + j) (omega (arith, dataIn-le w))))))
+
+-- ---- the sent frame comes back
+
+module _ (lost : ℕ → Bool) (payload block : List ℕ) (valid : isPayload payload ≡ true) (premise : Premise lost payload block) where
+  abbrev sent : ℕ → ℕ
+  sent = bitAt (frameOf payload)
+
+  -- after the inner pass a bit is wrong only in a lost inner word
+  passed-differs : (i : ℕ) → i < 130560 → differs (passed block i) (sent i) ≤ cond (lost (i % 64)) (wrongAt block (frameOf payload) i) 0
+  unfolding wrongAt frameOf
+  passed-differs i l = go (lost (i % 64)) refl
+    where
+      go : (t : Bool) → lost (i % 64) ≡ t → differs (passed block i) (sent i) ≤ cond t (differs (bitAt block i) (sent i)) 0
+      go true e =
+          let same = inner-lost (bitAt block) (i % 64) (omega arith) (premise .beyond (i % 64) (omega arith) e) in
+          rw (word-to-bit (passed block) (bitAt block) i l same) (omega arith)
+      go false e =
+          let near : apart (innerWord (bitAt block) (i % 64)) (innerWord sent (i % 64)) ≤ 8 =
+          omega (arith, wrong-in block (frameOf payload) (i % 64), premise .within (i % 64) (omega arith) e) in
+          let same = inner-near (bitAt block) (i % 64) _ (omega arith) (frame-inner (outerWords payload) (i % 64) (omega arith)) near in
+          rw (word-to-bit (passed block) sent i l same) (omega (arith, differs-self (sent i)))
+
+  -- so each outer word lies within eight symbols of the sent one
+  restored : Restored (passed block) (outerWords payload)
+  unfolding outerWords lostSymbols
+  restored =
+      record {
+        sixteen = tabulate-length 16 (outerWord payload);
+        long = λ w k. rw (tabulate-at 16 (outerWord payload) w [] k) (outer-word-length payload w);
+        permitted = λ w k. rw (tabulate-at 16 (outerWord payload) w [] k) (payload-permitted payload (payload-is payload valid .0) w k);
+        near = λ w k. rw (tabulate-at 16 (outerWord payload) w [] k, ← received-own payload (payload-is payload valid .0) w k)
+            (omega (arith, premise .few w k, symbols-differ (passed block) sent _ passed-differs w k));
+      }
+
+  pub first-half : (buffer : List ℕ) → length block ≡ 16320 → length buffer ≡ 16320 →
+      frameCorrected block buffer ≡ (0, wrongCounts block (frameOf payload), wrongBits block (frameOf payload), frameOf payload)
+  unfolding frameOf
+  first-half buffer fits room =
+      corrected block buffer fits room (outerWords payload) restored ∙ rw (report-total block (frameOf payload), report-counts block (frameOf payload))

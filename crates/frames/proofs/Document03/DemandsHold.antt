@@ -1,0 +1,118 @@
+-- Document 03's statements on correction, and its record of all that is proved. Assumes nothing.
+use mathlib.Core.Path.{_≡_, sym, ap, _∙_, subst}
+use mathlib.Core.Bool.{true, false}
+use mathlib.Core.List.{List}
+use mathlib.Core.Logic.{_⊎_, inl, inr}
+use Prim.Native.Nat.{ℕ, _≤_, _<_}
+use native.Mathlib.Omega.{arith}
+use lib.ListN.{length}
+use Rattle.fields.proofs.Statements.{isIn, fields}
+use Rattle.words.specs.Places.{at, bitAt, bitsOf, bytesOf}
+use Rattle.words.specs.Places as Places
+use Rattle.words.specs.InnerCode as Inner
+use Rattle.words.proofs.Places.Bytes.{bits-at}
+use Rattle.words.proofs.Document03.Statements.{isInner, apart, allBits}
+use Rattle.words.proofs.Document03.InnerAgrees.{inner-length, inner-agrees}
+use Rattle.words.proofs.Document03.StatementsHold.{codes}
+use Rattle.words.proofs.Document03.SaysHold.{far-is}
+use Rattle.frames.specs.Frames.{wrongBits}
+use Rattle.frames.specs.Frames as Frames
+use Rattle.frames.specs.Correction.{innerPass}
+use Rattle.frames.specs.Answers.{Corrected, refused, frameCorrected}
+use Rattle.frames.specs.Demands.{Restored, wrongCounts, Premise}
+use Rattle.frames.proofs.FrameBits.{bytes-length, inner-word-length}
+use Rattle.frames.proofs.ReportCounts.{wrong-in}
+use Rattle.frames.proofs.Demands as Ours
+use Rattle.frames.proofs.Document03.Statements.{innerWord, frameOfWords, frameOf, allBytes}
+use Rattle.frames.proofs.Document03.Menders.{Mends, Beyond, Two-passes, Lost, wrongSymbols, symbolsIn, Demand-3}
+use Rattle.frames.proofs.Document03.Says.{Demands}
+use Rattle.frames.proofs.Document03.FramesAgree.{sixteen-words}
+use Rattle.frames.proofs.Document03.BlocksAgree.{inner-word-agrees, block-bits}
+use Rattle.frames.proofs.Document03.PassesAgree.{Outcome, one-frame, not-both, restored-mends, uncorrectable-beyond}
+use Rattle.frames.proofs.Document03.ReportsAgree.{count-agrees}
+use Rattle.frames.proofs.Document03.LostSymbolsAgree.{lost-symbols-agree}
+use Rattle.frames.proofs.Document03.StatementsHold.{payload-is, words-frame-agrees, frame-agrees, second-half, reads-back}
+
+-- the number of a refusal
+refused-number : (n : ℕ) (o : List ℕ) (a : Corrected) → refused n o ≡ a → n ≡ a .0
+unfolding refused
+refused-number n o a e = ap (λ (a : Corrected). a .0) e
+
+-- a block of bits, and its bytes
+module _ (block : List ℕ) (long : length block ≡ 130560) (bits : allBits block ≡ true) where
+  abbrev bytes : List ℕ
+  bytes = bytesOf 16320 (at block)
+
+  same : (i : ℕ) → at block i ≡ bitAt bytes i
+  same = block-bits block long bits
+
+  mends : (ws : List (List ℕ)) → Restored (innerPass (bitAt bytes)) ws → Mends block (frameOfWords ws)
+  mends = restored-mends block (bitAt bytes) long same
+
+  one-or-other : ((frame : List ℕ) × Mends block frame) ⊎ Beyond block
+  one-or-other = go (Ours.two-passes .one-or-other bytes)
+    where
+      go : Outcome (innerPass (bitAt bytes)) → ((frame : List ℕ) × Mends block frame) ⊎ Beyond block
+      go (inl (ws, r)) = inl (frameOfWords ws, mends ws r)
+      go (inr (w, l, far)) = inr (uncorrectable-beyond block (bitAt bytes) long same w l far)
+
+  -- demand 3, first half
+  module _ (payload lost : List ℕ) (payload-long : length payload ≡ 15296) (payload-bytes : allBytes payload ≡ true)
+      (beyond : (k : ℕ) → k < 64 → isIn k lost ≡ true → Lost (innerWord k block))
+      (within : (k : ℕ) → k < 64 → isIn k lost ≡ false → apart (innerWord k block) (innerWord k (frameOf payload)) ≤ 8)
+      (few : (w : ℕ) → w < 16 → wrongSymbols (symbolsIn w) 0 w lost block (frameOf payload) ≤ 8) where
+    abbrev frame : List ℕ
+    frame = Frames.frameOf payload
+
+    same-sent : (i : ℕ) → at (frameOf payload) i ≡ bitAt frame i
+    same-sent i = ap (λ (xs : List ℕ). at xs i) (frame-agrees payload payload-long) ∙ bits-at frame i
+
+    lost-beyond : (k : ℕ) → k < 64 → isIn k lost ≡ true → (c : List ℕ) → Inner.isInner c ≡ true → 8 < Places.apart (Frames.innerWord (bitAt bytes) k) c
+    lost-beyond k l t c h =
+        let code : isInner c ≡ true = inner-agrees c ∙ h in
+        let e : innerWord k block ≡ Frames.innerWord (bitAt bytes) k = inner-word-agrees block (bitAt bytes) (λ i l. same i) k l in
+        subst (λ (w : List ℕ). 8 < Places.apart w c) e
+        (far-is (innerWord k block) c (beyond k l t c code) (inner-length c code ∙ sym (ap length e ∙ inner-word-length (bitAt bytes) k)))
+
+    premise : Premise (λ k. isIn k lost) payload bytes
+    premise =
+        record {
+          beyond = lost-beyond;
+          within = λ k l t. subst (λ (n : ℕ). n ≤ 8)
+              (count-agrees block (frameOf payload) bytes frame same same-sent k l ∙ wrong-in bytes frame k) (within k l t);
+          few = λ w l. subst (λ (n : ℕ). n ≤ 8) (lost-symbols-agree lost block (frameOf payload) bytes frame same same-sent w l) (few w l);
+        }
+
+    size : length bytes ≡ 16320
+    size = bytes-length 16320 (at block)
+
+    answer : frameCorrected bytes bytes ≡ (0, wrongCounts bytes frame, wrongBits bytes frame, frame)
+    answer = Ours.demand-3 .first-half (λ k. isIn k lost) payload bytes bytes (payload-is payload payload-long payload-bytes) size size premise
+
+    first-half : Mends block (frameOf payload)
+    first-half = go (Ours.two-passes .one-or-other bytes)
+      where
+        go : Outcome (innerPass (bitAt bytes)) → Mends block (frameOf payload)
+        go (inl (ws, r)) =
+            let e : Frames.frameOfWords ws ≡ frame = ap (λ (a : Corrected). a .3) (sym (Ours.two-passes .corrected bytes bytes ws size size r) ∙ answer) in
+            subst (λ (g : List ℕ). Mends block g)
+            (words-frame-agrees ws (sixteen-words ws (r .sixteen) (r .long)) ∙ ap bitsOf e ∙ sym (frame-agrees payload payload-long)) (mends ws r)
+        go (inr (w, l, far)) = absurd (omega (arith, refused-number 5 bytes _ (sym (Ours.two-passes .uncorrectable bytes bytes w size size l far) ∙ answer)))
+
+pub two-passes : Two-passes
+two-passes =
+    record {
+      one-or-other = one-or-other;
+      one-frame = λ block f g bits. one-frame block f g;
+      not-both = λ block f bits. not-both block f;
+    }
+
+pub demand-3 : Demand-3
+demand-3 =
+    record {
+      first-half = λ payload block lost hp bp hb bits. first-half block hb bits payload lost hp bp;
+      second-half = second-half;
+    }
+
+pub demands : Demands
+demands = record { fields = fields; codes = codes; passes = two-passes; reads-back = reads-back; third = demand-3 }

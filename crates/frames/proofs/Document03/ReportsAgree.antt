@@ -1,0 +1,33 @@
+-- Document 03's report of a corrected block, and its sum, are ours. Assumes nothing.
+use mathlib.Core.Path.{_≡_, refl, sym, ap, ap₂, _∙_}
+use mathlib.Core.List.{List, [], _∷_}
+use Prim.Native.Nat.{ℕ, _+_, _<_}
+use lib.ListN.{length}
+use Rattle.words.specs.Places.{at, bitAt, sumTo}
+use Rattle.words.specs.Places as Places
+use Rattle.words.proofs.Document03.Statements.{apart}
+use Rattle.words.proofs.Document03.WordsAgree.{sum-first, apart-agrees}
+use Rattle.frames.specs.Frames as Frames
+use Rattle.frames.specs.Correction as Correction
+use Rattle.frames.proofs.FrameBits.{inner-word-length}
+use Rattle.frames.proofs.Document03.Statements.{innerWord}
+use Rattle.frames.proofs.Document03.Menders.{reportFrom, reportOf, total}
+use Rattle.frames.proofs.Document03.ListsAgree.{all-agree}
+use Rattle.frames.proofs.Document03.BlocksAgree.{inner-word-agrees}
+
+-- the bits of two blocks, and their bytes
+module _ (block frame b f : List ℕ) (same : (i : ℕ) → at block i ≡ bitAt b i) (same′ : (i : ℕ) → at frame i ≡ bitAt f i) where
+  pub count-agrees : (k : ℕ) → k < 64 →
+      apart (innerWord k block) (innerWord k frame) ≡ Places.apart (Frames.innerWord (bitAt b) k) (Frames.innerWord (bitAt f) k)
+  count-agrees k l =
+      ap₂ apart (inner-word-agrees block (bitAt b) (λ i l. same i) k l) (inner-word-agrees frame (bitAt f) (λ i l. same′ i) k l)
+      ∙ apart-agrees (Frames.innerWord (bitAt b) k) (Frames.innerWord (bitAt f) k) (inner-word-length (bitAt b) k ∙ sym (inner-word-length (bitAt f) k))
+
+  pub report-agrees : reportOf block frame ≡ Correction.reportOf b f
+  unfolding Correction.reportOf
+  report-agrees = all-agree (λ n k. reportFrom n k block frame) (λ k. apart (innerWord k block) (innerWord k frame)) _ 64 (λ k. refl) (λ n k. refl) count-agrees
+
+pub total-agrees : (xs : List ℕ) → total xs ≡ Correction.total xs
+unfolding Correction.total sumTo
+total-agrees [] = refl
+total-agrees (x ∷ xs) = ap (λ (n : ℕ). x + n) (total-agrees xs) ∙ sym (sum-first (length xs) (at (x ∷ xs)))

@@ -1,0 +1,194 @@
+-- The outer pass: the outer words of the row, one after the other, become the permitted code words near them. Assumes nothing.
+use mathlib.Core.Path.{_≡_, refl, sym, ap, _∙_}
+use mathlib.Core.Bool.{Bool, true, false, not, cond}
+use mathlib.Core.List.{List}
+use mathlib.Core.Option.{Option, none, some}
+use Prim.Native.Nat.{ℕ, _+_, _-_, _*_, _≤_, _<_, zero-le}
+use native.Mathlib.Decide.{ℕ-discrete, decLt}
+use native.Mathlib.Nat.{le-refl, not-suc-le-zero}
+use native.Mathlib.Omega.{arith}
+use borrow.Author.Tests.{eq-eqb, le-leb, le-ltb, lt-ltb, not-true, not-false}
+use lib.Bits.{bitAnd, and-mask}
+use lib.Dec.{eqb}
+use lib.ListN.{length, take, drop}
+use lib.Seq.{length-take-le}
+use Rattle.fields.proofs.Lists.{tabulate-is, tabulate-same}
+use Rattle.words.specs.Places.{at, allBelow}
+use Rattle.words.specs.OuterCode.{isOuter}
+use Rattle.words.specs.Nearest.{nearest}
+use Rattle.words.specs.Answers.{refusal, within, found, corrected, outerCorrected, refusalOf, changedOf}
+use Rattle.words.specs.declared.Correction.{Correction}
+use Rattle.words.specs.declared.Correction.the-variants.{Corrected, Refused}
+use Rattle.words.proofs.Codes.Proved.{codes}
+use Rattle.frames.specs.Frames.{dataIn}
+use Rattle.frames.specs.Correction.{isPadded, isPermitted}
+use Rattle.frames.specs.Symbols.{Placed, rowWord}
+use Rattle.frames.specs.Passes.{provided, WordRestored, rowWords, rowRestored}
+use Rattle.frames.proofs.FrameBits.{dataIn-le, dataIn-is}
+use Rattle.frames.proofs.Differences.{apart-self, apart-none}
+use Rattle.frames.proofs.Options.{every-some, every-missing}
+use Rattle.frames.proofs.Permitted.{permitted-none, permitted-some, permitted-not}
+use Rattle.frames.proofs.RowWords.{word-length, word-below, row-word-part, part-is, word-tested}
+
+-- ---- padding bits
+
+pub padded-first : (w : ℕ) (c : List ℕ) → w < 15 → true ≡ isPadded w c
+unfolding isPadded
+padded-first w c l = rw (lt-ltb w 15 l)
+
+pub padded-last : (w : ℕ) (c : List ℕ) (s : ℕ) → 15 ≤ w → s ≡ at c 761 → eqb (bitAnd s 3) 0 ≡ isPadded w c
+unfolding isPadded
+padded-last w c s g e = rw (le-ltb w 15 g, and-mask s 2, e)
+
+-- ---- one word
+
+-- the space for word w; and a list as long as that has room in the word's place
+pub space-long : (w n : ℕ) (space : List ℕ) → n ≡ dataIn w → length space ≡ 781 → length (take (781 * w + n + 16 - 781 * w - 0) space) ≡ dataIn w + 16
+space-long w n space e long =
+    let m : 781 * w + n + 16 - 781 * w - 0 ≡ dataIn w + 16 = omega arith in
+    rw m (length-take-le (dataIn w + 16) space (omega (arith, dataIn-le w)))
+
+pub word-room : (row : List ℕ) (w : ℕ) (word after : List ℕ) → w < 16 → length row ≡ 12496 → length word ≡ dataIn w + 16 → length after ≡ length word →
+    781 * w + length after ≤ length row
+word-room row w word after h long e same = omega (arith, dataIn-le w)
+
+-- word w stays as it is
+word-kept : (w : ℕ) (row : List ℕ) (r : Bool) → provided r (rowWord row w) ≡ nearest (isPermitted w) 1024 8 (rowWord row w) → WordRestored w row row r
+word-kept w row r e = record { long = refl; word = e; others = λ v l n. refl }
+
+word-short : (row : List ℕ) (w : ℕ) → length (rowWord row w) ≤ 1023
+word-short row w = omega (arith, word-length row w, dataIn-le w)
+
+-- the permitted code word near a code word is that word, if it is padded
+code-nearest : (w : ℕ) (u : List ℕ) (r : Bool) → length u ≤ 1023 → isOuter u ≡ true → r ≡ isPadded w u → provided r u ≡ nearest (isPermitted w) 1024 8 u
+unfolding provided
+code-nearest w u r short h e = go r e
+  where
+    self : nearest isOuter 1024 8 u ≡ some u
+    self = codes .outer-nearest (length u) short .complete u u refl refl h (omega (arith, apart-self u))
+
+    go : (r : Bool) → r ≡ isPadded w u → cond r (some u) none ≡ nearest (isPermitted w) 1024 8 u
+    go true p = sym (permitted-some w u short u self (sym p))
+    go false p = sym (permitted-not w u short u self (sym p))
+
+module _ (row : List ℕ) (long : length row ≡ 12496) (w n : ℕ) (h : w < 16) (e : n ≡ dataIn w) (t : Bool)
+    (test : t ≡ isOuter (take (781 * w + n + 16 - 781 * w) (drop (781 * w) row))) where
+  pub code-kept : t ≡ true → (r : Bool) → r ≡ isPadded w (take (781 * w + n + 16 - 781 * w) (drop (781 * w) row)) → WordRestored w row row r
+  code-kept is-code r p =
+      let code : isOuter (rowWord row w) ≡ true = sym (word-tested row long w n h e t test) ∙ is-code in
+      word-kept w row r (code-nearest w (rowWord row w) r (word-short row w) code (p ∙ ap (isPadded w) (part-is row long w n h e)))
+
+  pub no-code : t ≡ false → isOuter (rowWord row w) ≡ false
+  no-code f = sym (word-tested row long w n h e t test) ∙ f
+
+-- the part of the row that is lent for correction is word w, and is not refused
+module _ (row : List ℕ) (long : length row ≡ 12496) (w : ℕ) (h : w < 16) (word : List ℕ) (fits : length word ≡ dataIn w + 16)
+    (below : allBelow 1024 (rowWord row w) ≡ true) where
+  abbrev lent : List ℕ
+  lent = take (781 * w + length word - 781 * w) (drop (781 * w) row)
+
+  abbrev u : List ℕ
+  u = rowWord row w
+
+  answer : outerCorrected lent word ≡ found (λ c. c) u word (nearest isOuter 1024 8 u)
+  unfolding outerCorrected corrected refusal within
+  answer =
+      let same : lent ≡ u = row-word-part row w (781 * w + length word - 781 * w) long h (omega arith) in
+      let least : 17 ≤ length u = omega (arith, word-length row w, dataIn-is w h) in
+      rw (same, le-leb 17 (length u) least, le-leb (length u) 1023 (word-short row w), eq-eqb (length word) (length u) (fits ∙ sym (word-length row w)), below)
+
+  module _ (r : Correction) (after : List ℕ) (told : _≡_ {A = ℕ × ℕ × List ℕ} (refusalOf r, changedOf r, after) (outerCorrected lent word)) (k : ℕ) where
+    -- what is told, if o is the nearest code word or none
+    abbrev Told : ℕ → ℕ → Option (List ℕ) → Type 0
+    Told number changed o = _≡_ {A = ℕ × ℕ × List ℕ} (number, changed, after) (found (λ c. c) u word o)
+
+    -- had a code word been found, it would differ from u, which is none, and `changed` would not be 0
+    outer-lost : r ≡ Refused k → isOuter u ≡ false → nearest isOuter 1024 8 u ≡ none
+    unfolding found
+    outer-lost e f = go (nearest isOuter 1024 8 u) refl (rw e at told ∙ answer)
+      where
+        go : (o : Option (List ℕ)) → nearest isOuter 1024 8 u ≡ o → Told k 0 o → o ≡ none
+        go none q t = refl
+        go (some c) q t =
+            let s = codes .outer-nearest (length u) (word-short row w) .sound u c refl q in
+            let same : u ≡ c = apart-none u c (sym (s .0)) (sym (ap (λ (a : ℕ × ℕ × List ℕ). a .1) t)) in
+            let code : isOuter c ≡ true = s .1 in
+            let z : _≡_ {A = ℕ} 0 1 = cc in
+            absurd (omega arith)
+
+    pub restored-none : r ≡ Refused k → isOuter u ≡ false → WordRestored w row row false
+    unfolding provided
+    restored-none e f = word-kept w row false (sym (permitted-none w u (word-short row w) (outer-lost e f)))
+
+    module _ (e : r ≡ Corrected k) (t : Bool) (test : t ≡ isPadded w after) where
+      outer-found : nearest isOuter 1024 8 u ≡ some after
+      unfolding found
+      outer-found = go (nearest isOuter 1024 8 u) (rw e at told ∙ answer)
+        where
+          go : (o : Option (List ℕ)) → Told 0 k o → o ≡ some after
+          go none t = let z : _≡_ {A = ℕ} 0 5 = ap (λ (a : ℕ × ℕ × List ℕ). a .0) t in absurd (omega arith)
+          go (some c) t = ap some (sym (ap (λ (a : ℕ × ℕ × List ℕ). a .2) t))
+
+      pub restored-not : not t ≡ true → WordRestored w row row false
+      unfolding provided
+      restored-not f = word-kept w row false (sym (permitted-not w u (word-short row w) after outer-found (sym test ∙ not-true t f)))
+
+      after-long : length after ≡ dataIn w + 16
+      after-long = codes .outer-nearest (length u) (word-short row w) .sound u after refl outer-found .0 ∙ word-length row w
+
+      pub restored-word : not t ≡ false → (next : List ℕ) → Placed (781 * w) after row next → WordRestored w row next true
+      unfolding provided rowWord
+      restored-word f next p =
+          record {
+            long = p .long;
+            word = ap some (sym (tabulate-is (dataIn w + 16) _ after 0 after-long (λ s l. sym (p .inside s (omega (arith, after-long))))))
+                ∙ sym (permitted-some w u (word-short row w) after outer-found (sym test ∙ not-false t f));
+            others = λ v l n. tabulate-same (dataIn v + 16) _ _ (λ s m. go v s n m (decLt v w));
+          }
+        where
+          go : (v s : ℕ) → (v ≡ w → ⊥) → s < dataIn v + 16 → Dec (v < w) → at next (781 * v + s) ≡ at row (781 * v + s)
+          go v s n m (yes l) = p .below (781 * v + s) (omega (arith, dataIn-le v))
+          go v s n m (no g) = p .above (781 * v + s) (omega (arith, dataIn-le w, after-long))
+
+-- ---- all words
+
+-- the invariant: the first w words are restored, the others as they were
+pub record Restoring (before : List ℕ) (w : ℕ) (row : List ℕ) : Type 0 where
+  pub long : length row ≡ 12496
+  pub within : w ≤ 16
+  pub done : (v : ℕ) → v < w → nearest (isPermitted v) 1024 8 (rowWord before v) ≡ some (rowWord row v)
+  pub ahead : (v : ℕ) → w ≤ v → v < 16 → rowWord row v ≡ rowWord before v
+
+pub restoring-start : {row : List ℕ} → length row ≡ 12496 → Restoring row 0 row
+restoring-start e = record { long = e; within = zero-le; done = λ v h. absurd (not-suc-le-zero h); ahead = λ v g h. refl }
+
+module _ {before : List ℕ} {w : ℕ} {row : List ℕ} (so-far : Restoring before w row) (h : w < 16) where
+  pub restoring-below : allBelow 1024 before ≡ true → allBelow 1024 (rowWord row w) ≡ true
+  restoring-below b = rw (so-far .ahead w (le-refl w) h) (word-below before w b)
+
+  module _ {after : List ℕ} {t : Bool} (r : WordRestored w row after t) where
+    near : nearest (isPermitted w) 1024 8 (rowWord before w) ≡ provided t (rowWord after w)
+    near = ap (nearest (isPermitted w) 1024 8) (sym (so-far .ahead w (le-refl w) h)) ∙ sym (r .word)
+
+    pub restoring-next : not t ≡ false → Restoring before (w + 1) after
+    unfolding provided
+    restoring-next f =
+        record {
+          long = r .long ∙ so-far .long;
+          within = omega arith;
+          done = λ v l. go v l (ℕ-discrete v w);
+          ahead = λ v g l. r .others v l (λ q. omega arith) ∙ so-far .ahead v (omega arith) l;
+        }
+      where
+        go : (v : ℕ) → v < w + 1 → Dec (v ≡ w) → nearest (isPermitted v) 1024 8 (rowWord before v) ≡ some (rowWord after v)
+        go v l (yes q) = rw (q, near, not-false t f)
+        go v l (no q) = so-far .done v (omega arith) ∙ ap some (sym (r .others v (omega arith) q))
+
+    pub restoring-not : not t ≡ true → provided false (rowWords after) ≡ rowRestored before
+    unfolding provided rowRestored
+    restoring-not f =
+        sym (every-missing 16 _ w h (near ∙ ap (λ (b : Bool). provided b (rowWord after w)) (not-true t f)))
+
+pub restoring-end : {before : List ℕ} {w : ℕ} {row : List ℕ} → Restoring before w row → 16 ≤ w → provided true (rowWords row) ≡ rowRestored before
+unfolding provided rowRestored rowWords
+restoring-end {before} {w} {row} r g = sym (every-some 16 _ (rowWord row) (λ v l. r .done v (omega arith)))

@@ -1,0 +1,55 @@
+-- `frames::comparison::counts` meets its contract. Assumes nothing.
+use Prim.Native.Nat.{_-_, _≤_}
+use borrow.Author.Needs.{needs}
+use Rattle.frames.proofs.ReportCounts.{Counting, counting-start, counting-few, counting-next, counting-end}
+use Rattle.frames.proofs.comparison.counts.Statement.{statement}
+use Rattle.frames.proofs.comparison.counts.Tie as tie
+
+abbrev Inv-loop : tie.InvT-loop
+Inv-loop block frame counts₀ p₀ counts p = (p ≤ 2040) × Counting block frame p counts
+
+abbrev μ-loop : tie.MeasureT-loop
+μ-loop block frame counts₀ p₀ counts p = 2040 - p
+
+loop-holds : tie.Need-loop-holds Inv-loop μ-loop
+loop-holds c = search (needs, counting-start)
+
+slice-aggregate-count : tie.Need-slice-aggregate-count Inv-loop μ-loop
+slice-aggregate-count c = search needs
+
+place-requires : tie.Need-place-requires Inv-loop μ-loop
+place-requires c κs = search needs
+
+place-requires-2 : tie.Need-place-requires-2 Inv-loop μ-loop
+place-requires-2 c κs = search needs
+
+count-requires : tie.Need-count-requires Inv-loop μ-loop
+count-requires c κs = search (needs, counting-few)
+
+add-p : tie.Need-add-p Inv-loop μ-loop
+add-p c = search needs
+
+loop-less : tie.Need-loop-less Inv-loop μ-loop
+loop-less c = search needs
+
+loop-again : tie.Need-loop-again Inv-loop μ-loop
+loop-again c = search (needs, counting-next)
+
+returns : tie.Need-returns Inv-loop μ-loop
+returns c = search (needs, counting-end)
+
+pub counts-spec : {M : Type 1} → statement M
+counts-spec =
+    tie.close
+    (tie.spec
+    Inv-loop
+    μ-loop
+    loop-holds
+    slice-aggregate-count
+    place-requires
+    place-requires-2
+    count-requires
+    add-p
+    loop-less
+    loop-again
+    returns)

@@ -1,0 +1,31 @@
+-- `frames::inner_words::correct_wrong` meets its contract. Assumes nothing.
+use borrow.Author.Needs.{needs}
+use Rattle.frames.proofs.InnerPass.{right-stays}
+use Rattle.frames.proofs.inner_words.correct_wrong.Statement.{statement}
+use Rattle.frames.proofs.inner_words.correct_wrong.Tie as tie
+
+sub-if1 : tie.Need-sub-if1
+sub-if1 c = search needs
+
+sub-if1-2 : tie.Need-sub-if1-2
+sub-if1-2 c = search needs
+
+shr-if1 : tie.Need-shr-if1
+shr-if1 c = search needs
+
+correct-word-requires : tie.Need-correct-word-requires
+correct-word-requires c κs = search needs
+
+same-length : tie.Need-same-length
+same-length c = search needs
+
+returns : tie.Need-returns
+returns c = search needs
+
+returns-2 : tie.Need-returns-2
+returns-2 c = search (needs, right-stays)
+
+pub correct-wrong-spec : {M : Type 1} → statement M
+correct-wrong-spec =
+    tie.close
+    (tie.spec sub-if1 sub-if1-2 shr-if1 correct-word-requires same-length returns returns-2)

@@ -1,0 +1,73 @@
+-- `frames::outer_words::correct` meets its contract. Assumes nothing.
+use mathlib.Core.Path.{_≡_}
+use Prim.Native.Nat.{_-_}
+use borrow.Author.Needs.{needs}
+use Rattle.words.specs.Division.{multiples}
+use Rattle.frames.proofs.OuterPass.{Restoring, restoring-start, restoring-below, restoring-next, restoring-not, restoring-end}
+use Rattle.frames.proofs.outer_words.correct.Statement.{statement}
+use Rattle.frames.proofs.outer_words.correct.Tie as tie
+
+abbrev Inv-loop : tie.InvT-loop
+Inv-loop row₀ low high w₀ row w = (low ≡ multiples 1) × (high ≡ multiples 32) × Restoring row₀ w row
+
+abbrev μ-loop : tie.MeasureT-loop
+μ-loop row₀ low high w₀ row w = 16 - w
+
+low-multiples-requires : tie.Need-low-multiples-requires Inv-loop μ-loop
+low-multiples-requires c κs = search needs
+
+high-multiples-requires : tie.Need-high-multiples-requires Inv-loop μ-loop
+high-multiples-requires c κs = search needs
+
+loop-holds : tie.Need-loop-holds Inv-loop μ-loop
+loop-holds c = search (needs, restoring-start)
+
+slice-aggregate-correct-word : tie.Need-slice-aggregate-correct-word Inv-loop μ-loop
+slice-aggregate-correct-word c = search needs
+
+slice-aggregate-correct-word-2 : tie.Need-slice-aggregate-correct-word-2 Inv-loop μ-loop
+slice-aggregate-correct-word-2 c = search needs
+
+correct-word-requires : tie.Need-correct-word-requires Inv-loop μ-loop
+correct-word-requires c κs = search (needs, restoring-below)
+
+same-length : tie.Need-same-length Inv-loop μ-loop
+same-length c = search needs
+
+returns : tie.Need-returns Inv-loop μ-loop
+returns c = search (needs, restoring-not)
+
+add-w : tie.Need-add-w Inv-loop μ-loop
+add-w c = search needs
+
+loop-less : tie.Need-loop-less Inv-loop μ-loop
+loop-less c = search needs
+
+loop-again : tie.Need-loop-again Inv-loop μ-loop
+loop-again c = search (needs, restoring-next)
+
+same-length-2 : tie.Need-same-length-2 Inv-loop μ-loop
+same-length-2 c = search needs
+
+returns-2 : tie.Need-returns-2 Inv-loop μ-loop
+returns-2 c = search (needs, restoring-end)
+
+pub correct-spec : {M : Type 1} → statement M
+correct-spec =
+    tie.close
+    (tie.spec
+    Inv-loop
+    μ-loop
+    low-multiples-requires
+    high-multiples-requires
+    loop-holds
+    slice-aggregate-correct-word
+    slice-aggregate-correct-word-2
+    correct-word-requires
+    same-length
+    returns
+    add-w
+    loop-less
+    loop-again
+    same-length-2
+    returns-2)

@@ -1,0 +1,107 @@
+-- `frames::outer_words::correct_word` meets its contract. Assumes nothing.
+use borrow.Author.Needs.{needs}
+use Rattle.frames.proofs.RowWords.{part-least, part-most, part-below}
+use Rattle.frames.proofs.OuterPass.{space-long, code-kept, no-code}
+use Rattle.frames.proofs.outer_words.correct_word.Statement.{statement}
+use Rattle.frames.proofs.outer_words.correct_word.Tie as tie
+
+mul-from : tie.Need-mul-from
+mul-from c = search needs
+
+data-in-requires : tie.Need-data-in-requires
+data-in-requires c κs = search needs
+
+add-end : tie.Need-add-end
+add-end c = search needs
+
+add-end-2 : tie.Need-add-end-2
+add-end-2 c = search needs
+
+mul-is-code-word : tie.Need-mul-is-code-word
+mul-is-code-word c = search needs
+
+sub-is-code-word : tie.Need-sub-is-code-word
+sub-is-code-word c = search needs
+
+part-is-code-word-start : tie.Need-part-is-code-word-start
+part-is-code-word-start c = search needs
+
+part-is-code-word-end : tie.Need-part-is-code-word-end
+part-is-code-word-end c = search needs
+
+is-code-word-requires : tie.Need-is-code-word-requires
+is-code-word-requires c κs = search (needs, part-least, part-most, part-below)
+
+mul-is-padded : tie.Need-mul-is-padded
+mul-is-padded c = search needs
+
+sub-is-padded : tie.Need-sub-is-padded
+sub-is-padded c = search needs
+
+part-is-padded-start : tie.Need-part-is-padded-start
+part-is-padded-start c = search needs
+
+part-is-padded-end : tie.Need-part-is-padded-end
+part-is-padded-end c = search needs
+
+is-padded-requires : tie.Need-is-padded-requires
+is-padded-requires c κs = search needs
+
+same-length : tie.Need-same-length
+same-length c = search needs
+
+returns : tie.Need-returns
+returns c = search (needs, code-kept)
+
+blank-word-requires : tie.Need-blank-word-requires
+blank-word-requires c κs = search needs
+
+sub-restore : tie.Need-sub-restore
+sub-restore c = search needs
+
+sub-restore-2 : tie.Need-sub-restore-2
+sub-restore-2 c = search needs
+
+part-word-start : tie.Need-part-word-start
+part-word-start c = search needs
+
+part-word-end : tie.Need-part-word-end
+part-word-end c = search needs
+
+restore-requires : tie.Need-restore-requires
+restore-requires c κs = search (needs, space-long, no-code)
+
+same-length-2 : tie.Need-same-length-2
+same-length-2 c = search needs
+
+returns-2 : tie.Need-returns-2
+returns-2 c = search needs
+
+pub correct-word-spec : {M : Type 1} → statement M
+correct-word-spec =
+    tie.close
+    (tie.spec
+    mul-from
+    data-in-requires
+    add-end
+    add-end-2
+    mul-is-code-word
+    sub-is-code-word
+    part-is-code-word-start
+    part-is-code-word-end
+    is-code-word-requires
+    mul-is-padded
+    sub-is-padded
+    part-is-padded-start
+    part-is-padded-end
+    is-padded-requires
+    same-length
+    returns
+    blank-word-requires
+    sub-restore
+    sub-restore-2
+    part-word-start
+    part-word-end
+    restore-requires
+    same-length-2
+    returns-2)

@@ -1,0 +1,67 @@
+-- Correction ("mending") of a received block: the inner pass, the outer pass on its result, the restored frame, and the report. Bits are a function b, as
+-- in Frames.
+use mathlib.Core.Bool.{Bool, _&&_, _||_, cond}
+use mathlib.Core.List.{List, [], _∷_}
+use mathlib.Core.Option.{Option, none, some, Option·getD, Option·map}
+use Prim.Native.Nat.{ℕ, _+_, _-_, _*_, _/_, _%_}
+use lib.Dec.{eqb, ltb}
+use lib.ListN.{length}
+use Rattle.fields.specs.Lists.{tabulate}
+use Rattle.words.specs.Places.{at, bitAt, sumTo, apart}
+use Rattle.words.specs.OuterCode.{isOuter}
+use Rattle.words.specs.InnerCode.{isInner}
+use Rattle.words.specs.Nearest.{nearest}
+use Rattle.frames.specs.Frames.{dataIn, symbolAt, innerWord, frameOfWords}
+
+-- inner pass: a word with an inner code word within eight places becomes that code word; any other is left as received
+unfoldable pub innerRestored : List ℕ → List ℕ
+innerRestored w = Option·getD (nearest isInner 2 8 w) w
+
+unfoldable pub innerPass : (ℕ → ℕ) → ℕ → ℕ
+innerPass b i = at (innerRestored (innerWord b (i % 64))) (i / 64)
+
+-- bit r of the row of outer words; the two padding bits, which are not sent, count as zeros
+unfoldable pub receivedBit : (ℕ → ℕ) → ℕ → ℕ
+receivedBit b r = cond (ltb r 124768) (b r) (cond (ltb r 124770) 0 (b (r - 2)))
+
+-- symbol t of the row; and outer word w, whose symbols stand in the row from 781 w on
+unfoldable pub receivedSymbol : (ℕ → ℕ) → ℕ → ℕ
+receivedSymbol b t = symbolAt (receivedBit b) (10 * t)
+
+unfoldable pub receivedWord : (ℕ → ℕ) → ℕ → List ℕ
+receivedWord b w = tabulate (dataIn w + 16) (λ s. receivedSymbol b (781 * w + s))
+
+-- word 15 may become only a code word whose padding bits, the two low bits of its last data symbol, are zeros
+unfoldable pub isPadded : ℕ → List ℕ → Bool
+isPadded w c = ltb w 15 || eqb (at c 761 % 4) 0
+
+unfoldable pub isPermitted : ℕ → List ℕ → Bool
+isPermitted w c = isOuter c && isPadded w c
+
+-- all answers of a list; none, if one is missing
+unfoldable pub consTo : {A : Type 0} → Option A → Option (List A) → Option (List A)
+consTo none rest = none
+consTo (some a) none = none
+consTo (some a) (some rest) = some (a ∷ rest)
+
+unfoldable pub everyOf : {A : Type 0} → List (Option A) → Option (List A)
+everyOf [] = some []
+everyOf (o ∷ os) = consTo o (everyOf os)
+
+-- outer pass: each word becomes the permitted code word within eight symbols; none, if some word has none
+unfoldable pub outerRestored : (ℕ → ℕ) → ℕ → Option (List ℕ)
+outerRestored b w = nearest (isPermitted w) 1024 8 (receivedWord b w)
+
+unfoldable pub outerPass : (ℕ → ℕ) → Option (List (List ℕ))
+outerPass b = everyOf (tabulate 16 (outerRestored b))
+
+-- the frame of the restored words, with parity bits made afresh; none, if the block is uncorrectable ("beyond reach")
+unfoldable pub restoredFrame : List ℕ → Option (List ℕ)
+restoredFrame block = Option·map frameOfWords (outerPass (innerPass (bitAt block)))
+
+-- the report: for each inner word the number of places where received block and restored frame differ, and their sum
+unfoldable pub reportOf : List ℕ → List ℕ → List ℕ
+reportOf block frame = tabulate 64 (λ k. apart (innerWord (bitAt block) k) (innerWord (bitAt frame) k))
+
+unfoldable pub total : List ℕ → ℕ
+total counts = sumTo (length counts) (at counts)

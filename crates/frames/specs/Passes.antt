@@ -1,0 +1,63 @@
+-- What the functions give that correct a block: its inner words one by one, the outer words of its row, and the report.
+use mathlib.Core.Path.{_≡_}
+use mathlib.Core.Bool.{Bool, cond}
+use mathlib.Core.List.{List}
+use mathlib.Core.Option.{Option, none, some}
+use Prim.Native.Nat.{ℕ, _+_, _*_, _%_, _<_}
+use lib.ListN.{length}
+use Rattle.fields.specs.Lists.{tabulate}
+use Rattle.words.specs.Places.{at, bitOf, numberOf, bitAt}
+use Rattle.words.specs.InnerCode.{isInner}
+use Rattle.words.specs.Nearest.{nearest}
+use Rattle.frames.specs.Frames.{innerWord}
+use Rattle.frames.specs.Correction.{innerPass, isPermitted, everyOf}
+use Rattle.frames.specs.Symbols.{rowWord}
+
+-- ---- inner words
+
+-- bit k of the number, the highest of 64 first, is 1 where inner word k is no code word
+unfoldable pub wrongWords : (ℕ → ℕ) → ℕ
+wrongWords b = numberOf 64 (λ k. cond (isInner (innerWord b k)) 0 1)
+
+-- inner word k of a block, as bytes; and byte j of it
+unfoldable pub wordByte : List ℕ → ℕ → ℕ → ℕ
+wordByte block k j = numberOf 8 (λ i. bitAt block (64 * (8 * j + i) + k))
+
+unfoldable pub wordBytes : List ℕ → ℕ → List ℕ
+wordBytes block k = tabulate 255 (wordByte block k)
+
+-- inner word k has the places c 0, c 1, .., and the other inner words are as they were
+pub record WordPut (k : ℕ) (c : ℕ → ℕ) (before after : List ℕ) : Type 0 where
+  pub long : length after ≡ length before
+  pub inside : (p : ℕ) → p < 2040 → bitAt after (64 * p + k) ≡ c p
+  pub others : (i : ℕ) → i < 130560 → (i % 64 ≡ k → ⊥) → bitAt after i ≡ bitAt before i
+
+-- the inner pass over a block
+pub record InnerPassed (before after : List ℕ) : Type 0 where
+  pub long : length after ≡ length before
+  pub bits : (i : ℕ) → i < 130560 → bitAt after i ≡ innerPass (bitAt before) i
+
+-- ---- outer words
+
+-- the answer x, if the test holds
+unfoldable pub provided : {A : Type 0} → Bool → A → Option A
+provided test x = cond test (some x) none
+
+-- outer word w of a row becomes the permitted code word within eight symbols, if there is one, and the other words are as they were
+pub record WordRestored (w : ℕ) (before after : List ℕ) (r : Bool) : Type 0 where
+  pub long : length after ≡ length before
+  pub word : provided r (rowWord after w) ≡ nearest (isPermitted w) 1024 8 (rowWord before w)
+  pub others : (v : ℕ) → v < 16 → (v ≡ w → ⊥) → rowWord after v ≡ rowWord before v
+
+-- the sixteen words of a row; and what the outer pass makes of them
+unfoldable pub rowWords : List ℕ → List (List ℕ)
+rowWords row = tabulate 16 (rowWord row)
+
+unfoldable pub rowRestored : List ℕ → Option (List (List ℕ))
+rowRestored row = everyOf (tabulate 16 (λ w. nearest (isPermitted w) 1024 8 (rowWord row w)))
+
+-- ---- the report
+
+-- the counts, with one place of every inner word counted: bit k of x, the highest of 64 first, is that of inner word k
+unfoldable pub counted : List ℕ → ℕ → List ℕ
+counted counts x = tabulate 64 (λ k. at counts k + bitOf 64 x k)

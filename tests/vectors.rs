@@ -1,7 +1,8 @@
 // The rows of crates/acceptance, computed a second time from documents 01 and 002 alone, by other means than the library's: products without
 // tables, values as sums of powers, long division over a list of coefficients, least polynomials as products over the conjugates. What a correction
 // gives comes from how the word was made: up to eight errors are taken away. Where there are nine, a decoder of another kind (Peterson, Gorenstein and
-// Zierler: systems of linear equations for locators and values) tells whether a code word is within eight; it must agree on all other words too.
+// Zierler: systems of linear equations for locators and values) tells whether a code word is within eight; it must agree on all other words too. Frames are
+// corrected by that decoder, word by word; where the sent frame is promised, it must come out.
 
 // The field of 2^m elements from the polynomial p.
 struct Field {
@@ -338,6 +339,51 @@ fn extract_payload(block: &[u32], out: &mut Vec<u32>) -> u32 {
     }
 }
 
+// The frame that the two passes restore: each inner word with a code word within eight becomes that; then the outer words do, and the frame is made
+// afresh of their data. None where an outer word has no code word within eight, or the last one's has padding bits that are not zero.
+fn restored(block: &[u32]) -> Option<Vec<u32>> {
+    let mut rest = bits(block);
+    for k in 0..64 {
+        let word: Vec<u32> = rest.iter().copied().skip(k).step_by(64).collect();
+        if let Some(c) = nearest_inner(&bytes(&word)) {
+            for (p, x) in bits(&c).into_iter().enumerate() {
+                rest[64 * p + k] = x;
+            }
+        }
+    }
+    let mut own = Vec::new();
+    for w in 0..16 {
+        let mut word: Vec<u32> = rest.drain(..if w < 15 { 7810 } else { 7778 }).collect();
+        if w == 15 {
+            word.splice(7618..7618, [0, 0]);
+        }
+        let mut word = symbol_bits(&nearest_outer(&symbols(&word))?);
+        word.truncate(word.len() - 160);
+        if w == 15 && word.split_off(7618) != [0, 0] {
+            return None;
+        }
+        own.extend(word);
+    }
+    Some(frame(&bytes(&own)))
+}
+
+// Number, report and buffer.
+fn correct_frame(block: &[u32], out: &mut Vec<u32>) -> (u32, Vec<u32>) {
+    let mut counts = vec![0; 64];
+    if block.len() != 16_320 {
+        return (2, counts);
+    }
+    if out.len() != 16_320 {
+        return (3, counts);
+    }
+    let Some(frame) = restored(block) else { return (5, counts) };
+    for (i, (x, y)) in bits(block).into_iter().zip(bits(&frame)).enumerate() {
+        counts[i % 64] += x ^ y;
+    }
+    *out = frame;
+    (0, counts)
+}
+
 // ---- rows
 
 fn corrected(name: &str, n: usize, number: u32, changed: usize, same: bool) {
@@ -421,6 +467,26 @@ fn there_and_back(name: &str, n: usize, payload: &[u32]) {
     digested(&format!("extract, {name}"), n, extract_payload, &sent, 15_296);
     assert!(crate::payload(&sent) == payload);
     println!("payload, {name} {n}: {}", digest(payload));
+}
+
+// A correction with a buffer of nines: number, sum, the counts' digest, the buffer's, and how many nines are in it afterwards.
+fn correction_row(name: &str, block: &[u32], space: usize) -> Vec<u32> {
+    let mut out = vec![9; space];
+    let (number, counts) = correct_frame(block, &mut out);
+    let nines = out.iter().filter(|x| **x == 9).count();
+    println!("{name}: {number} {} {} {} {nines}", counts.iter().sum::<u32>(), digest(&counts), digest(&out));
+    out
+}
+
+// A frame of which `count` bits are inverted. Where the damage is one that document 01 promises to mend, the sent frame must come back.
+fn damaged(name: &str, payload: &[u32], (first, step, count): (usize, usize, usize), promised: bool) {
+    let sent = frame(payload);
+    let mut block = bits(&sent);
+    for j in 0..count {
+        block[(first + step * j) % 130_560] ^= 1;
+    }
+    let out = correction_row(&format!("correct, {name}, bits {count}, from {first}, apart {step}"), &bytes(&block), 16_320);
+    assert!((out == sent) == promised);
 }
 
 fn with(n: usize, places: &[(usize, u32)]) -> Vec<u32> {
@@ -539,5 +605,40 @@ fn main() {
     }
     for n in [0, 15_295, 15_297] {
         digested("extract, all bits set, buffer of", n, extract_payload, &[255; 16_320], n);
+    }
+    for (damage, promised) in [
+        ((0, 1, 0), true),
+        ((0, 1, 1), true),
+        ((130_559, 1, 1), true),
+        ((0, 64, 8), true),
+        ((0, 1, 512), true),
+        ((0, 1, 513), false),
+        ((0, 12_800, 9), true),
+        ((0, 1, 130_560), false),
+    ] {
+        damaged("zeros", &[0; 15_296], damage, promised);
+    }
+    let counted: Vec<u32> = (0..15_296).map(|i| i % 251).collect();
+    for (damage, promised) in [
+        ((0, 1, 0), true),
+        ((5, 255, 512), true),
+        ((5, 191, 576), false),
+        ((129_984, 64, 9), true),
+        ((3, 1008, 124), true),
+        ((3, 976, 128), false),
+    ] {
+        damaged("bytes counted", &counted, damage, promised);
+    }
+    for (value, name, n, space) in [
+        (0, "zeros", 0, 0),
+        (0, "zeros", 16_319, 16_319),
+        (0, "zeros", 16_321, 16_320),
+        (0, "zeros", 16_320, 0),
+        (0, "zeros", 16_320, 16_319),
+        (0, "zeros", 16_320, 16_321),
+        (255, "all bits set", 16_320, 16_321),
+        (255, "all bits set", 16_320, 16_320),
+    ] {
+        correction_row(&format!("correct, {name}, length {n}, buffer of {space}"), &vec![value; n], space);
     }
 }

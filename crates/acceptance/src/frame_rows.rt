@@ -7,7 +7,7 @@ use crate::wide;
 use crate::widened;
 
 // A number that tells lists of bytes apart.
-fn digest(bytes: &[u8]) -> u64 {
+pub(crate) fn digest(bytes: &[u8]) -> u64 {
     let mut h: u64 = 0;
     let mut i = 0;
     while i < bytes.len() {
@@ -46,7 +46,7 @@ fn there_and_back(name: &[u8], n: usize, payload: &[u8]) {
     text(b"\n");
 }
 
-fn count(bytes: &mut [u8]) {
+pub(crate) fn count(bytes: &mut [u8]) {
     let mut i: usize = 0;
     while i < bytes.len() {
         bytes[i] = (i % 251) as u8;

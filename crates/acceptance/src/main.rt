@@ -1,14 +1,15 @@
-// The rows of document 01 that are run by a program, but for the correction of frames: single words with their parity, words with errors corrected, and
-// frames (module frame_rows). A line names the row and gives its result: 0 or the refusal's number; for a correction then how many symbols or places it
+// The rows of document 01 that are run by a program: single words with their parity, words with errors corrected, frames (module frame_rows) and their
+// correction (module correction_rows). A line names the row and gives its result: 0 or the refusal's number; for a correction then how many symbols or places it
 // changed, and 1 if the buffer has the sent word. `stdout` is what tests/vectors.rs computes from the documents; words written out here are printed too, so
 // that it holds them as well.
 ghost use mathlib.Core.Path.{_≡_};
 ghost use Prim.Native.Nat.{_<_};
 
+mod correction_rows;
 mod frame_rows;
 
 fn wide(x: u16) -> u64
-    ensures { λ r. ⌜ r ≡ x ⌝ }
+    ensures { λ r. ⌜ (r ≡ x) × (r < 65536) ⌝ }
 {
     x as u64
 }
@@ -608,4 +609,7 @@ fn main() {
     frame_rows::payloads();
     frame_rows::encode_refusals();
     frame_rows::block_refusals();
+    correction_rows::zeros();
+    correction_rows::counted();
+    correction_rows::refusals();
 }

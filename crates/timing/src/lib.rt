@@ -1,9 +1,8 @@
-// Kernels for the programs of bench/, exported for C and Rust: chains of products through tables that are bound once and lent, the correction of
-// single words, and the encoding, checking and reading of frames.
+// Kernels for the programs of bench/, exported for C and Rust: chains of products through tables that are bound once and lent, and the correction of
+// single words.
 ghost use mathlib.Core.Path.{_≡_};
 ghost use Rattle.fields.specs.Elements.{powersA, exponentsA, powersB, exponentsB};
 ghost use Rattle.words.specs.Answers.{refusalOf, outerCorrected, innerCorrected};
-ghost use Rattle.frames.specs.Answers.{frameEncoded, frameChecked, payloadExtracted};
 ghost use Rattle.timing.specs.Chains.{chain};
 ghost use Rattle.timing.specs.Corrections.{numbered};
 
@@ -59,25 +58,4 @@ pub extern "C" fn timing_correct_inner(word: &[u8], out: &mut [u8]) -> u8
     ensures { λ r. ⌜ (r, now (out .exit)) ≡ numbered (innerCorrected (now (word .entry)) (now (out .entry))) ⌝ }
 {
     number(words::correct_inner(word, out))
-}
-
-#[no_mangle]
-pub extern "C" fn timing_encode_frame(payload: &[u8], out: &mut [u8]) -> u8
-    ensures { λ r. ⌜ (r, now (out .exit)) ≡ frameEncoded (now (payload .entry)) (now (out .entry)) ⌝ }
-{
-    frames::encode_frame(payload, out)
-}
-
-#[no_mangle]
-pub extern "C" fn timing_check_frame(block: &[u8]) -> u8
-    ensures { λ r. ⌜ r ≡ frameChecked (now (block .entry)) ⌝ }
-{
-    frames::check_frame(block)
-}
-
-#[no_mangle]
-pub extern "C" fn timing_extract_payload(block: &[u8], out: &mut [u8]) -> u8
-    ensures { λ r. ⌜ (r, now (out .exit)) ≡ payloadExtracted (now (block .entry)) (now (out .entry)) ⌝ }
-{
-    frames::extract_payload(block, out)
 }

@@ -13,4 +13,3 @@ pub mod Rows
 pub mod TableTests
 pub mod Ways
 pub mod ByTables
-pub mod Statements

@@ -22,4 +22,3 @@ pub mod ZeroFrame
 pub mod Bench
 pub mod Proved
 pub mod Demands
-pub mod Document03

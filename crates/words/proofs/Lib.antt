@@ -4,4 +4,3 @@ pub mod Algebra
 pub mod Codes
 pub mod Decoding
 pub mod Steps
-pub mod Document03

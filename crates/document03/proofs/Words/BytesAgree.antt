@@ -8,13 +8,13 @@ use lib.ListN.{length, take, drop, length-drop}
 use lib.Seq.{getD-take, getD-drop, length-take-le}
 use Rattle.fields.specs.Lists.{tabulate}
 use Rattle.fields.proofs.Lists.{tabulate-append, tabulate-is, tabulate-same}
 use Rattle.words.specs.Places.{at, bitOf, numberOf, bitAt}
 use Rattle.words.specs.Places as Places
 use Rattle.words.proofs.Places.Numbers.{numberOf-same}
-use Rattle.words.proofs.Document03.Statements.{bitsFrom}
-use Rattle.words.proofs.Document03.Says.{bitsOf, numberFrom, groupsFrom, bytesOf}
-use Rattle.words.proofs.Document03.WordsAgree.{runs}
-use Rattle.words.proofs.Document03.BitRegister.{bits-length, bits-at}
+use Rattle.document03.proofs.Words.Statements.{bitsFrom}
+use Rattle.document03.proofs.Words.Says.{bitsOf, numberFrom, groupsFrom, bytesOf}
+use Rattle.document03.proofs.Words.WordsAgree.{runs}
+use Rattle.document03.proofs.Words.BitRegister.{bits-length, bits-at}
 
 -- the bits of the first byte, and those of the others
 module _ (b : ℕ) (bs : List ℕ) (i : ℕ) where

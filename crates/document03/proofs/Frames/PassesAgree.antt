@@ -13,28 +13,28 @@ use lib.ListN.{length, getD}
 use lib.Seq.{ext-getD}
 use Rattle.fields.specs.Lists.{tabulate}
 use Rattle.fields.proofs.Lists.{tabulate-length, tabulate-at}
-use Rattle.fields.proofs.Statements.{pick}
+use Rattle.document03.proofs.Fields.{pick}
 use Rattle.words.specs.Places.{at, apart}
 use Rattle.words.specs.InnerCode as Inner
 use Rattle.words.specs.Nearest.{nearest}
 use Rattle.words.proofs.Codes.Proved.{codes}
-use Rattle.words.proofs.Document03.Statements.{isOuter, isInner, isNear}
-use Rattle.words.proofs.Document03.WordsAgree.{same-refl, same-is}
-use Rattle.words.proofs.Document03.OuterAgrees.{outer-agrees}
-use Rattle.words.proofs.Document03.InnerAgrees.{inner-length, inner-agrees}
-use Rattle.words.proofs.Document03.SaysHold.{near-says, far-says, near-is, far-is}
+use Rattle.document03.proofs.Words.Statements.{isOuter, isInner, isNear}
+use Rattle.document03.proofs.Words.WordsAgree.{same-refl, same-is}
+use Rattle.document03.proofs.Words.OuterAgrees.{outer-agrees}
+use Rattle.document03.proofs.Words.InnerAgrees.{inner-length, inner-agrees}
+use Rattle.document03.proofs.Words.SaysHold.{near-says, far-says, near-is, far-is}
 use Rattle.frames.specs.Frames.{dataIn}
 use Rattle.frames.specs.Frames as Frames
 use Rattle.frames.specs.Correction.{innerPass, receivedWord, isPadded}
 use Rattle.frames.specs.Correction as Correction
 use Rattle.frames.specs.Demands.{Uncorrectable, Restored}
 use Rattle.frames.proofs.FrameBits.{word-to-bit, inner-word-length, dataIn-le}
 use Rattle.frames.proofs.ReceivedWords.{received-length}
 use Rattle.frames.proofs.Permitted.{permitted-is, is-permitted, permitted-nearest}
 use Rattle.frames.proofs.Demands.{two-passes}
-use Rattle.frames.proofs.Document03.Statements.{innerWord, outerOf, frameOfWords}
-use Rattle.frames.proofs.Document03.Menders.{InnerDone, InnerPass, fillZero, isPermitted, nthW, countW, OuterPass, Mends, Beyond, symbolsIn}
-use Rattle.frames.proofs.Document03.BlocksAgree.{inner-word-agrees, outer-of-agrees}
+use Rattle.document03.proofs.Frames.Statements.{innerWord, outerOf, frameOfWords}
+use Rattle.document03.proofs.Frames.Menders.{InnerDone, InnerPass, fillZero, isPermitted, nthW, countW, OuterPass, Mends, Beyond, symbolsIn}
+use Rattle.document03.proofs.Frames.BlocksAgree.{inner-word-agrees, outer-of-agrees}
 
 -- ---- words
 

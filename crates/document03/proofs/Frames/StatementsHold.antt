@@ -11,20 +11,20 @@ use lib.Seq.{ext-getD}
 use Rattle.words.specs.Places.{allBelow}
 use Rattle.words.specs.Places as Places
 use Rattle.words.proofs.Places.Bytes.{bits-length, bits-at}
-use Rattle.words.proofs.Document03.Statements.{same, apart}
-use Rattle.words.proofs.Document03.Says.{bitsOf}
-use Rattle.words.proofs.Document03.WordsAgree.{all-below, same-refl}
+use Rattle.document03.proofs.Words.Statements.{same, apart}
+use Rattle.document03.proofs.Words.Says.{bitsOf}
+use Rattle.document03.proofs.Words.WordsAgree.{all-below, same-refl}
 use Rattle.frames.specs.Frames.{isPayload}
 use Rattle.frames.specs.Frames as Frames
 use Rattle.frames.proofs.FrameBits.{frame-length, frame-bit}
 use Rattle.frames.proofs.FarApart.{far}
 use Rattle.frames.proofs.Proved.{frame-laws}
-use Rattle.frames.proofs.Document03.Statements.{frameOfWords, frameOf, payloadOf, allBytes}
-use Rattle.frames.proofs.Document03.Says.{payloadLong, frameBytes}
-use Rattle.frames.proofs.Document03.OuterWordsAgree.{words-agree}
-use Rattle.frames.proofs.Document03.SentBitsAgree.{Words}
-use Rattle.frames.proofs.Document03.PayloadsAgree.{payload-agrees}
-use Rattle.frames.proofs.Document03.FramesAgree.{frame-long, frame-at, payload-words, frame-bytes, bytes-long, apart-bits}
+use Rattle.document03.proofs.Frames.Statements.{frameOfWords, frameOf, payloadOf, allBytes}
+use Rattle.document03.proofs.Frames.Says.{payloadLong, frameBytes}
+use Rattle.document03.proofs.Frames.OuterWordsAgree.{words-agree}
+use Rattle.document03.proofs.Frames.SentBitsAgree.{Words}
+use Rattle.document03.proofs.Frames.PayloadsAgree.{payload-agrees}
+use Rattle.document03.proofs.Frames.FramesAgree.{frame-long, frame-at, payload-words, frame-bytes, bytes-long, apart-bits}
 
 pub payload-is : (p : List ℕ) → length p ≡ 15296 → allBytes p ≡ true → isPayload p ≡ true
 unfolding isPayload

@@ -9,25 +9,25 @@ use native.Mathlib.Omega.{arith}
 use borrow.Author.Tests.{eq-eqb, eqb-true, leb-true, leb-false, lt-ltb, le-ltb, le-leb, lt-leb}
 use lib.Dec.{eqb, ltb, leb, eqb·suc-zero}
 use lib.ListN.{length}
-use Rattle.fields.proofs.Statements.{pick}
+use Rattle.document03.proofs.Fields.{pick}
 use Rattle.words.specs.Places.{at, allBelow}
 use Rattle.words.specs.Places as Places
 use Rattle.words.specs.OuterCode.{outerParity}
 use Rattle.words.specs.OuterCode as Outer
 use Rattle.words.specs.InnerCode.{innerParity}
 use Rattle.words.specs.InnerCode as Inner
 use Rattle.words.specs.Nearest.{nearest, Decodes}
 use Rattle.words.specs.Answers.{unless, refusal, within, answered, outerChecked, outerEncoded, innerChecked, innerEncoded, found, corrected, outerCorrected, innerCorrected}
 use Rattle.words.specs.Answers as Answers
 use Rattle.words.proofs.Places.Bytes.{bits-below, bits-length}
 use Rattle.words.proofs.Codes.InnerParity.{inner-length}
 use Rattle.words.proofs.Codes.Proved.{codes}
-use Rattle.words.proofs.Document03.Statements.{when, outerChecks, isOuter, innerChecks, isInner, apart, isNear}
-use Rattle.words.proofs.Document03.Says.{firstOf, bitsOf, bytesOf, outerLong, OuterCheckSays, OuterMakeSays, InnerCheckSays, InnerMakeSays, Nearest, MendedWith, OuterMendSays, InnerMendSays}
-use Rattle.words.proofs.Document03.WordsAgree.{apart-agrees}
-use Rattle.words.proofs.Document03.OuterAgrees.{symbols-agree, outer-agrees, parity-agrees}
-use Rattle.words.proofs.Document03.InnerAgrees as InnerAgrees
-use Rattle.words.proofs.Document03.BytesAgree.{bits-agree, bytes-agree}
+use Rattle.document03.proofs.Words.Statements.{when, outerChecks, isOuter, innerChecks, isInner, apart, isNear}
+use Rattle.document03.proofs.Words.Says.{firstOf, bitsOf, bytesOf, outerLong, OuterCheckSays, OuterMakeSays, InnerCheckSays, InnerMakeSays, Nearest, MendedWith, OuterMendSays, InnerMendSays}
+use Rattle.document03.proofs.Words.WordsAgree.{apart-agrees}
+use Rattle.document03.proofs.Words.OuterAgrees.{symbols-agree, outer-agrees, parity-agrees}
+use Rattle.document03.proofs.Words.InnerAgrees as InnerAgrees
+use Rattle.document03.proofs.Words.BytesAgree.{bits-agree, bytes-agree}
 
 -- a check: what is refused is told before what is no code word
 check-says : (long symbols code : Bool) → Answers.firstOf (refusal long true symbols) (unless code 4 0) ≡ firstOf (when (not long) 6) (firstOf (when (not symbols) 7) (when (not code) 4))

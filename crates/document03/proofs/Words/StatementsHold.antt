@@ -7,14 +7,14 @@ use native.Mathlib.Decide.{decLe}
 use native.Mathlib.Omega.{arith}
 use borrow.Author.Tests.{ne-eqb, leb-true, ltb-true}
 use lib.ListN.{length}
-use Rattle.fields.proofs.Statements.{powersFrom, powersB}
+use Rattle.document03.proofs.Fields.{powersFrom, powersB}
 use Rattle.words.specs.Places as Places
 use Rattle.words.specs.OuterCode as Outer
 use Rattle.words.proofs.Codes.Proved as Proved
-use Rattle.words.proofs.Document03.Statements.{Codes, vanishesFrom, factors, same, apart}
-use Rattle.words.proofs.Document03.WordsAgree.{same-refl, apart-agrees}
-use Rattle.words.proofs.Document03.OuterAgrees.{symbols-agree, outer-agrees, parity-agrees}
-use Rattle.words.proofs.Document03.InnerAgrees.{valueB-agrees, inner-length, inner-agrees}
+use Rattle.document03.proofs.Words.Statements.{Codes, vanishesFrom, factors, same, apart}
+use Rattle.document03.proofs.Words.WordsAgree.{same-refl, apart-agrees}
+use Rattle.document03.proofs.Words.OuterAgrees.{symbols-agree, outer-agrees, parity-agrees}
+use Rattle.document03.proofs.Words.InnerAgrees.{valueB-agrees, inner-length, inner-agrees}
 
 factors-vanish : vanishesFrom 1 factors ≡ true
 unfolding powersB powersFrom

@@ -5,15 +5,15 @@ use Prim.Native.Nat.{ℕ, _+_, _<_}
 use lib.ListN.{length}
 use Rattle.words.specs.Places.{at, bitAt, sumTo}
 use Rattle.words.specs.Places as Places
-use Rattle.words.proofs.Document03.Statements.{apart}
-use Rattle.words.proofs.Document03.WordsAgree.{sum-first, apart-agrees}
+use Rattle.document03.proofs.Words.Statements.{apart}
+use Rattle.document03.proofs.Words.WordsAgree.{sum-first, apart-agrees}
 use Rattle.frames.specs.Frames as Frames
 use Rattle.frames.specs.Correction as Correction
 use Rattle.frames.proofs.FrameBits.{inner-word-length}
-use Rattle.frames.proofs.Document03.Statements.{innerWord}
-use Rattle.frames.proofs.Document03.Menders.{reportFrom, reportOf, total}
-use Rattle.frames.proofs.Document03.ListsAgree.{all-agree}
-use Rattle.frames.proofs.Document03.BlocksAgree.{inner-word-agrees}
+use Rattle.document03.proofs.Frames.Statements.{innerWord}
+use Rattle.document03.proofs.Frames.Menders.{reportFrom, reportOf, total}
+use Rattle.document03.proofs.Frames.ListsAgree.{all-agree}
+use Rattle.document03.proofs.Frames.BlocksAgree.{inner-word-agrees}
 
 -- the bits of two blocks, and their bytes
 module _ (block frame b f : List ℕ) (same : (i : ℕ) → at block i ≡ bitAt b i) (same′ : (i : ℕ) → at frame i ≡ bitAt f i) where

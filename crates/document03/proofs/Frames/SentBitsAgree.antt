@@ -6,13 +6,13 @@ use native.Mathlib.Omega.{arith}
 use lib.ListN.{length, getD, take, drop, length-append, length-drop}
 use lib.Seq.{getD-take, getD-drop, length-take-le}
 use Rattle.words.specs.Places.{at, bitOf}
-use Rattle.words.proofs.Document03.Statements.{bitsFrom}
-use Rattle.words.proofs.Document03.BitRegister.{bits-length, bits-at}
+use Rattle.document03.proofs.Words.Statements.{bitsFrom}
+use Rattle.document03.proofs.Words.BitRegister.{bits-length, bits-at}
 use Rattle.frames.specs.Frames.{dataIn, rowBit, rowPlace, sentBit}
 use Rattle.frames.proofs.Placing.{append-at}
 use Rattle.frames.proofs.FrameBits.{dataIn-first, place-first, place-last, place-near}
-use Rattle.frames.proofs.Document03.Statements.{symbolBits, sentBits, sentFrom}
-use Rattle.frames.proofs.Document03.ListsAgree.{pick-lt}
+use Rattle.document03.proofs.Frames.Statements.{symbolBits, sentBits, sentFrom}
+use Rattle.document03.proofs.Frames.ListsAgree.{pick-lt}
 
 -- the bits of symbols
 symbol-bits-long : (ss : List ℕ) → length (symbolBits ss) ≡ 10 * length ss

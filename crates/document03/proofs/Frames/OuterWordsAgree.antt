@@ -10,15 +10,15 @@ use Rattle.fields.specs.Lists.{tabulate}
 use Rattle.fields.proofs.Lists.{tabulate-length, tabulate-at, tabulate-same}
 use Rattle.words.specs.Places.{at, numberOf, bitAt}
 use Rattle.words.proofs.Places.Numbers.{numberOf-same}
-use Rattle.words.proofs.Document03.Statements.{outerChecks}
-use Rattle.words.proofs.Document03.Says.{bitsOf, groupsFrom}
-use Rattle.words.proofs.Document03.OuterAgrees.{parity-agrees}
-use Rattle.words.proofs.Document03.BytesAgree.{groups-agree}
+use Rattle.document03.proofs.Words.Statements.{outerChecks}
+use Rattle.document03.proofs.Words.Says.{bitsOf, groupsFrom}
+use Rattle.document03.proofs.Words.OuterAgrees.{parity-agrees}
+use Rattle.document03.proofs.Words.BytesAgree.{groups-agree}
 use Rattle.frames.specs.Frames.{symbolAt, dataIn, outerData}
 use Rattle.frames.specs.Frames as Frames
 use Rattle.frames.proofs.FrameBits.{dataIn-first, outer-data-below, outer-word-length}
-use Rattle.frames.proofs.Document03.Statements.{dataSymbols, outerWord, wordsFrom, outerWords}
-use Rattle.frames.proofs.Document03.ListsAgree.{bits-long, bit-at, pick-lt, filled-at, all-agree}
+use Rattle.document03.proofs.Frames.Statements.{dataSymbols, outerWord, wordsFrom, outerWords}
+use Rattle.document03.proofs.Frames.ListsAgree.{bits-long, bit-at, pick-lt, filled-at, all-agree}
 
 -- n symbols of ten bits: those of symbol s are g s 0, g s 1, ..
 pub symbols-agree : (n : ℕ) (bs : List ℕ) (g : ℕ → ℕ → ℕ) → 10 * n ≤ length bs → ((s j : ℕ) → s < n → j < 10 → at bs (10 * s + j) ≡ g s j)

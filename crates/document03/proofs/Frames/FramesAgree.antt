@@ -12,20 +12,20 @@ use Rattle.words.specs.Places.{at, sumTo, differs}
 use Rattle.words.specs.Places as Places
 use Rattle.words.proofs.Places.Bytes.{bits-length, bits-at}
 use Rattle.words.proofs.Places.Counting.{sum-same}
-use Rattle.words.proofs.Document03.Statements.{when, same, apart}
-use Rattle.words.proofs.Document03.Says.{bytesOf}
-use Rattle.words.proofs.Document03.WordsAgree.{apart-agrees}
-use Rattle.words.proofs.Document03.BytesAgree.{bytes-agree}
+use Rattle.document03.proofs.Words.Statements.{when, same, apart}
+use Rattle.document03.proofs.Words.Says.{bytesOf}
+use Rattle.document03.proofs.Words.WordsAgree.{apart-agrees}
+use Rattle.document03.proofs.Words.BytesAgree.{bytes-agree}
 use Rattle.frames.specs.Frames.{dataIn, sentBit, withParity, wrongBits}
 use Rattle.frames.specs.Frames as Frames
 use Rattle.frames.specs.Answers as Answers
 use Rattle.frames.proofs.FrameBits.{bits-same, payloadOf-length, sentBit-lt, frame-length}
-use Rattle.frames.proofs.Document03.Statements.{sentFrom, frameOfWords}
-use Rattle.frames.proofs.Document03.Says.{frameBytes, isFrame}
-use Rattle.frames.proofs.Document03.OuterWordsAgree.{words-agree, words-long, word-long}
-use Rattle.frames.proofs.Document03.SentBitsAgree.{Words, sent-long, sent-at}
-use Rattle.frames.proofs.Document03.ParityBitsAgree.{with-long, with-at}
-use Rattle.frames.proofs.Document03.PayloadsAgree.{payload-agrees}
+use Rattle.document03.proofs.Frames.Statements.{sentFrom, frameOfWords}
+use Rattle.document03.proofs.Frames.Says.{frameBytes, isFrame}
+use Rattle.document03.proofs.Frames.OuterWordsAgree.{words-agree, words-long, word-long}
+use Rattle.document03.proofs.Frames.SentBitsAgree.{Words, sent-long, sent-at}
+use Rattle.document03.proofs.Frames.ParityBitsAgree.{with-long, with-at}
+use Rattle.document03.proofs.Frames.PayloadsAgree.{payload-agrees}
 
 -- sixteen words of their lengths, and their frame
 pub sixteen-words : (ws : List (List ℕ)) → length ws ≡ 16 → ((w : ℕ) → w < 16 → length (getD ws w []) ≡ dataIn w + 16) → Words 0 ws

@@ -6,32 +6,32 @@ use mathlib.Core.Logic.{_⊎_, inl, inr}
 use Prim.Native.Nat.{ℕ, _≤_, _<_}
 use native.Mathlib.Omega.{arith}
 use lib.ListN.{length}
-use Rattle.fields.proofs.Statements.{isIn, fields}
+use Rattle.document03.proofs.Fields.{isIn, fields}
 use Rattle.words.specs.Places.{at, bitAt, bitsOf, bytesOf}
 use Rattle.words.specs.Places as Places
 use Rattle.words.specs.InnerCode as Inner
 use Rattle.words.proofs.Places.Bytes.{bits-at}
-use Rattle.words.proofs.Document03.Statements.{isInner, apart, allBits}
-use Rattle.words.proofs.Document03.InnerAgrees.{inner-length, inner-agrees}
-use Rattle.words.proofs.Document03.StatementsHold.{codes}
-use Rattle.words.proofs.Document03.SaysHold.{far-is}
+use Rattle.document03.proofs.Words.Statements.{isInner, apart, allBits}
+use Rattle.document03.proofs.Words.InnerAgrees.{inner-length, inner-agrees}
+use Rattle.document03.proofs.Words.StatementsHold.{codes}
+use Rattle.document03.proofs.Words.SaysHold.{far-is}
 use Rattle.frames.specs.Frames.{wrongBits}
 use Rattle.frames.specs.Frames as Frames
 use Rattle.frames.specs.Correction.{innerPass}
 use Rattle.frames.specs.Answers.{Corrected, refused, frameCorrected}
 use Rattle.frames.specs.Demands.{Restored, wrongCounts, Premise}
 use Rattle.frames.proofs.FrameBits.{bytes-length, inner-word-length}
 use Rattle.frames.proofs.ReportCounts.{wrong-in}
 use Rattle.frames.proofs.Demands as Ours
-use Rattle.frames.proofs.Document03.Statements.{innerWord, frameOfWords, frameOf, allBytes}
-use Rattle.frames.proofs.Document03.Menders.{Mends, Beyond, Two-passes, Lost, wrongSymbols, symbolsIn, Demand-3}
-use Rattle.frames.proofs.Document03.Says.{Demands}
-use Rattle.frames.proofs.Document03.FramesAgree.{sixteen-words}
-use Rattle.frames.proofs.Document03.BlocksAgree.{inner-word-agrees, block-bits}
-use Rattle.frames.proofs.Document03.PassesAgree.{Outcome, one-frame, not-both, restored-mends, uncorrectable-beyond}
-use Rattle.frames.proofs.Document03.ReportsAgree.{count-agrees}
-use Rattle.frames.proofs.Document03.LostSymbolsAgree.{lost-symbols-agree}
-use Rattle.frames.proofs.Document03.StatementsHold.{payload-is, words-frame-agrees, frame-agrees, second-half, reads-back}
+use Rattle.document03.proofs.Frames.Statements.{innerWord, frameOfWords, frameOf, allBytes}
+use Rattle.document03.proofs.Frames.Menders.{Mends, Beyond, Two-passes, Lost, wrongSymbols, symbolsIn, Demand-3}
+use Rattle.document03.proofs.Frames.Says.{Demands}
+use Rattle.document03.proofs.Frames.FramesAgree.{sixteen-words}
+use Rattle.document03.proofs.Frames.BlocksAgree.{inner-word-agrees, block-bits}
+use Rattle.document03.proofs.Frames.PassesAgree.{Outcome, one-frame, not-both, restored-mends, uncorrectable-beyond}
+use Rattle.document03.proofs.Frames.ReportsAgree.{count-agrees}
+use Rattle.document03.proofs.Frames.LostSymbolsAgree.{lost-symbols-agree}
+use Rattle.document03.proofs.Frames.StatementsHold.{payload-is, words-frame-agrees, frame-agrees, second-half, reads-back}
 
 -- the number of a refusal
 refused-number : (n : ℕ) (o : List ℕ) (a : Corrected) → refused n o ≡ a → n ≡ a .0

@@ -7,9 +7,9 @@ use mathlib.Core.List.{List, [], _∷_}
 use Prim.Native.Nat.{ℕ, zero, suc, _+_, _-_, _*_, _%_, _≤_, _<_}
 use lib.Dec.{eqb, ltb, leb}
 use lib.ListN.{length, getD}
-use Rattle.fields.proofs.Statements.{pick, isIn}
-use Rattle.words.proofs.Document03.Statements.{when, isOuter, isInner, isNear, apart, same, allBits}
-use Rattle.frames.proofs.Document03.Statements.{innerWord, outerOf, frameOfWords, frameOf, allBytes}
+use Rattle.document03.proofs.Fields.{pick, isIn}
+use Rattle.document03.proofs.Words.Statements.{when, isOuter, isInner, isNear, apart, same, allBits}
+use Rattle.document03.proofs.Frames.Statements.{innerWord, outerOf, frameOfWords, frameOf, allBytes}
 
 -- inner pass: the code word within eight, or the word as received
 pub record Kept (w x : List ℕ) : Type 0 where

@@ -9,16 +9,16 @@ use lib.ListN.{length, drop, replicate, length-drop}
 use Rattle.fields.specs.Elements as E
 use Rattle.fields.specs.Lists.{tabulate}
 use Rattle.fields.proofs.Instances.{field-a}
-use Rattle.fields.proofs.Statements.{xor, timesA, powA, timesA-agrees, powA-agrees}
+use Rattle.document03.proofs.Fields.{xor, timesA, powA, timesA-agrees, powA-agrees}
 use Rattle.words.specs.Places.{at, every, allBelow, value}
 use Rattle.words.specs.OuterCode.{powerA, outerValue, divided, outerParity}
 use Rattle.words.specs.OuterCode as Outer
 use Rattle.words.proofs.Places.Tests.{below-at}
 use Rattle.words.proofs.Codes.Lent.{divided-lt}
 use Rattle.words.proofs.Codes.Division.{divided-length}
 use Rattle.words.proofs.Codes.OuterWords.{generator-lt}
-use Rattle.words.proofs.Document03.WordsAgree.{all-below, runs, sum-agrees, value-agrees, dropped-at, register-is}
-use Rattle.words.proofs.Document03.Statements.{scaledA, withRoot, generatorFrom, generator, shiftedIn, registerFrom, outerChecks, valueAt, rootsFrom, allSymbols, isOuter}
+use Rattle.document03.proofs.Words.WordsAgree.{all-below, runs, sum-agrees, value-agrees, dropped-at, register-is}
+use Rattle.document03.proofs.Words.Statements.{scaledA, withRoot, generatorFrom, generator, shiftedIn, registerFrom, outerChecks, valueAt, rootsFrom, allSymbols, isOuter}
 
 pub symbols-agree : (w : List ℕ) → allSymbols w ≡ allBelow 1024 w
 symbols-agree = all-below 1024 allSymbols refl (λ s ss. refl)

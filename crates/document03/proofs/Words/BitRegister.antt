@@ -12,17 +12,17 @@ use Rattle.fields.specs.Elements as E
 use Rattle.fields.specs.Lists.{tabulate}
 use Rattle.fields.proofs.Doubling.{scale-lt, doubled-sum}
 use Rattle.fields.proofs.Lists.{tabulate-is, tabulate-lt}
-use Rattle.fields.proofs.Statements.{xor}
+use Rattle.document03.proofs.Fields.{xor}
 use Rattle.words.specs.Places.{at, bitOf}
 use Rattle.words.specs.OuterCode.{shiftedIn, divided}
 use Rattle.words.specs.InnerCode.{remainder}
 use Rattle.words.proofs.Places.Filling.{zeros-at}
 use Rattle.words.proofs.Places.Numbers.{bitOf-lt}
 use Rattle.words.proofs.Codes.Horner.{iter, horner-zeros}
 use Rattle.words.proofs.Codes.BinaryRegister.{divided-bits}
 use Rattle.words.proofs.Codes.Division.{divided-length}
-use Rattle.words.proofs.Document03.Statements.{bitsFrom, bitScaled, bitIn, bitRegister}
-use Rattle.words.proofs.Document03.WordsAgree.{runs, sum-agrees, register-is}
+use Rattle.document03.proofs.Words.Statements.{bitsFrom, bitScaled, bitIn, bitRegister}
+use Rattle.document03.proofs.Words.WordsAgree.{runs, sum-agrees, register-is}
 
 -- lists of bits
 pub bits-length : (n v : ℕ) → length (bitsFrom n v) ≡ n

@@ -6,7 +6,7 @@ use mathlib.Core.List.{List, [], _∷_, _++_}
 use Prim.Native.Nat.{ℕ, zero, suc, _+_, _-_, _*_, _/_, _%_, _^_, _≤_}
 use lib.Dec.{eqb, ltb, leb}
 use lib.ListN.{length, getD, take, drop, replicate}
-use Rattle.fields.proofs.Statements.{xor, timesA, timesB, powA, powB}
+use Rattle.document03.proofs.Fields.{xor, timesA, timesB, powA, powB}
 
 abbrev pub when : Bool → ℕ → ℕ
 when true n = n

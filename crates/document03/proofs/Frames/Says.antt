@@ -7,11 +7,11 @@ use mathlib.Core.List.{List}
 use Prim.Native.Nat.{ℕ, zero, suc}
 use lib.Dec.{eqb}
 use lib.ListN.{length, replicate}
-use Rattle.fields.proofs.Statements.{pick, Fields}
-use Rattle.words.proofs.Document03.Statements.{when, same, Codes}
-use Rattle.words.proofs.Document03.Says.{firstOf, bitsOf, bytesOf}
-use Rattle.frames.proofs.Document03.Statements.{frameOf, payloadOf, allBytes}
-use Rattle.frames.proofs.Document03.Menders.{Mends, Beyond, reportOf, total, Two-passes, Demand-3}
+use Rattle.document03.proofs.Fields.{pick, Fields}
+use Rattle.document03.proofs.Words.Statements.{when, same, Codes}
+use Rattle.document03.proofs.Words.Says.{firstOf, bitsOf, bytesOf}
+use Rattle.document03.proofs.Frames.Statements.{frameOf, payloadOf, allBytes}
+use Rattle.document03.proofs.Frames.Menders.{Mends, Beyond, reportOf, total, Two-passes, Demand-3}
 
 -- payloads of 15,296 bytes, blocks of 16,320
 abbrev pub payloadLong : ℕ

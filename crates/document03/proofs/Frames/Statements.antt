@@ -5,9 +5,9 @@ use mathlib.Core.List.{List, [], _∷_, _++_}
 use Prim.Native.Nat.{ℕ, zero, suc, _*_}
 use lib.Dec.{ltb}
 use lib.ListN.{getD, take, drop}
-use Rattle.fields.proofs.Statements.{pick}
-use Rattle.words.proofs.Document03.Statements.{outerChecks, bitsFrom, innerChecks}
-use Rattle.words.proofs.Document03.Says.{bitsOf, groupsFrom, bytesOf}
+use Rattle.document03.proofs.Fields.{pick}
+use Rattle.document03.proofs.Words.Statements.{outerChecks, bitsFrom, innerChecks}
+use Rattle.document03.proofs.Words.Says.{bitsOf, groupsFrom, bytesOf}
 
 -- outer word w of a payload's bits: 765 symbols, word 15 762 with two fill zeros; with its checks
 unfoldable pub dataSymbols : ℕ → List ℕ → List ℕ

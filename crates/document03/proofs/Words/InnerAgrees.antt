@@ -13,18 +13,18 @@ use Rattle.fields.specs.Elements.{scale}
 use Rattle.fields.specs.Elements as E
 use Rattle.fields.specs.Lists.{tabulate}
 use Rattle.fields.proofs.Instances.{field-b}
-use Rattle.fields.proofs.Statements.{timesB, powB, timesB-agrees, powB-agrees}
+use Rattle.document03.proofs.Fields.{timesB, powB, timesB-agrees, powB-agrees}
 use Rattle.words.specs.Places.{at, allBelow, bitOf, horner, value}
 use Rattle.words.specs.InnerCode.{valueOf, remainder, innerRemainder, innerParity}
 use Rattle.words.specs.InnerCode as Inner
 use Rattle.words.proofs.Places.Tests.{tests-agree, below-at, below-all, below-take}
 use Rattle.words.proofs.Places.Numbers.{bitOf-half, bitOf-last}
 use Rattle.words.proofs.Codes.Horner.{scale-one, horner-same}
 use Rattle.words.proofs.Codes.InnerWords.{inner-is}
 use Rattle.words.proofs.Codes.InnerParity.{inner-made, inner-only}
-use Rattle.words.proofs.Document03.WordsAgree.{all-below, same-refl, same-is, value-agrees}
-use Rattle.words.proofs.Document03.Statements.{bitsFrom, divisor, bitRegister, innerChecks, allBits, same, isInner, valueB}
-use Rattle.words.proofs.Document03.BitRegister.{bits-length, bits-at, bitRegister-agrees}
+use Rattle.document03.proofs.Words.WordsAgree.{all-below, same-refl, same-is, value-agrees}
+use Rattle.document03.proofs.Words.Statements.{bitsFrom, divisor, bitRegister, innerChecks, allBits, same, isInner, valueB}
+use Rattle.document03.proofs.Words.BitRegister.{bits-length, bits-at, bitRegister-agrees}
 
 -- the value of a polynomial, from its bits
 horner-bits : (f : ℕ → ℕ) (n v : ℕ) → horner f (bitOf n v) n ≡ valueOf f 1 n v

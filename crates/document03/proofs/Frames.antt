@@ -1,4 +1,4 @@
--- Document 03 on frames: its definitions, that they agree with ours, and its statements.
+-- Document 03 on frames and their correction: its definitions, that they agree with ours, and its statements.
 pub mod Statements
 pub mod Menders
 pub mod Says

@@ -12,24 +12,24 @@ use Rattle.fields.specs.Lists.{tabulate}
 use Rattle.words.specs.Places.{at, bitAt}
 use Rattle.words.specs.Answers.{unless}
 use Rattle.words.proofs.Places.Bytes.{bits-at}
-use Rattle.words.proofs.Document03.Statements.{when}
-use Rattle.words.proofs.Document03.Says.{firstOf, bitsOf}
-use Rattle.words.proofs.Document03.SaysHold.{answered-says}
+use Rattle.document03.proofs.Words.Statements.{when}
+use Rattle.document03.proofs.Words.Says.{firstOf, bitsOf}
+use Rattle.document03.proofs.Words.SaysHold.{answered-says}
 use Rattle.frames.specs.Frames as Frames
 use Rattle.frames.specs.Correction.{innerPass}
 use Rattle.frames.specs.Correction as Correction
 use Rattle.frames.specs.Answers.{frameEncoded, frameChecked, payloadExtracted, Corrected, refused, frameCorrected}
 use Rattle.frames.specs.Answers as Answers
 use Rattle.frames.proofs.Demands.{two-passes}
-use Rattle.frames.proofs.Document03.Statements.{frameOfWords}
-use Rattle.frames.proofs.Document03.Menders.{reportOf}
-use Rattle.frames.proofs.Document03.Says.{MakeSays, isFrame, CheckSays, ReadSays, mendFault, Refused, MendWith, MendSays}
-use Rattle.frames.proofs.Document03.ListsAgree.{bits-long, bit-at}
-use Rattle.frames.proofs.Document03.PayloadsAgree.{payload-agrees}
-use Rattle.frames.proofs.Document03.FramesAgree.{sixteen-words, words-bytes, frame-bytes, isFrame-agrees}
-use Rattle.frames.proofs.Document03.PassesAgree.{Outcome, restored-mends, uncorrectable-beyond}
-use Rattle.frames.proofs.Document03.ReportsAgree.{report-agrees, total-agrees}
-use Rattle.frames.proofs.Document03.StatementsHold.{words-frame-agrees}
+use Rattle.document03.proofs.Frames.Statements.{frameOfWords}
+use Rattle.document03.proofs.Frames.Menders.{reportOf}
+use Rattle.document03.proofs.Frames.Says.{MakeSays, isFrame, CheckSays, ReadSays, mendFault, Refused, MendWith, MendSays}
+use Rattle.document03.proofs.Frames.ListsAgree.{bits-long, bit-at}
+use Rattle.document03.proofs.Frames.PayloadsAgree.{payload-agrees}
+use Rattle.document03.proofs.Frames.FramesAgree.{sixteen-words, words-bytes, frame-bytes, isFrame-agrees}
+use Rattle.document03.proofs.Frames.PassesAgree.{Outcome, restored-mends, uncorrectable-beyond}
+use Rattle.document03.proofs.Frames.ReportsAgree.{report-agrees, total-agrees}
+use Rattle.document03.proofs.Frames.StatementsHold.{words-frame-agrees}
 
 -- refusals, the first and the last; what follows matters only if the test holds
 refused-first : (test : Bool) (n next next′ : ℕ) → (test ≡ true → next ≡ next′) → unless test (suc n) next ≡ firstOf (when (not test) (suc n)) next′

@@ -14,11 +14,11 @@ use Rattle.fields.specs.Elements as E
 use Rattle.fields.specs.Field.{Field}
 use Rattle.fields.specs.Lists.{tabulate}
 use Rattle.fields.proofs.Lists.{tabulate-is}
-use Rattle.fields.proofs.Statements.{xor, xor-agrees}
+use Rattle.document03.proofs.Fields.{xor, xor-agrees}
 use Rattle.words.specs.Places.{at, every, allBelow, horner, value, sumTo, differs}
 use Rattle.words.specs.Places as Places
 use Rattle.words.proofs.Algebra.Values.{value-lt}
-use Rattle.words.proofs.Document03.Statements.{when, sums, same, apart}
+use Rattle.document03.proofs.Words.Statements.{when, sums, same, apart}
 
 -- a test of all symbols, first symbol first
 every-first : (n : ℕ) (f : ℕ → Bool) → every (suc n) f ≡ (f 0 && every n (λ i. f (suc i)))

@@ -7,8 +7,8 @@ use mathlib.Core.Logic.{_⊎_}
 use Prim.Native.Nat.{ℕ, zero, suc, _+_, _*_, _/_}
 use lib.Dec.{eqb, ltb, leb}
 use lib.ListN.{length, take, drop}
-use Rattle.fields.proofs.Statements.{pick}
-use Rattle.words.proofs.Document03.Statements.{when, outerChecks, allSymbols, isOuter, bitsFrom, innerChecks, isInner, apart, isNear}
+use Rattle.document03.proofs.Fields.{pick}
+use Rattle.document03.proofs.Words.Statements.{when, outerChecks, allSymbols, isOuter, bitsFrom, innerChecks, isInner, apart, isNear}
 
 abbrev pub firstOf : ℕ → ℕ → ℕ
 firstOf zero b = b

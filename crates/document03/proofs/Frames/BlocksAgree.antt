@@ -13,18 +13,18 @@ use Rattle.fields.proofs.Lists.{tabulate-same}
 use Rattle.words.specs.Places.{at, numberOf, bitAt, bitsOf, bytesOf}
 use Rattle.words.proofs.Places.Tests.{below-at}
 use Rattle.words.proofs.Places.Bytes.{bits-length, bits-at}
-use Rattle.words.proofs.Document03.Statements.{allBits}
-use Rattle.words.proofs.Document03.WordsAgree.{all-below}
+use Rattle.document03.proofs.Words.Statements.{allBits}
+use Rattle.document03.proofs.Words.WordsAgree.{all-below}
 use Rattle.frames.specs.Frames.{symbolAt, dataIn}
 use Rattle.frames.specs.Frames as Frames
 use Rattle.frames.specs.Correction.{receivedBit, receivedSymbol, receivedWord}
 use Rattle.frames.proofs.Placing.{append-at}
 use Rattle.frames.proofs.FrameBits.{bytes-length, bytes-bit, dataIn-first}
 use Rattle.frames.proofs.ReceivedWords.{received-first, received-padding, received-last}
-use Rattle.frames.proofs.Document03.Statements.{innerWord, outerOf}
-use Rattle.frames.proofs.Document03.ListsAgree.{pick-lt, filled-at}
-use Rattle.frames.proofs.Document03.OuterWordsAgree.{symbols-agree}
-use Rattle.frames.proofs.Document03.ParityBitsAgree.{every-agrees}
+use Rattle.document03.proofs.Frames.Statements.{innerWord, outerOf}
+use Rattle.document03.proofs.Frames.ListsAgree.{pick-lt, filled-at}
+use Rattle.document03.proofs.Frames.OuterWordsAgree.{symbols-agree}
+use Rattle.document03.proofs.Frames.ParityBitsAgree.{every-agrees}
 
 -- a list that holds the bits b 0, b 1, .. of a block
 module _ (fs : List ℕ) (b : ℕ → ℕ) (same : (i : ℕ) → i < 130560 → at fs i ≡ b i) where

@@ -9,12 +9,12 @@ use lib.ListN.{length}
 use lib.Seq.{append-snoc}
 use Rattle.fields.specs.Lists.{tabulate}
 use Rattle.fields.proofs.Lists.{tabulate-same}
-use Rattle.fields.proofs.Statements.{pick}
+use Rattle.document03.proofs.Fields.{pick}
 use Rattle.words.specs.Places.{at, bitAt}
 use Rattle.words.proofs.Places.Bytes.{bits-length, bits-at}
-use Rattle.words.proofs.Document03.Says.{bitsOf}
-use Rattle.words.proofs.Document03.WordsAgree.{padded-at}
-use Rattle.words.proofs.Document03.BytesAgree.{bits-agree}
+use Rattle.document03.proofs.Words.Says.{bitsOf}
+use Rattle.document03.proofs.Words.WordsAgree.{padded-at}
+use Rattle.document03.proofs.Words.BytesAgree.{bits-agree}
 
 -- the bits of bytes
 pub bits-long : (bytes : List ℕ) → length (bitsOf bytes) ≡ 8 * length bytes

@@ -10,15 +10,15 @@ use Rattle.fields.specs.Lists.{tabulate}
 use Rattle.fields.proofs.Lists.{tabulate-length, tabulate-at, tabulate-same}
 use Rattle.words.specs.Places.{at}
 use Rattle.words.specs.InnerCode.{innerParity}
-use Rattle.words.proofs.Document03.Statements.{innerChecks}
-use Rattle.words.proofs.Document03.WordsAgree.{dropped-at}
-use Rattle.words.proofs.Document03.InnerAgrees.{parity-agrees}
+use Rattle.document03.proofs.Words.Statements.{innerChecks}
+use Rattle.document03.proofs.Words.WordsAgree.{dropped-at}
+use Rattle.document03.proofs.Words.InnerAgrees.{parity-agrees}
 use Rattle.frames.specs.Frames.{withParity}
 use Rattle.frames.specs.Frames as Frames
 use Rattle.frames.proofs.Placing.{append-at}
 use Rattle.frames.proofs.FrameBits.{data-length, data-below, parity-before, parity-after}
-use Rattle.frames.proofs.Document03.Statements.{everyFrom, innerData, checksFrom, heads, tails, woven, withChecks}
-use Rattle.frames.proofs.Document03.ListsAgree.{all-agree}
+use Rattle.document03.proofs.Frames.Statements.{everyFrom, innerData, checksFrom, heads, tails, woven, withChecks}
+use Rattle.document03.proofs.Frames.ListsAgree.{all-agree}
 
 -- every 64th bit, from bit k on
 every-first : (n : ℕ) (bs : List ℕ) → everyFrom n bs ≡ tabulate n (λ p. at bs (64 * p))

@@ -478,7 +478,7 @@ fn correction_row(name: &str, block: &[u32], space: usize) -> Vec<u32> {
     out
 }
 
-// A frame of which `count` bits are inverted. Where the damage is one that document 01 promises to mend, the sent frame must come back.
+// A frame of which `count` bits are inverted. Where demand 3 promises the sent frame, it must come back.
 fn damaged(name: &str, payload: &[u32], (first, step, count): (usize, usize, usize), promised: bool) {
     let sent = frame(payload);
     let mut block = bits(&sent);

@@ -1,0 +1,72 @@
+-- What `Logging` of specs/Laws.antt lists is proved. Assumes nothing.
+use mathlib.Core.Path.{_≡_, refl, sym, ap, ap₂, _∙_}
+use mathlib.Core.Bool.{cond}
+use mathlib.Core.List.{List, [], _∷_, _++_, map, append-assoc, append-nil}
+use Prim.Native.Nat.{ℕ, _+_}
+use lib.Dec.{eqb}
+use Rattle.frames.specs.Answers.{Corrected}
+use Rattle.frames.specs.declared.Report.{Report}
+use Rattle.logging.specs.Counting.{framesOf, uncorrectableOf, bitsOf, limited, cleared, Call, count, after, since, sumOver, totals}
+use Rattle.logging.specs.Laws.{Correction, numberOf, sumOf, CounterLaws, Logging}
+use Rattle.logging.proofs.Sequences.{cleared-totals, since-clearing}
+use Rattle.logging.proofs.Ranking.{worst-list, worst-only}
+
+-- ---- counters
+
+pub from-clearing : (calls : List Call) → after cleared calls ≡ totals (since [] calls)
+from-clearing calls = rw cleared-totals (since-clearing [] calls)
+
+-- the corrector's reports, with no clearing among them
+since-corrections : (answers : List Report) (cs : List Correction) → since answers (map (λ c. count (c .report)) cs) ≡ answers ++ map (λ c. c .report) cs
+unfolding since
+since-corrections answers [] = sym (append-nil answers)
+since-corrections answers (c ∷ cs) = since-corrections (answers ++ (c .report ∷ [])) cs ∙ append-assoc answers (c .report ∷ []) (map (λ d. d .report) cs)
+
+-- what the reports add, where each adds what is promised
+sum-over : (f : Report → ℕ) (g : Correction → ℕ) → ((c : Correction) → f (c .report) ≡ g c) → (cs : List Correction) →
+    sumOver f (map (λ c. c .report) cs) ≡ sumOver g cs
+unfolding sumOver
+sum-over f g same [] = refl
+sum-over f g same (c ∷ cs) = ap₂ _+_ (same c) (sum-over f g same cs)
+
+-- number and sum are those of the promise
+module _ (c : Correction) where
+  number-promised : c .report .refusal ≡ numberOf c
+  number-promised = ap (λ (a : Corrected). a .0) (c .promised)
+
+  sum-promised : c .report .sum ≡ sumOf c
+  sum-promised = ap (λ (a : Corrected). a .2) (c .promised)
+
+  frames-promised : framesOf (c .report) ≡ cond (eqb (numberOf c) 0) 1 0
+  unfolding framesOf
+  frames-promised = ap (λ (n : ℕ). cond (eqb n 0) 1 0) number-promised
+
+  uncorrectable-promised : uncorrectableOf (c .report) ≡ cond (eqb (numberOf c) 5) 1 0
+  unfolding uncorrectableOf
+  uncorrectable-promised = ap (λ (n : ℕ). cond (eqb n 5) 1 0) number-promised
+
+  bits-promised : bitsOf (c .report) ≡ cond (eqb (numberOf c) 0) (sumOf c) 0
+  unfolding bitsOf
+  bits-promised = ap₂ (λ (n s : ℕ). cond (eqb n 0) s 0) number-promised sum-promised
+
+pub of-corrections : (cs : List Correction) →
+    totals (map (λ c. c .report) cs)
+    ≡ record {
+      frames = limited (sumOver (λ c. cond (eqb (numberOf c) 0) 1 0) cs);
+      uncorrectable = limited (sumOver (λ c. cond (eqb (numberOf c) 5) 1 0) cs);
+      bits = limited (sumOver (λ c. cond (eqb (numberOf c) 0) (sumOf c) 0) cs);
+    }
+unfolding totals
+of-corrections cs = rw (sum-over _ _ frames-promised cs, sum-over _ _ uncorrectable-promised cs, sum-over _ _ bits-promised cs)
+
+pub counters : CounterLaws
+counters =
+    record {
+      since-clearing = from-clearing;
+      corrections = λ cs. from-clearing (map (λ c. count (c .report)) cs) ∙ ap totals (since-corrections [] cs) ∙ of-corrections cs;
+    }
+
+-- ---- worst list
+
+pub logging : Logging
+logging = record { counters = counters; lists = record { worst = worst-list; only = worst-only } }

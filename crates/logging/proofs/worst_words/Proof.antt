@@ -1,0 +1,59 @@
+-- `logging::worst_words` meets its contract. Assumes nothing.
+use Prim.Native.Nat.{_-_}
+use borrow.Author.Needs.{needs}
+use Rattle.logging.proofs.Listing.{Listed, listed-start, listed-next, listed-end}
+use Rattle.logging.proofs.worst_words.Statement.{statement}
+use Rattle.logging.proofs.worst_words.Tie as tie
+
+abbrev Inv-loop : tie.InvT-loop
+Inv-loop counts₀ list₀ i₀ counts list i = Listed counts₀ i counts list
+
+abbrev μ-loop : tie.MeasureT-loop
+μ-loop counts₀ list₀ i₀ counts list i = 8 - i
+
+cast-list : tie.Need-cast-list Inv-loop μ-loop
+cast-list c = search needs
+
+loop-holds : tie.Need-loop-holds Inv-loop μ-loop
+loop-holds c = search (needs, listed-start)
+
+worst-requires : tie.Need-worst-requires Inv-loop μ-loop
+worst-requires c κs = search needs
+
+cast-list-2 : tie.Need-cast-list-2 Inv-loop μ-loop
+cast-list-2 c = search needs
+
+array-write-list : tie.Need-array-write-list Inv-loop μ-loop
+array-write-list c = search needs
+
+leave-out-requires : tie.Need-leave-out-requires Inv-loop μ-loop
+leave-out-requires c κs = search needs
+
+add-i : tie.Need-add-i Inv-loop μ-loop
+add-i c = search needs
+
+loop-less : tie.Need-loop-less Inv-loop μ-loop
+loop-less c = search needs
+
+loop-again : tie.Need-loop-again Inv-loop μ-loop
+loop-again c = search (needs, listed-next)
+
+returns : tie.Need-returns Inv-loop μ-loop
+returns c = search (needs, listed-end)
+
+pub worst-words-spec : {M : Type 1} → statement M
+worst-words-spec =
+    tie.close
+    (tie.spec
+    Inv-loop
+    μ-loop
+    cast-list
+    loop-holds
+    worst-requires
+    cast-list-2
+    array-write-list
+    leave-out-requires
+    add-i
+    loop-less
+    loop-again
+    returns)

@@ -1,0 +1,65 @@
+-- Counters ("tally") of the corrector's answers: frames taken, uncorrectable blocks ("beyond reach"), bits corrected ("mended").
+use mathlib.Core.Bool.{cond}
+use mathlib.Core.List.{List, [], _∷_, _++_}
+use Prim.Native.Nat.{ℕ, _+_, min}
+use lib.Dec.{eqb}
+use Rattle.frames.specs.declared.Report.{Report}
+use Rattle.logging.specs.declared.Counters.{Counters}
+
+-- what an answer adds to each number: a corrected block one frame and its report's sum of bits, a refusal 5 one uncorrectable block, any other nothing
+unfoldable pub framesOf : Report → ℕ
+framesOf r = cond (eqb (r .refusal) 0) 1 0
+
+unfoldable pub uncorrectableOf : Report → ℕ
+uncorrectableOf r = cond (eqb (r .refusal) 5) 1 0
+
+unfoldable pub bitsOf : Report → ℕ
+bitsOf r = cond (eqb (r .refusal) 0) (r .sum) 0
+
+-- a sum, or the largest 32-bit number if that is less
+abbrev pub limited : ℕ → ℕ
+limited n = min n 4294967295
+
+-- the counters at the start and after clearing; and after one more answer
+unfoldable pub cleared : Counters
+cleared = record { frames = 0; uncorrectable = 0; bits = 0 }
+
+unfoldable pub counted : Counters → Report → Counters
+counted c r =
+    record {
+      frames = limited (c .frames + framesOf r);
+      uncorrectable = limited (c .uncorrectable + uncorrectableOf r);
+      bits = limited (c .bits + bitsOf r);
+    }
+
+-- ---- every sequence of calls
+
+-- the counters are cleared, or an answer is counted
+pub data Call : Type 0 where
+  clear : Call
+  count : Report → Call
+
+-- the counters c after calls, the first call first
+unfoldable pub after : Counters → List Call → Counters
+after c [] = c
+after c (clear ∷ calls) = after cleared calls
+after c (count r ∷ calls) = after (counted c r) calls
+
+-- the answers counted since the last clearing, where some were counted before the calls
+unfoldable pub since : List Report → List Call → List Report
+since answers [] = answers
+since answers (clear ∷ calls) = since [] calls
+since answers (count r ∷ calls) = since (answers ++ (r ∷ [])) calls
+
+-- what answers add up to, and the counters that show it
+unfoldable pub sumOver : {A : Type 0} → (A → ℕ) → List A → ℕ
+sumOver f [] = 0
+sumOver f (a ∷ rest) = f a + sumOver f rest
+
+unfoldable pub totals : List Report → Counters
+totals answers =
+    record {
+      frames = limited (sumOver framesOf answers);
+      uncorrectable = limited (sumOver uncorrectableOf answers);
+      bits = limited (sumOver bitsOf answers);
+    }

@@ -1,0 +1,73 @@
+-- What is proved of counters and worst list: `logging` of proofs/Proved.antt is the proof.
+use mathlib.Core.Path.{_≡_}
+use mathlib.Core.Logic.{_⊎_}
+use mathlib.Core.Bool.{cond}
+use mathlib.Core.List.{List, [], map}
+use Prim.Native.Nat.{ℕ, _<_}
+use lib.Dec.{eqb}
+use lib.ListN.{length, getD}
+use Rattle.frames.specs.Answers.{frameCorrected}
+use Rattle.frames.specs.declared.Report.{Report}
+use Rattle.logging.specs.Counting.{limited, cleared, Call, count, after, since, sumOver, totals}
+use Rattle.logging.specs.WorstList.{countOf, worstWords}
+
+-- ---- counters
+
+-- a call of the corrector: block and output buffer, then report and buffer as its contract promises them
+pub record Correction : Type 0 where
+  pub block : List ℕ
+  pub buffer : List ℕ
+  pub report : Report
+  pub restored : List ℕ
+  pub promised : (report .refusal, report .counts, report .sum, restored) ≡ frameCorrected block buffer
+
+-- the number and the sum that are promised
+abbrev pub numberOf : Correction → ℕ
+numberOf c = frameCorrected (c .block) (c .buffer) .0
+
+abbrev pub sumOf : Correction → ℕ
+sumOf c = frameCorrected (c .block) (c .buffer) .2
+
+pub record CounterLaws : Type 0 where
+  -- after any calls, each number is the sum over the answers since the last clearing, or 4,294,967,295 if that is less
+  pub since-clearing : (calls : List Call) → after cleared calls ≡ totals (since [] calls)
+  -- for the corrector's answers these are its corrected blocks, its refusals 5, and the bits of its corrected blocks
+  pub corrections : (cs : List Correction) →
+      after cleared (map (λ c. count (c .report)) cs)
+      ≡ record {
+        frames = limited (sumOver (λ c. cond (eqb (numberOf c) 0) 1 0) cs);
+        uncorrectable = limited (sumOver (λ c. cond (eqb (numberOf c) 5) 1 0) cs);
+        bits = limited (sumOver (λ c. cond (eqb (numberOf c) 0) (sumOf c) 0) cs);
+      }
+
+-- ---- worst list
+
+-- inner word j stands before inner word k: its count is larger, or equal and its number lower
+abbrev pub Before : List ℕ → ℕ → ℕ → Type 0
+Before counts j k = (countOf counts k < countOf counts j) ⊎ ((countOf counts j ≡ countOf counts k) × (j < k))
+
+-- place i of a list
+abbrev pub placeOf : List ℕ → ℕ → ℕ
+placeOf list i = getD list i 64
+
+-- what document 01 asks of the worst list of counts
+pub record Worst (counts list : List ℕ) : Type 0 where
+  -- eight places, each empty or with an inner word whose count is above 0
+  pub eight : length list ≡ 8
+  pub named : (i : ℕ) → i < 8 → (placeOf list i ≡ 64) ⊎ ((placeOf list i < 64) × (0 < countOf counts (placeOf list i)))
+  -- sorted: a place before that of an inner word has one that stands before it, so empty places are last
+  pub sorted : (i j : ℕ) → i < j → j < 8 → placeOf list j < 64 → (placeOf list i < 64) × Before counts (placeOf list i) (placeOf list j)
+  -- no repeats: two places that hold the same are empty
+  pub once : (i j : ℕ) → i < j → j < 8 → placeOf list i ≡ placeOf list j → placeOf list i ≡ 64
+  -- no larger count is left out: if an inner word with a count above 0 is not listed, every place has one that stands before it
+  pub complete : (k : ℕ) → k < 64 → 0 < countOf counts k → ((i : ℕ) → i < 8 → placeOf list i ≡ k → ⊥) →
+      (i : ℕ) → i < 8 → (placeOf list i < 64) × Before counts (placeOf list i) k
+
+pub record WorstLaws : Type 0 where
+  pub worst : (counts : List ℕ) → Worst counts (worstWords counts)
+  -- and there is no other such list
+  pub only : (counts list : List ℕ) → Worst counts list → list ≡ worstWords counts
+
+pub record Logging : Type 0 where
+  pub counters : CounterLaws
+  pub lists : WorstLaws

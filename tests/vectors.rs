@@ -4,6 +4,8 @@
 // Zierler: systems of linear equations for locators and values) tells whether a code word is within eight; it must agree on all other words too. Frames are
 // corrected by that decoder, word by word; where the sent frame is promised, it must come out.
 
+mod samples;
+
 // The field of 2^m elements from the polynomial p.
 struct Field {
     m: u32,
@@ -498,6 +500,10 @@ fn with(n: usize, places: &[(usize, u32)]) -> Vec<u32> {
 }
 
 fn main() {
+    // Given a folder: the samples go there, and no rows are printed.
+    if let Some(folder) = std::env::args().nth(1) {
+        return samples::write_all(folder.as_ref());
+    }
     for n in [0, 16, 17, 1023, 1024] {
         row("check outer, zeros, length", n, check_outer(&vec![0; n]));
     }

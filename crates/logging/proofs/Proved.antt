@@ -9,7 +9,8 @@ use Rattle.frames.specs.declared.Report.{Report}
 use Rattle.logging.specs.Counting.{framesOf, uncorrectableOf, bitsOf, limited, cleared, Call, count, after, since, sumOver, totals}
 use Rattle.logging.specs.Laws.{Correction, numberOf, sumOf, CounterLaws, Logging}
 use Rattle.logging.proofs.Sequences.{cleared-totals, since-clearing}
-use Rattle.logging.proofs.Ranking.{worst-list, worst-only}
+use Rattle.logging.proofs.Ranking.{worst-list}
+use Rattle.logging.proofs.OneList.{worst-only}
 
 -- ---- counters
 

@@ -1,27 +1,23 @@
 -- What `Logging` of specs/Laws.antt lists is proved. Assumes nothing.
-use mathlib.Core.Path.{_≡_, refl, sym, ap, ap₂, _∙_}
+use mathlib.Core.Path.{_≡_, refl, ap, ap₂, _∙_}
 use mathlib.Core.Bool.{cond}
-use mathlib.Core.List.{List, [], _∷_, _++_, map, append-assoc, append-nil}
+use mathlib.Core.List.{List, [], _∷_, map}
 use Prim.Native.Nat.{ℕ, _+_}
 use lib.Dec.{eqb}
-use Rattle.frames.specs.Answers.{Corrected}
 use Rattle.frames.specs.declared.Report.{Report}
-use Rattle.logging.specs.Counting.{framesOf, uncorrectableOf, bitsOf, limited, cleared, Call, count, after, since, sumOver, totals}
+use Rattle.logging.specs.Counting.{framesOf, uncorrectableOf, bitsOf, limited, count, since, sumOver, totals}
 use Rattle.logging.specs.Laws.{Correction, numberOf, sumOf, CounterLaws, Logging}
-use Rattle.logging.proofs.Sequences.{cleared-totals, since-clearing}
+use Rattle.logging.proofs.Sequences.{since-clearing}
 use Rattle.logging.proofs.Ranking.{worst-list}
 use Rattle.logging.proofs.OneList.{worst-only}
 
 -- ---- counters
 
-pub from-clearing : (calls : List Call) → after cleared calls ≡ totals (since [] calls)
-from-clearing calls = rw cleared-totals (since-clearing [] calls)
-
 -- the corrector's reports, with no clearing among them
-since-corrections : (answers : List Report) (cs : List Correction) → since answers (map (λ c. count (c .report)) cs) ≡ answers ++ map (λ c. c .report) cs
+since-corrections : (cs : List Correction) → since (map (λ c. count (c .report)) cs) ≡ map (λ c. c .report) cs
 unfolding since
-since-corrections answers [] = sym (append-nil answers)
-since-corrections answers (c ∷ cs) = since-corrections (answers ++ (c .report ∷ [])) cs ∙ append-assoc answers (c .report ∷ []) (map (λ d. d .report) cs)
+since-corrections [] = refl
+since-corrections (c ∷ cs) = ap (λ (answers : List Report). c .report ∷ answers) (since-corrections cs)
 
 -- what the reports add, where each adds what is promised
 sum-over : (f : Report → ℕ) (g : Correction → ℕ) → ((c : Correction) → f (c .report) ≡ g c) → (cs : List Correction) →
@@ -33,10 +29,10 @@ sum-over f g same (c ∷ cs) = ap₂ _+_ (same c) (sum-over f g same cs)
 -- number and sum are those of the promise
 module _ (c : Correction) where
   number-promised : c .report .refusal ≡ numberOf c
-  number-promised = ap (λ (a : Corrected). a .0) (c .promised)
+  number-promised = ap (λ (a : ℕ × List ℕ × ℕ × List ℕ). a .0) (c .promised)
 
   sum-promised : c .report .sum ≡ sumOf c
-  sum-promised = ap (λ (a : Corrected). a .2) (c .promised)
+  sum-promised = ap (λ (a : ℕ × List ℕ × ℕ × List ℕ). a .2) (c .promised)
 
   frames-promised : framesOf (c .report) ≡ cond (eqb (numberOf c) 0) 1 0
   unfolding framesOf
@@ -63,8 +59,8 @@ of-corrections cs = rw (sum-over _ _ frames-promised cs, sum-over _ _ uncorrecta
 pub counters : CounterLaws
 counters =
     record {
-      since-clearing = from-clearing;
-      corrections = λ cs. from-clearing (map (λ c. count (c .report)) cs) ∙ ap totals (since-corrections [] cs) ∙ of-corrections cs;
+      since-clearing = since-clearing;
+      corrections = λ cs. since-clearing (map (λ c. count (c .report)) cs) ∙ ap totals (since-corrections cs) ∙ of-corrections cs;
     }
 
 -- ---- worst list

@@ -1,7 +1,7 @@
 -- The counters after every sequence of calls are the sums over the answers since the last clearing, each up to its limit. Assumes nothing.
-use mathlib.Core.Path.{_≡_, refl, sym, ap, _∙_}
+use mathlib.Core.Path.{_≡_, refl}
 use mathlib.Core.Bool.{cond}
-use mathlib.Core.List.{List, [], _∷_, _++_}
+use mathlib.Core.List.{List, [], _∷_}
 use Prim.Native.Nat.{ℕ, _+_}
 use native.Mathlib.Omega.{arith}
 use lib.Dec.{eqb}
@@ -21,33 +21,23 @@ pub counting : (c : Counters) (r : Report) (f u b x y z : ℕ) → x ≡ cond (e
 unfolding counted framesOf uncorrectableOf bitsOf
 counting c r f u b x y z ex ey ez ef eu eb = rw (ef, eu, eb, ex, ey, ez)
 
--- ---- sums
+-- ---- every sequence of calls
 
 -- a number that stops is the limit of the whole sum, wherever it stopped on the way
-stops : (a b : ℕ) → limited (limited a + b) ≡ limited (a + b)
-stops a b = omega arith
-
-pub sum-last : {A : Type 0} (f : A → ℕ) (answers : List A) (a : A) → sumOver f (answers ++ (a ∷ [])) ≡ sumOver f answers + f a
+next : (f : Report → ℕ) (answers : List Report) (r : Report) → limited (limited (sumOver f answers) + f r) ≡ limited (sumOver f (r ∷ answers))
 unfolding sumOver
-sum-last f [] a = omega arith
-sum-last f (x ∷ answers) a = ap (λ (n : ℕ). f x + n) (sum-last f answers a) ∙ omega arith
+next f answers r = omega arith
 
--- one more answer
-next : (f : Report → ℕ) (answers : List Report) (r : Report) → limited (limited (sumOver f answers) + f r) ≡ limited (sumOver f (answers ++ (r ∷ [])))
-next f answers r = stops (sumOver f answers) (f r) ∙ ap limited (sym (sum-last f answers r))
-
-pub counted-totals : (answers : List Report) (r : Report) → counted (totals answers) r ≡ totals (answers ++ (r ∷ []))
+counted-totals : (answers : List Report) (r : Report) → counted (totals answers) r ≡ totals (r ∷ answers)
 unfolding counted totals
 counted-totals answers r = rw (next framesOf answers r, next uncorrectableOf answers r, next bitsOf answers r)
 
-pub cleared-totals : cleared ≡ totals []
+cleared-totals : cleared ≡ totals []
 unfolding cleared totals sumOver
 cleared-totals = refl
 
--- ---- every sequence of calls
-
-pub since-clearing : (answers : List Report) (calls : List Call) → after (totals answers) calls ≡ totals (since answers calls)
+pub since-clearing : (calls : List Call) → after calls ≡ totals (since calls)
 unfolding after since
-since-clearing answers [] = refl
-since-clearing answers (clear ∷ calls) = rw cleared-totals (since-clearing [] calls)
-since-clearing answers (count r ∷ calls) = rw (counted-totals answers r) (since-clearing (answers ++ (r ∷ [])) calls)
+since-clearing [] = cleared-totals
+since-clearing (clear ∷ earlier) = cleared-totals
+since-clearing (count r ∷ earlier) = rw (since-clearing earlier) (counted-totals (since earlier) r)

@@ -1,6 +1,6 @@
 -- Counters ("tally") of the corrector's answers: frames taken, uncorrectable blocks ("beyond reach"), bits corrected ("mended").
 use mathlib.Core.Bool.{cond}
-use mathlib.Core.List.{List, [], _∷_, _++_}
+use mathlib.Core.List.{List, [], _∷_}
 use Prim.Native.Nat.{ℕ, _+_, min}
 use lib.Dec.{eqb}
 use Rattle.frames.specs.declared.Report.{Report}
@@ -39,17 +39,16 @@ pub data Call : Type 0 where
   clear : Call
   count : Report → Call
 
--- the counters c after calls, the first call first
-unfoldable pub after : Counters → List Call → Counters
-after c [] = c
-after c (clear ∷ calls) = after cleared calls
-after c (count r ∷ calls) = after (counted c r) calls
+-- the counters after calls, and the answers counted since the last clearing; the last call stands first
+unfoldable pub after : List Call → Counters
+after [] = cleared
+after (clear ∷ earlier) = cleared
+after (count r ∷ earlier) = counted (after earlier) r
 
--- the answers counted since the last clearing, where some were counted before the calls
-unfoldable pub since : List Report → List Call → List Report
-since answers [] = answers
-since answers (clear ∷ calls) = since [] calls
-since answers (count r ∷ calls) = since (answers ++ (r ∷ [])) calls
+unfoldable pub since : List Call → List Report
+since [] = []
+since (clear ∷ earlier) = []
+since (count r ∷ earlier) = r ∷ since earlier
 
 -- what answers add up to, and the counters that show it
 unfoldable pub sumOver : {A : Type 0} → (A → ℕ) → List A → ℕ

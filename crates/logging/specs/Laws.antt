@@ -2,13 +2,13 @@
 use mathlib.Core.Path.{_≡_}
 use mathlib.Core.Logic.{_⊎_}
 use mathlib.Core.Bool.{cond}
-use mathlib.Core.List.{List, [], map}
+use mathlib.Core.List.{List, map}
 use Prim.Native.Nat.{ℕ, _<_}
 use lib.Dec.{eqb}
 use lib.ListN.{length, getD}
 use Rattle.frames.specs.Answers.{frameCorrected}
 use Rattle.frames.specs.declared.Report.{Report}
-use Rattle.logging.specs.Counting.{limited, cleared, Call, count, after, since, sumOver, totals}
+use Rattle.logging.specs.Counting.{limited, Call, count, after, since, sumOver, totals}
 use Rattle.logging.specs.WorstList.{countOf, worstWords}
 
 -- ---- counters
@@ -18,8 +18,8 @@ pub record Correction : Type 0 where
   pub block : List ℕ
   pub buffer : List ℕ
   pub report : Report
-  pub restored : List ℕ
-  pub promised : (report .refusal, report .counts, report .sum, restored) ≡ frameCorrected block buffer
+  pub out : List ℕ
+  pub promised : (report .refusal, report .counts, report .sum, out) ≡ frameCorrected block buffer
 
 -- the number and the sum that are promised
 abbrev pub numberOf : Correction → ℕ
@@ -30,10 +30,10 @@ sumOf c = frameCorrected (c .block) (c .buffer) .2
 
 pub record CounterLaws : Type 0 where
   -- after any calls, each number is the sum over the answers since the last clearing, or 4,294,967,295 if that is less
-  pub since-clearing : (calls : List Call) → after cleared calls ≡ totals (since [] calls)
+  pub since-clearing : (calls : List Call) → after calls ≡ totals (since calls)
   -- for the corrector's answers these are its corrected blocks, its refusals 5, and the bits of its corrected blocks
   pub corrections : (cs : List Correction) →
-      after cleared (map (λ c. count (c .report)) cs)
+      after (map (λ c. count (c .report)) cs)
       ≡ record {
         frames = limited (sumOver (λ c. cond (eqb (numberOf c) 0) 1 0) cs);
         uncorrectable = limited (sumOver (λ c. cond (eqb (numberOf c) 5) 1 0) cs);

@@ -1,8 +1,7 @@
 // The rows of crates/acceptance, computed a second time from documents 01 and 002 alone, by other means than the library's: products without
-// tables, values as sums of powers, long division over a list of coefficients, least polynomials as products over the conjugates. What a correction
-// gives comes from how the word was made: up to eight errors are taken away. Where there are nine, a decoder of another kind (Peterson, Gorenstein and
-// Zierler: systems of linear equations for locators and values) tells whether a code word is within eight; it must agree on all other words too. Frames are
-// corrected by that decoder, word by word; where the sent frame is promised, it must come out.
+// tables, values as sums of powers, long division over a list of coefficients, least polynomials as products over the conjugates. Words are corrected by a
+// decoder of another kind (Peterson, Gorenstein and Zierler: systems of linear equations for locators and values), and frames by that decoder, word by word.
+// Where the sent word or frame is promised, it must come out.
 
 mod samples;
 
@@ -256,6 +255,40 @@ fn nearest_inner(word: &[u32]) -> Option<Vec<u32>> {
     Some(bytes(&c))
 }
 
+// Number, how many symbols changed, and buffer.
+fn correct_outer(word: &[u32], out: &mut Vec<u32>) -> (u32, usize) {
+    if word.len() < 17 || word.len() > 1023 {
+        return (6, 0);
+    }
+    if out.len() != word.len() {
+        return (3, 0);
+    }
+    if word.iter().any(|s| *s > 1023) {
+        return (7, 0);
+    }
+    let Some(c) = nearest_outer(word) else { return (5, 0) };
+    let changed = differing(&c, word);
+    *out = c;
+    (0, changed)
+}
+
+fn correct_inner(word: &[u32], out: &mut Vec<u32>) -> (u32, usize) {
+    if word.len() != 255 {
+        return (6, 0);
+    }
+    if out.len() != 255 {
+        return (3, 0);
+    }
+    let Some(c) = nearest_inner(word) else { return (5, 0) };
+    let changed = differing(&bits(&c), &bits(word));
+    *out = c;
+    (0, changed)
+}
+
+fn differing(a: &[u32], b: &[u32]) -> usize {
+    a.iter().zip(b).filter(|(x, y)| x != y).count()
+}
+
 // ---- frames
 
 // Groups of ten bits as symbols, and symbols as their bits.
@@ -388,115 +421,242 @@ fn correct_frame(block: &[u32], out: &mut Vec<u32>) -> (u32, Vec<u32>) {
 
 // ---- rows
 
-fn corrected(name: &str, n: usize, number: u32, changed: usize, same: bool) {
-    println!("{name} {n}: {number} {changed} {}", same as u32);
+// A number that tells lists apart.
+fn digest(values: &[u32]) -> u64 {
+    values.iter().fold(0, |h, v| (257 * h + *v as u64 + 1) % 1_000_000_007)
 }
 
-// A word made of the sent one by `changed` errors.
-fn correction(name: &str, n: usize, nearest: fn(&[u32]) -> Option<Vec<u32>>, sent: &[u32], word: &[u32], changed: usize) {
-    match nearest(word) {
-        Some(c) => {
-            assert!(changed <= 8 && c == sent);
-            corrected(name, n, 0, changed, true);
+// A short list as it is, a longer one by its digest and how many nines it has.
+fn shown(values: &[u32]) -> String {
+    if values.len() <= 17 {
+        values.iter().map(|v| format!(" {v}")).collect()
+    } else {
+        format!(" {} {}", digest(values), values.iter().filter(|v| **v == 9).count())
+    }
+}
+
+// The data of a row.
+#[derive(Clone, Copy)]
+enum Data {
+    Each(u32),
+    Counted,
+    // Zeros but for four symbols, or four bits.
+    Symbols,
+    Bits,
+    Bit(usize),
+    LastBit,
+    Near,
+}
+
+use Data::*;
+
+impl Data {
+    fn values(self, n: usize) -> Vec<u32> {
+        let with = |places: &[(usize, u32)]| {
+            let mut values = vec![0; n];
+            for (i, v) in places {
+                values[*i] = *v;
+            }
+            values
+        };
+        match self {
+            Each(v) => vec![v; n],
+            Counted => (0..n as u32).map(|i| i % 251).collect(),
+            Symbols => with(&[(0, 1), (1, 1023), (400, 512), (761, 4)]),
+            Bits => with(&[(0, 128), (100, 3), (243, 1)]),
+            Bit(i) => with(&[(i / 8, 128 >> (i % 8))]),
+            LastBit => with(&[(243, 1)]),
+            Near => {
+                let parity = outer_parity(&[2]);
+                std::iter::once(2).chain(parity.into_iter().take(8)).chain([0; 8]).collect()
+            }
         }
-        None => {
-            assert!(changed == 9);
-            corrected(name, n, 5, 0, false);
+    }
+
+    fn name(self) -> String {
+        match self {
+            Each(v) => format!("each {v}"),
+            Counted => "counted modulo 251".to_string(),
+            Symbols => "zeros but for four symbols".to_string(),
+            Bits => "zeros but for four bits".to_string(),
+            Bit(i) => format!("zeros but for bit {i}"),
+            LastBit => "zeros but for the last data bit".to_string(),
+            Near => "nine symbols of a code word, then zeros".to_string(),
         }
     }
 }
 
-// One error at each of three places; then zero to nine errors.
-fn corrections(name: &str, nearest: fn(&[u32]) -> Option<Vec<u32>>, sent: &[u32], damage: fn(&mut [u32], usize, u32), single: &[usize], places: [usize; 9]) {
-    let mut word = sent.to_vec();
-    for i in single {
-        damage(&mut word, *i, 1023);
-        correction(&format!("{name}, an error at place"), *i, nearest, sent, &word, 1);
-        damage(&mut word, *i, 1023);
-    }
-    for k in 0..10 {
-        correction(&format!("{name}, errors"), k, nearest, sent, &word, k);
-        if k < 9 {
-            damage(&mut word, places[k], 100 * k as u32 + 1);
+// A call by its name: what it answers, and the buffer, which holds nines before the call.
+fn answer(call: &str, lent: &[u32], space: usize) -> (String, Vec<u32>) {
+    let mut out = vec![9; space];
+    let number = match call {
+        "check outer" => check_outer(lent),
+        "check inner" => check_inner(lent),
+        "check frame" => check_frame(lent),
+        "encode outer" => encode_outer(lent, &mut out),
+        "encode inner" => encode_inner(lent, &mut out),
+        "encode frame" => encode_frame(lent, &mut out),
+        "extract frame" => extract_payload(lent, &mut out),
+        "correct frame" => {
+            let (number, counts) = correct_frame(lent, &mut out);
+            return (format!("{number} {} {}", counts.iter().sum::<u32>(), digest(&counts)), out);
         }
-    }
+        _ => {
+            let (number, changed) = if call == "correct outer" { correct_outer(lent, &mut out) } else { correct_inner(lent, &mut out) };
+            return (format!("{number} {changed}"), out);
+        }
+    };
+    (number.to_string(), out)
 }
 
-fn damage_symbol(word: &mut [u32], i: usize, v: u32) {
-    word[i] ^= v;
-}
-
-fn damage_place(word: &mut [u32], i: usize, _: u32) {
-    word[i / 8] ^= 128 >> (i % 8);
-}
-
-fn row(name: &str, n: usize, result: u32) {
-    println!("{name} {n}: {result}");
-}
-
-fn list(name: &str, values: &[u32]) {
-    println!("{name}:{}", values.iter().map(|v| format!(" {v}")).collect::<String>());
-}
-
-// A call with a buffer of nines, and what is in it afterwards.
-fn made(name: &str, encode: fn(&[u32], &mut Vec<u32>) -> u32, data: &[u32], space: usize) {
-    let mut out = vec![9; space];
-    row(name, data.len(), encode(data, &mut out));
-    list("out", &out);
-}
-
-// A number that tells lists of bytes apart.
-fn digest(bytes: &[u32]) -> u64 {
-    bytes.iter().fold(0, |h, b| (257 * h + *b as u64 + 1) % 1_000_000_007)
-}
-
-fn row_digest(name: &str, n: usize, result: u32, out: &[u32]) {
-    println!("{name} {n}: {result} {}", digest(out));
-}
-
-// A call with a buffer of nines, and the digest of what is in it afterwards.
-fn digested(name: &str, n: usize, call: fn(&[u32], &mut Vec<u32>) -> u32, given: &[u32], space: usize) {
-    let mut out = vec![9; space];
-    let result = call(given, &mut out);
-    row_digest(name, n, result, &out);
-}
-
-// A payload, its frame, and the payload again.
-fn there_and_back(name: &str, n: usize, payload: &[u32]) {
-    digested(&format!("encode, {name}"), n, encode_frame, payload, 16_320);
-    let sent = frame(payload);
-    row(&format!("check, {name}"), n, check_frame(&sent));
-    digested(&format!("extract, {name}"), n, extract_payload, &sent, 15_296);
-    assert!(crate::payload(&sent) == payload);
-    println!("payload, {name} {n}: {}", digest(payload));
-}
-
-// A correction with a buffer of nines: number, sum, the counts' digest, the buffer's, and how many nines are in it afterwards.
-fn correction_row(name: &str, block: &[u32], space: usize) -> Vec<u32> {
-    let mut out = vec![9; space];
-    let (number, counts) = correct_frame(block, &mut out);
-    let nines = out.iter().filter(|x| **x == 9).count();
-    println!("{name}: {number} {} {} {} {nines}", counts.iter().sum::<u32>(), digest(&counts), digest(&out));
+// The rest of a line.
+fn row(call: &str, lent: &[u32], space: usize) -> Vec<u32> {
+    let (answer, out) = answer(call, lent, space);
+    println!(", buffer of {space}: {answer}{}", shown(&out));
     out
 }
 
-// A frame of which `count` bits are inverted. Where demand 3 promises the sent frame, it must come back.
-fn damaged(name: &str, payload: &[u32], (first, step, count): (usize, usize, usize), promised: bool) {
-    let sent = frame(payload);
-    let mut block = bits(&sent);
-    for j in 0..count {
-        block[(first + step * j) % 130_560] ^= 1;
-    }
-    let out = correction_row(&format!("correct, {name}, bits {count}, from {first}, apart {step}"), &bytes(&block), 16_320);
-    assert!((out == sent) == promised);
+fn lent(call: &str, n: usize, data: Data, space: usize) -> Vec<u32> {
+    print!("{call}, length {n}, {}", data.name());
+    row(call, &data.values(n), space)
 }
 
-fn with(n: usize, places: &[(usize, u32)]) -> Vec<u32> {
-    let mut word = vec![0; n];
-    for (i, v) in places {
-        word[*i] = *v;
+// The word or frame that is sent.
+fn sent(code: &str, values: &[u32]) -> Vec<u32> {
+    match code {
+        "outer" => [values, &outer_parity(values)].concat(),
+        "inner" => [values, &inner_parity(values)].concat(),
+        _ => frame(values),
     }
-    word
+}
+
+// A row on what is received when the word or frame of the data is sent. Where the correction is promised, the sent one must come back; else it must not.
+fn received(call: &str, d: usize, data: Data, errors: &[(usize, u32)], described: &str, space: usize, promised: bool) {
+    let code = call.split(' ').last().unwrap();
+    let sent = sent(code, &data.values(d));
+    let mut word = sent.clone();
+    for (i, v) in errors {
+        if code == "outer" {
+            word[*i] ^= *v;
+        } else {
+            word[i / 8] ^= 128 >> (i % 8);
+        }
+    }
+    print!("{call}, length {d}, {}, encoded to {}: 0, errors {}{described}", data.name(), sent.len(), errors.len());
+    let out = row(call, &word, space);
+    assert!(!call.starts_with("correct") || (out == sent) == promised);
+}
+
+// Errors of one value at places that are the same step apart, going round at the end of a frame.
+fn spaced(call: &str, d: usize, data: Data, (count, value, first, step): (usize, u32, usize, usize), space: usize, promised: bool) {
+    let errors: Vec<(usize, u32)> = (0..count).map(|j| ((first + step * j) % 130_560, value)).collect();
+    received(call, d, data, &errors, &format!(" of value {value} from {first} apart {step}"), space, promised);
+}
+
+// One error at each of three places; then zero to nine errors.
+fn corrected(call: &str, d: usize, data: Data, n: usize, value: u32, places: [usize; 9]) {
+    for i in [0, 2, 1] {
+        spaced(call, d, data, (1, value, places[i], 0), n, true);
+    }
+    for count in 0..10 {
+        let errors: Vec<(usize, u32)> = (0..count).map(|k| (places[k], 100 * k as u32 + 1)).collect();
+        received(call, d, data, &errors, "", n, count <= 8);
+    }
+}
+
+fn outer_words() {
+    for n in [0, 16, 17, 1023, 1024] {
+        lent("check outer", n, Each(0), 0);
+    }
+    for s in [1023, 1024] {
+        spaced("check outer", 1, Each(0), (1, s, 3, 0), 0, false);
+    }
+    spaced("check outer", 1, Each(2), (0, 0, 0, 0), 0, true);
+    spaced("check outer", 1, Each(2), (1, 1, 16, 0), 0, false);
+    for (n, data) in [(1, Each(1)), (1, Each(2)), (765, Each(1023)), (1007, Each(1)), (762, Symbols)] {
+        lent("encode outer", n, data, 16);
+    }
+    for (n, value, space) in [(0, 0, 15), (1008, 0, 16), (2, 1024, 0), (2, 1024, 15), (2, 1024, 17), (2, 1024, 16)] {
+        lent("encode outer", n, Each(value), space);
+    }
+    assert!(lent("correct outer", 17, Near, 17) == sent("outer", &[2]));
+    for (n, value, space) in [(0, 0, 17), (16, 0, 16), (17, 0, 17), (1024, 0, 1024), (17, 1024, 16), (17, 1024, 17)] {
+        lent("correct outer", n, Each(value), space);
+    }
+}
+
+fn inner_words() {
+    for n in [0, 254, 255, 256] {
+        lent("check inner", n, Each(0), 0);
+    }
+    assert!(bits(&sent("inner", &LastBit.values(244)))[1951..] == divisor());
+    spaced("check inner", 244, Each(0), (1, 1, 0, 0), 0, false);
+    spaced("check inner", 244, LastBit, (0, 1, 0, 0), 0, true);
+    spaced("check inner", 244, LastBit, (1, 1, 2039, 0), 0, false);
+    for data in [LastBit, Each(255), Bits] {
+        lent("encode inner", 244, data, 11);
+    }
+    for (n, space) in [(0, 10), (243, 11), (245, 11), (244, 0), (244, 10), (244, 12)] {
+        lent("encode inner", n, Each(0), space);
+    }
+    for (n, space) in [(0, 255), (254, 254), (255, 255), (256, 256), (255, 254), (255, 256)] {
+        lent("correct inner", n, Each(0), space);
+    }
+}
+
+fn payloads() {
+    for data in [Each(0), Each(255), Counted, Bit(0), Bit(7_649), Bit(7_650), Bit(114_749), Bit(114_750), Bit(122_367)] {
+        let values = data.values(15_296);
+        assert!(payload(&frame(&values)) == values);
+        println!("payload, {}:{}", data.name(), shown(&values));
+        lent("encode frame", 15_296, data, 16_320);
+        spaced("check frame", 15_296, data, (0, 1, 0, 0), 0, true);
+        spaced("extract frame", 15_296, data, (0, 1, 0, 0), 15_296, true);
+    }
+}
+
+fn refusals() {
+    for (n, space) in [(0, 16_319), (15_295, 16_319), (15_297, 16_319), (15_296, 0), (15_296, 16_319), (15_296, 16_321)] {
+        lent("encode frame", n, Each(0), space);
+    }
+    for n in [0, 16_319, 16_321] {
+        lent("check frame", n, Each(0), 0);
+        lent("extract frame", n, Each(0), 15_295);
+    }
+    for i in [0, 64, 124_767, 124_768, 124_927, 124_928, 130_559] {
+        lent("check frame", 16_320, Bit(i), 0);
+        lent("extract frame", 16_320, Bit(i), 15_296);
+    }
+    for space in [0, 15_295, 15_297] {
+        lent("extract frame", 16_320, Each(255), space);
+    }
+    for (n, space) in [(0, 0), (16_319, 16_319), (16_321, 16_320), (16_320, 0), (16_320, 16_319), (16_320, 16_321)] {
+        lent("correct frame", n, Each(0), space);
+    }
+    for space in [16_321, 16_320] {
+        lent("correct frame", 16_320, Each(255), space);
+    }
+}
+
+fn frame_corrections() {
+    for (data, count, first, step, promised) in [
+        (Each(0), 0, 0, 1, true),
+        (Each(0), 1, 0, 1, true),
+        (Each(0), 1, 130_559, 1, true),
+        (Each(0), 8, 0, 64, true),
+        (Each(0), 512, 0, 1, true),
+        (Each(0), 513, 0, 1, false),
+        (Each(0), 9, 0, 12_800, true),
+        (Each(0), 130_560, 0, 1, false),
+        (Counted, 0, 0, 1, true),
+        (Counted, 512, 5, 255, true),
+        (Counted, 576, 5, 191, false),
+        (Counted, 9, 129_984, 64, true),
+        (Counted, 124, 3, 1_008, true),
+        (Counted, 128, 3, 976, false),
+    ] {
+        spaced("correct frame", 15_296, data, (count, 1, first, step), 16_320, promised);
+    }
 }
 
 fn main() {
@@ -504,147 +664,14 @@ fn main() {
     if let Some(folder) = std::env::args().nth(1) {
         return samples::write_all(folder.as_ref());
     }
-    for n in [0, 16, 17, 1023, 1024] {
-        row("check outer, zeros, length", n, check_outer(&vec![0; n]));
-    }
-    for s in [1023, 1024] {
-        row("check outer, a symbol of", s as usize, check_outer(&with(17, &[(3, s)])));
-    }
-    let mut word = vec![2];
-    word.extend(outer_parity(&[2]));
-    list("word", &word);
-    row("check outer, the data 2 with its parity, length", 17, check_outer(&word));
-    word[16] ^= 1;
-    row("check outer, its last symbol changed, length", 17, check_outer(&word));
-
-    made("encode outer, ones, length", encode_outer, &[1], 16);
-    made("encode outer, all bits set, length", encode_outer, &[1023; 765], 16);
-    made("encode outer, ones, length", encode_outer, &[1; 1007], 16);
-    made("encode outer, four symbols set, length", encode_outer, &with(762, &[(0, 1), (1, 1023), (400, 512), (761, 4)]), 16);
-
-    made("encode outer, zeros, length", encode_outer, &[], 15);
-    made("encode outer, zeros, length", encode_outer, &[0; 1008], 16);
-    made("encode outer, no buffer and symbols of 1024, length", encode_outer, &[1024; 2], 0);
-    made("encode outer, buffer of 15 and symbols of 1024, length", encode_outer, &[1024; 2], 15);
-    made("encode outer, buffer of 17 and symbols of 1024, length", encode_outer, &[1024; 2], 17);
-    made("encode outer, symbols of 1024, length", encode_outer, &[1024; 2], 16);
-
-    for n in [0, 254, 255, 256] {
-        row("check inner, zeros, length", n, check_inner(&vec![0; n]));
-    }
-    row("check inner, place 0 set, length", 255, check_inner(&with(255, &[(0, 128)])));
-    let mut word = with(244, &[]);
-    word.extend(bytes(&divisor()[1..]));
-    word[243] ^= 1;
-    list("last bytes", &word[243..]);
-    row("check inner, the divisor, length", 255, check_inner(&word));
-    word[254] ^= 1;
-    row("check inner, its last place changed, length", 255, check_inner(&word));
-
-    made("encode inner, all bits set, length", encode_inner, &[255; 244], 11);
-    made("encode inner, four places set, length", encode_inner, &with(244, &[(0, 128), (100, 3), (243, 1)]), 11);
-
-    made("encode inner, zeros, length", encode_inner, &[], 10);
-    made("encode inner, zeros, length", encode_inner, &[0; 243], 11);
-    made("encode inner, zeros, length", encode_inner, &[0; 245], 11);
-    made("encode inner, no buffer, length", encode_inner, &[0; 244], 0);
-    made("encode inner, buffer of 10, length", encode_inner, &[0; 244], 10);
-    made("encode inner, buffer of 12, length", encode_inner, &[0; 244], 12);
-
-    let name = "correct outer";
-    println!("shortest outer word");
-    let mut sent = vec![2];
-    sent.extend(outer_parity(&[2]));
-    corrections(name, nearest_outer, &sent, damage_symbol, &[0, 8, 16], [0, 16, 8, 1, 15, 9, 2, 14, 10]);
-    let mut word = sent[..9].to_vec();
-    word.extend([0; 8]);
-    correction("correct outer, zeros but for the first", 9, nearest_outer, &sent, &word, 8);
-    println!("outer word of a frame");
-    let mut sent = vec![1023; 765];
-    sent.extend(outer_parity(&sent));
-    corrections(name, nearest_outer, &sent, damage_symbol, &[0, 390, 780], [0, 780, 390, 1, 779, 391, 2, 778, 392]);
-    println!("longest outer word");
-    let mut sent = vec![1; 1007];
-    sent.extend(outer_parity(&sent));
-    corrections(name, nearest_outer, &sent, damage_symbol, &[0, 511, 1022], [0, 1022, 511, 1, 1021, 512, 2, 1020, 513]);
-    for (n, number) in [(0, 6), (16, 6), (17, 0), (1024, 6)] {
-        corrected("correct outer, zeros, length", n, number, 0, number == 0);
-    }
-    for (n, number) in [(16, 3), (17, 7)] {
-        corrected("correct outer, symbols of 1024, buffer of", n, number, 0, false);
-    }
-
-    let name = "correct inner";
-    println!("inner word");
-    let mut sent = vec![255; 244];
-    sent.extend(inner_parity(&sent));
-    corrections(name, nearest_inner, &sent, damage_place, &[0, 1020, 2039], [0, 2039, 1020, 1, 2038, 1021, 2, 2037, 1022]);
-    println!("inner word, parity places only");
-    corrections(name, nearest_inner, &sent, damage_place, &[], [1952, 2039, 1995, 1953, 2038, 1996, 1954, 2037, 1997]);
-    for (n, number) in [(0, 6), (254, 6), (255, 0), (256, 6)] {
-        corrected("correct inner, zeros, length", n, number, 0, number == 0);
-    }
-    for n in [254, 256] {
-        corrected("correct inner, zeros, buffer of", n, 3, 0, false);
-    }
-
-    there_and_back("each byte", 0, &[0; 15_296]);
-    there_and_back("each byte", 255, &[255; 15_296]);
-    there_and_back("bytes counted modulo", 251, &(0..15_296).map(|i| i % 251).collect::<Vec<u32>>());
-    for i in [0, 7_649, 7_650, 114_749, 114_750, 122_367] {
-        there_and_back("payload bit", i, &with(15_296, &[(i / 8, 128 >> (i % 8))]));
-    }
-    for n in [0, 15_295, 15_297] {
-        digested("encode, zeros, length", n, encode_frame, &vec![0; n], 16_319);
-    }
-    for n in [0, 16_319, 16_321] {
-        digested("encode, zeros, buffer of", n, encode_frame, &[0; 15_296], n);
-    }
-    for n in [0, 16_319, 16_321] {
-        row("check, zeros, length", n, check_frame(&vec![0; n]));
-        digested("extract, zeros, length", n, extract_payload, &vec![0; n], 15_295);
-    }
-    for i in [0, 64, 124_767, 124_768, 124_927, 124_928, 130_559] {
-        let block = with(16_320, &[(i / 8, 128 >> (i % 8))]);
-        row("check, frame bit set", i, check_frame(&block));
-        digested("extract, frame bit set", i, extract_payload, &block, 15_296);
-    }
-    for n in [0, 15_295, 15_297] {
-        digested("extract, all bits set, buffer of", n, extract_payload, &[255; 16_320], n);
-    }
-    for (damage, promised) in [
-        ((0, 1, 0), true),
-        ((0, 1, 1), true),
-        ((130_559, 1, 1), true),
-        ((0, 64, 8), true),
-        ((0, 1, 512), true),
-        ((0, 1, 513), false),
-        ((0, 12_800, 9), true),
-        ((0, 1, 130_560), false),
-    ] {
-        damaged("zeros", &[0; 15_296], damage, promised);
-    }
-    let counted: Vec<u32> = (0..15_296).map(|i| i % 251).collect();
-    for (damage, promised) in [
-        ((0, 1, 0), true),
-        ((5, 255, 512), true),
-        ((5, 191, 576), false),
-        ((129_984, 64, 9), true),
-        ((3, 1008, 124), true),
-        ((3, 976, 128), false),
-    ] {
-        damaged("bytes counted", &counted, damage, promised);
-    }
-    for (value, name, n, space) in [
-        (0, "zeros", 0, 0),
-        (0, "zeros", 16_319, 16_319),
-        (0, "zeros", 16_321, 16_320),
-        (0, "zeros", 16_320, 0),
-        (0, "zeros", 16_320, 16_319),
-        (0, "zeros", 16_320, 16_321),
-        (255, "all bits set", 16_320, 16_321),
-        (255, "all bits set", 16_320, 16_320),
-    ] {
-        correction_row(&format!("correct, {name}, length {n}, buffer of {space}"), &vec![value; n], space);
-    }
+    outer_words();
+    inner_words();
+    corrected("correct outer", 1, Each(2), 17, 1023, [0, 16, 8, 1, 15, 9, 2, 14, 10]);
+    corrected("correct outer", 765, Each(1023), 781, 1023, [0, 780, 390, 1, 779, 391, 2, 778, 392]);
+    corrected("correct outer", 1007, Each(1), 1023, 1023, [0, 1022, 511, 1, 1021, 512, 2, 1020, 513]);
+    corrected("correct inner", 244, Each(255), 255, 1, [0, 2039, 1020, 1, 2038, 1021, 2, 2037, 1022]);
+    corrected("correct inner", 244, Each(255), 255, 1, [1952, 2039, 1995, 1953, 2038, 1996, 1954, 2037, 1997]);
+    payloads();
+    refusals();
+    frame_corrections();
 }

@@ -1,161 +1,113 @@
-// Rows on frames: payloads that are encoded, checked and extracted again, refusals, and blocks that are no frames. A buffer is shown by its digest, after the
-// call, refused or not.
-use crate::decimal;
-use crate::row;
-use crate::text;
-use crate::wide;
-use crate::widened;
-
-// A number that tells lists of bytes apart.
-pub(crate) fn digest(bytes: &[u8]) -> u64 {
-    let mut h: u64 = 0;
-    let mut i = 0;
-    while i < bytes.len() {
-        h = (257 * h + wide(widened(bytes[i])) + 1) % 1_000_000_007;
-        i += 1;
-    }
-    h
-}
-
-// A row's name, the number that it is about, its result, and the digest of the buffer.
-fn digested(name: &[u8], n: usize, result: u8, out: &[u8]) {
-    text(name);
-    decimal(n as u64);
-    text(b": ");
-    decimal(wide(widened(result)));
-    text(b" ");
-    decimal(digest(out));
-    text(b"\n");
-}
+// Rows on frames: payloads that are encoded, checked and extracted again, refusals, blocks that are no frames, and corrections.
+use crate::calls::CHECK;
+use crate::calls::CORRECT;
+use crate::calls::ENCODE;
+use crate::calls::EXTRACT;
+use crate::calls::FRAME;
+use crate::data::BIT;
+use crate::data::COUNTED;
+use crate::data::describe;
+use crate::lines::buffer;
+use crate::lines::text;
+use crate::rows::lent;
+use crate::rows::received;
+use crate::values::MOST;
+use crate::values::fill;
 
 // A payload, its frame, and the payload again.
-fn there_and_back(name: &[u8], n: usize, payload: &[u8]) {
-    let mut frame = [9u8; 16320];
-    let mut back = [9u8; 15296];
-    text(b"encode");
-    digested(name, n, frames::encode_frame(payload, &mut frame), &frame);
-    text(b"check");
-    row(name, n, frames::check_frame(&frame));
-    text(b"extract");
-    digested(name, n, frames::extract_payload(&frame, &mut back), &back);
+fn payload(data: usize) {
+    let mut values = [0u16; MOST];
+    fill(&mut values, data);
     text(b"payload");
-    text(name);
-    decimal(n as u64);
-    text(b": ");
-    decimal(digest(payload));
-    text(b"\n");
-}
-
-pub(crate) fn count(bytes: &mut [u8]) {
-    let mut i: usize = 0;
-    while i < bytes.len() {
-        bytes[i] = (i % 251) as u8;
-        i += 1;
-    }
-}
-
-fn counted() {
-    let mut payload = [0u8; 15296];
-    count(&mut payload);
-    there_and_back(b", bytes counted modulo ", 251, &payload);
-}
-
-fn set(bytes: &mut [u8], i: usize) {
-    if i / 8 < bytes.len() {
-        bytes[i / 8] = 128 >> (i % 8);
-    }
-}
-
-fn single(i: usize) {
-    let mut payload = [0u8; 15296];
-    set(&mut payload, i);
-    there_and_back(b", payload bit ", i, &payload);
+    describe(data);
+    text(b":");
+    buffer(&values, 15296);
+    lent(ENCODE, FRAME, 15296, data, 16320);
+    received(CHECK, FRAME, 15296, data, 16320, 0, 1, 0, 0, 0);
+    received(EXTRACT, FRAME, 15296, data, 16320, 0, 1, 0, 0, 15296);
 }
 
 pub(crate) fn payloads() {
-    there_and_back(b", each byte ", 0, &[0u8; 15296]);
-    there_and_back(b", each byte ", 255, &[255u8; 15296]);
-    counted();
-    single(0);
-    single(7649);
-    single(7650);
-    single(114749);
-    single(114750);
-    single(122367);
+    payload(0);
+    payload(255);
+    payload(COUNTED);
+    payload(BIT);
+    payload(BIT + 7649);
+    payload(BIT + 7650);
+    payload(BIT + 114749);
+    payload(BIT + 114750);
+    payload(BIT + 122367);
 }
 
-fn encode(name: &[u8], n: usize, payload: &[u8], out: &mut [u8]) {
-    digested(name, n, frames::encode_frame(payload, out), out);
+// A block that is refused by the check is not extracted either.
+fn block(n: usize, data: usize, space: usize) {
+    lent(CHECK, FRAME, n, data, 0);
+    lent(EXTRACT, FRAME, n, data, space);
 }
 
-fn payload_of(payload: &[u8]) {
-    encode(
-        b"encode, zeros, length ",
-        payload.len(),
-        payload,
-        &mut [9u8; 16319],
+pub(crate) fn refusals() {
+    lent(ENCODE, FRAME, 0, 0, 16319);
+    lent(ENCODE, FRAME, 15295, 0, 16319);
+    lent(ENCODE, FRAME, 15297, 0, 16319);
+    lent(ENCODE, FRAME, 15296, 0, 0);
+    lent(ENCODE, FRAME, 15296, 0, 16319);
+    lent(ENCODE, FRAME, 15296, 0, 16321);
+    block(0, 0, 15295);
+    block(16319, 0, 15295);
+    block(16321, 0, 15295);
+    block(16320, BIT, 15296);
+    block(16320, BIT + 64, 15296);
+    block(16320, BIT + 124767, 15296);
+    block(16320, BIT + 124768, 15296);
+    block(16320, BIT + 124927, 15296);
+    block(16320, BIT + 124928, 15296);
+    block(16320, BIT + 130559, 15296);
+    lent(EXTRACT, FRAME, 16320, 255, 0);
+    lent(EXTRACT, FRAME, 16320, 255, 15295);
+    lent(EXTRACT, FRAME, 16320, 255, 15297);
+    lent(CORRECT, FRAME, 0, 0, 0);
+    lent(CORRECT, FRAME, 16319, 0, 16319);
+    lent(CORRECT, FRAME, 16321, 0, 16320);
+    lent(CORRECT, FRAME, 16320, 0, 0);
+    lent(CORRECT, FRAME, 16320, 0, 16319);
+    lent(CORRECT, FRAME, 16320, 0, 16321);
+    lent(CORRECT, FRAME, 16320, 255, 16321);
+    lent(CORRECT, FRAME, 16320, 255, 16320);
+}
+
+fn correct(data: usize, count: usize, first: usize, step: u16) {
+    received(
+        CORRECT,
+        FRAME,
+        15296,
+        data,
+        16320,
+        count,
+        1,
+        first,
+        step,
+        16320,
     );
 }
 
-fn space_of(out: &mut [u8]) {
-    encode(b"encode, zeros, buffer of ", out.len(), &[0u8; 15296], out);
-}
-
-pub(crate) fn encode_refusals() {
-    payload_of(&[0u8; 0]);
-    payload_of(&[0u8; 15295]);
-    payload_of(&[0u8; 15297]);
-    space_of(&mut [9u8; 0]);
-    space_of(&mut [9u8; 16319]);
-    space_of(&mut [9u8; 16321]);
-}
-
-fn extract(name: &[u8], n: usize, block: &[u8], out: &mut [u8]) {
-    digested(name, n, frames::extract_payload(block, out), out);
-}
-
-fn block_of(block: &[u8]) {
-    row(
-        b"check, zeros, length ",
-        block.len(),
-        frames::check_frame(block),
-    );
-    extract(
-        b"extract, zeros, length ",
-        block.len(),
-        block,
-        &mut [9u8; 15295],
-    );
-}
-
-fn bit_set(i: usize) {
-    let mut block = [0u8; 16320];
-    set(&mut block, i);
-    row(b"check, frame bit set ", i, frames::check_frame(&block));
-    extract(b"extract, frame bit set ", i, &block, &mut [9u8; 15296]);
-}
-
-fn room_for(out: &mut [u8]) {
-    extract(
-        b"extract, all bits set, buffer of ",
-        out.len(),
-        &[255u8; 16320],
-        out,
-    );
-}
-
-pub(crate) fn block_refusals() {
-    block_of(&[0u8; 0]);
-    block_of(&[0u8; 16319]);
-    block_of(&[0u8; 16321]);
-    bit_set(0);
-    bit_set(64);
-    bit_set(124767);
-    bit_set(124768);
-    bit_set(124927);
-    bit_set(124928);
-    bit_set(130559);
-    room_for(&mut [9u8; 0]);
-    room_for(&mut [9u8; 15295]);
-    room_for(&mut [9u8; 15297]);
+// Bits 0 to 512 are nine of inner word 0 and eight of each other one. Those eight are corrected. Inner word 0 has no code word within eight and is left; its
+// nine wrong bits stand in nine symbols of outer word 0, which then has no code word within eight: uncorrectable. Nine of one inner word in nine outer words
+// are corrected by the outer pass. 255 apart, 512 bits are eight of each inner word; 191 apart, 576 bits are nine of each. From 129,984 on nine bits are
+// parity bits of one inner word, of which no outer word has any. 1,008 apart, 124 bits are 31 of each of four inner words, at most eight in an outer word;
+// 976 apart, outer words have nine.
+pub(crate) fn corrections() {
+    correct(0, 0, 0, 1);
+    correct(0, 1, 0, 1);
+    correct(0, 1, 130559, 1);
+    correct(0, 8, 0, 64);
+    correct(0, 512, 0, 1);
+    correct(0, 513, 0, 1);
+    correct(0, 9, 0, 12800);
+    correct(0, 130560, 0, 1);
+    correct(COUNTED, 0, 0, 1);
+    correct(COUNTED, 512, 5, 255);
+    correct(COUNTED, 576, 5, 191);
+    correct(COUNTED, 9, 129984, 64);
+    correct(COUNTED, 124, 3, 1008);
+    correct(COUNTED, 128, 3, 976);
 }

@@ -1,0 +1,131 @@
+// The library's calls, named by two numbers: an operation and a code. Values go in and out as 16-bit numbers, which are narrowed to bytes and widened again
+// where a call takes bytes. A call's answer is printed: 0 or the refusal's number; of a correction also how many symbols or bits it changed, and of a
+// frame's the digest of its report's counts.
+use crate::lines::number;
+use crate::lines::text;
+use crate::values::MOST;
+use crate::values::digest;
+use crate::values::from_bytes;
+use crate::values::to_bytes;
+
+pub(crate) const CHECK: usize = 0;
+
+pub(crate) const ENCODE: usize = 1;
+
+pub(crate) const EXTRACT: usize = 2;
+
+pub(crate) const CORRECT: usize = 3;
+
+pub(crate) const OUTER: usize = 4;
+
+pub(crate) const INNER: usize = 5;
+
+pub(crate) const FRAME: usize = 6;
+
+pub(crate) fn name(n: usize) {
+    match n {
+        CHECK => text(b"check"),
+        ENCODE => text(b"encode"),
+        EXTRACT => text(b"extract"),
+        CORRECT => text(b"correct"),
+        OUTER => text(b" outer"),
+        INNER => text(b" inner"),
+        _ => text(b" frame"),
+    }
+}
+
+fn refusal(n: u8) {
+    number(n as usize);
+}
+
+fn correction(result: words::Correction) {
+    match result {
+        words::Correction::Corrected { changed } => {
+            refusal(0);
+            number(changed as usize);
+        }
+        words::Correction::Refused { number } => {
+            refusal(number);
+            refusal(0);
+        }
+    }
+}
+
+fn report(result: frames::Report) {
+    let counts = result.counts;
+    refusal(result.refusal);
+    number(result.sum as usize);
+    number(digest(&counts));
+}
+
+fn outer(operation: usize, word: &[u16], out: &mut [u16]) {
+    match operation {
+        CHECK => refusal(words::check_outer(word)),
+        ENCODE => refusal(words::encode_outer(word, out)),
+        _ => correction(words::correct_outer(word, out)),
+    }
+}
+
+fn inner(operation: usize, word: &[u8], out: &mut [u8]) {
+    match operation {
+        CHECK => refusal(words::check_inner(word)),
+        ENCODE => refusal(words::encode_inner(word, out)),
+        _ => correction(words::correct_inner(word, out)),
+    }
+}
+
+fn frame(operation: usize, block: &[u8], out: &mut [u8]) {
+    match operation {
+        CHECK => refusal(frames::check_frame(block)),
+        ENCODE => refusal(frames::encode_frame(block, out)),
+        EXTRACT => refusal(frames::extract_payload(block, out)),
+        _ => report(frames::correct_frame(block, out)),
+    }
+}
+
+// Lends the first n bytes, and as many of the buffer's as the space says.
+fn by_bytes(operation: usize, code: usize, bytes: &[u8], n: usize, out: &mut [u8], space: usize) {
+    if bytes.len() < n {
+        return;
+    }
+    if out.len() < space {
+        return;
+    }
+    if code == INNER {
+        inner(operation, &bytes[..n], &mut out[..space]);
+    } else {
+        frame(operation, &bytes[..n], &mut out[..space]);
+    }
+}
+
+// Lends the first n values, and the buffer from `from` to `to`. A buffer for bytes holds nines before the call, as each row's buffer does.
+pub(crate) fn call(
+    operation: usize,
+    code: usize,
+    values: &[u16],
+    n: usize,
+    buffer: &mut [u16],
+    from: usize,
+    to: usize,
+) {
+    if values.len() < n {
+        return;
+    }
+    if buffer.len() < to {
+        return;
+    }
+    if to < from {
+        return;
+    }
+    let lent = &values[..n];
+    let out = &mut buffer[from..to];
+    if code == OUTER {
+        outer(operation, lent, out);
+        return;
+    }
+    let mut bytes = [0u8; MOST];
+    let mut answered = [9u8; MOST];
+    to_bytes(lent, &mut bytes);
+    by_bytes(operation, code, &bytes, n, &mut answered, to - from);
+    from_bytes(&answered, out);
+}

@@ -444,7 +444,6 @@ enum Data {
     Symbols,
     Bits,
     Bit(usize),
-    LastBit,
     Near,
 }
 
@@ -465,7 +464,6 @@ impl Data {
             Symbols => with(&[(0, 1), (1, 1023), (400, 512), (761, 4)]),
             Bits => with(&[(0, 128), (100, 3), (243, 1)]),
             Bit(i) => with(&[(i / 8, 128 >> (i % 8))]),
-            LastBit => with(&[(243, 1)]),
             Near => {
                 let parity = outer_parity(&[2]);
                 std::iter::once(2).chain(parity.into_iter().take(8)).chain([0; 8]).collect()
@@ -477,10 +475,8 @@ impl Data {
         match self {
             Each(v) => format!("each {v}"),
             Counted => "counted modulo 251".to_string(),
-            Symbols => "zeros but for four symbols".to_string(),
-            Bits => "zeros but for four bits".to_string(),
+            Symbols | Bits => "zeros but for four symbols or bits".to_string(),
             Bit(i) => format!("zeros but for bit {i}"),
-            LastBit => "zeros but for the last data bit".to_string(),
             Near => "nine symbols of a code word, then zeros".to_string(),
         }
     }
@@ -589,11 +585,11 @@ fn inner_words() {
     for n in [0, 254, 255, 256] {
         lent("check inner", n, Each(0), 0);
     }
-    assert!(bits(&sent("inner", &LastBit.values(244)))[1951..] == divisor());
+    assert!(bits(&sent("inner", &Bit(1951).values(244)))[1951..] == divisor());
     spaced("check inner", 244, Each(0), (1, 1, 0, 0), 0, false);
-    spaced("check inner", 244, LastBit, (0, 1, 0, 0), 0, true);
-    spaced("check inner", 244, LastBit, (1, 1, 2039, 0), 0, false);
-    for data in [LastBit, Each(255), Bits] {
+    spaced("check inner", 244, Bit(1951), (0, 1, 0, 0), 0, true);
+    spaced("check inner", 244, Bit(1951), (1, 1, 2039, 0), 0, false);
+    for data in [Bit(1951), Each(255), Bits] {
         lent("encode inner", 244, data, 11);
     }
     for (n, space) in [(0, 10), (243, 11), (245, 11), (244, 0), (244, 10), (244, 12)] {
@@ -659,6 +655,71 @@ fn frame_corrections() {
     }
 }
 
+// ---- logging
+
+// The counts of a block that is a zero frame with inverted bits, or the refusal's number.
+fn logged(errors: &[usize], n: usize, space: usize) -> (u32, Vec<u32>) {
+    let mut block = vec![0; 130_560];
+    for i in errors {
+        block[*i] ^= 1;
+    }
+    correct_frame(&bytes(&block)[..n], &mut vec![9; space])
+}
+
+fn apart(count: usize, first: usize, step: usize) -> Vec<usize> {
+    (0..count).map(|j| first + step * j).collect()
+}
+
+// The three counters after the answers, from a start on. They are summed without a limit, and limited where they are shown.
+fn counters(start: [u64; 3], answers: &[(usize, usize, usize, usize)]) {
+    let mut sums = start;
+    for (count, step, n, space) in answers {
+        let (number, counts) = logged(&apart(*count, 0, *step), *n, *space);
+        match number {
+            0 => {
+                sums[0] += 1;
+                sums[2] += counts.iter().sum::<u32>() as u64;
+            }
+            5 => sums[1] += 1,
+            _ => {}
+        }
+        print!("counted, length {n}, errors {count} from 0 apart {step}, buffer of {space}, refusal {number}, ");
+        show(sums);
+    }
+}
+
+fn show(sums: [u64; 3]) {
+    let [frames, uncorrectable, bits] = sums.map(|s| s.min(4_294_967_295));
+    println!("counters: {frames} {uncorrectable} {bits}");
+}
+
+// Up to eight inner words with a count above 0, the largest count first, equal counts by the lower number; then 64.
+fn worst_list(described: &str, errors: &[usize]) {
+    let (_, counts) = logged(errors, 16_320, 16_320);
+    let mut words: Vec<usize> = (0..64).filter(|k| counts[*k] > 0).collect();
+    words.sort_by_key(|k| (std::cmp::Reverse(counts[*k]), *k));
+    words.truncate(8);
+    words.resize(8, 64);
+    println!("worst list, {described}:{}", words.iter().map(|k| format!(" {k}")).collect::<String>());
+}
+
+fn logging() {
+    let whole = 16_320;
+    counters([0; 3], &[(0, 1, whole, whole), (8, 64, whole, whole), (512, 1, whole, whole), (513, 1, whole, whole), (0, 1, 16_319, whole), (0, 1, whole, 16_319)]);
+    print!("cleared, ");
+    show([0; 3]);
+    let start = [4_294_967_294, 4_294_967_294, 4_294_967_290];
+    print!("set, ");
+    show(start);
+    counters(start, &[(8, 64, whole, whole), (513, 1, whole, whole), (8, 64, whole, whole), (513, 1, whole, whole)]);
+    for (count, first, step) in [(0, 0, 1), (5, 37, 64), (9, 1, 12_800), (512, 0, 1)] {
+        worst_list(&format!("errors {count} from {first} apart {step}"), &apart(count, first, step));
+    }
+    let graded: Vec<usize> = (0..64).flat_map(|k| (0..5 * k % 9).map(move |p| 64 * p + k)).collect();
+    worst_list("(5 k) mod 9 errors of each inner word k", &graded);
+    worst_list("errors 513 from 0 apart 1", &apart(513, 0, 1));
+}
+
 fn main() {
     // Given a folder: the samples go there, and no rows are printed.
     if let Some(folder) = std::env::args().nth(1) {
@@ -674,4 +735,5 @@ fn main() {
     payloads();
     refusals();
     frame_corrections();
+    logging();
 }

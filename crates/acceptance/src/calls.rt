@@ -4,6 +4,7 @@
 use crate::lines::number;
 use crate::lines::text;
 use crate::values::MOST;
+use crate::values::at_most;
 use crate::values::digest;
 use crate::values::from_bytes;
 use crate::values::to_bytes;
@@ -85,16 +86,13 @@ fn frame(operation: usize, block: &[u8], out: &mut [u8]) {
 
 // Lends the first n bytes, and as many of the buffer's as the space says.
 fn by_bytes(operation: usize, code: usize, bytes: &[u8], n: usize, out: &mut [u8], space: usize) {
-    if bytes.len() < n {
-        return;
-    }
-    if out.len() < space {
-        return;
-    }
+    let end = at_most(space, out.len());
+    let lent = &bytes[..at_most(n, bytes.len())];
+    let free = &mut out[..end];
     if code == INNER {
-        inner(operation, &bytes[..n], &mut out[..space]);
+        inner(operation, lent, free);
     } else {
-        frame(operation, &bytes[..n], &mut out[..space]);
+        frame(operation, lent, free);
     }
 }
 
@@ -108,17 +106,10 @@ pub(crate) fn call(
     from: usize,
     to: usize,
 ) {
-    if values.len() < n {
-        return;
-    }
-    if buffer.len() < to {
-        return;
-    }
-    if to < from {
-        return;
-    }
-    let lent = &values[..n];
-    let out = &mut buffer[from..to];
+    let end = at_most(to, buffer.len());
+    let start = at_most(from, end);
+    let lent = &values[..at_most(n, values.len())];
+    let out = &mut buffer[start..end];
     if code == OUTER {
         outer(operation, lent, out);
         return;
@@ -126,6 +117,6 @@ pub(crate) fn call(
     let mut bytes = [0u8; MOST];
     let mut answered = [9u8; MOST];
     to_bytes(lent, &mut bytes);
-    by_bytes(operation, code, &bytes, n, &mut answered, to - from);
+    by_bytes(operation, code, &bytes, n, &mut answered, end - start);
     from_bytes(&answered, out);
 }

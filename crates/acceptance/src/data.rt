@@ -10,11 +10,8 @@ pub(crate) const SPARSE_SYMBOLS: usize = 70_001;
 
 pub(crate) const SPARSE_BYTES: usize = 70_002;
 
-// The last data bit of an inner word: its code word is the divisor.
-pub(crate) const LAST_BIT: usize = 70_003;
-
 // Nine symbols of the shortest code word of data 2, then zeros.
-pub(crate) const NEAR: usize = 70_004;
+pub(crate) const NEAR: usize = 70_003;
 
 // Zeros but for one bit, whose place is added.
 pub(crate) const BIT: usize = 100_000;
@@ -66,11 +63,10 @@ pub(crate) fn value_at(data: usize, i: usize) -> u16 {
     if BIT <= data {
         return bit(data - BIT, i);
     }
-    match data {
-        COUNTED => (i % 251) as u16,
-        LAST_BIT => bit(1951, i),
-        _ => sparse(data, i),
+    if data == COUNTED {
+        return (i % 251) as u16;
     }
+    sparse(data, i)
 }
 
 pub(crate) fn describe(data: usize) {
@@ -84,9 +80,7 @@ pub(crate) fn describe(data: usize) {
     }
     match data {
         COUNTED => text(b", counted modulo 251"),
-        SPARSE_SYMBOLS => text(b", zeros but for four symbols"),
-        SPARSE_BYTES => text(b", zeros but for four bits"),
-        LAST_BIT => text(b", zeros but for the last data bit"),
-        _ => text(b", nine symbols of a code word, then zeros"),
+        NEAR => text(b", nine symbols of a code word, then zeros"),
+        _ => text(b", zeros but for four symbols or bits"),
     }
 }

@@ -1,4 +1,5 @@
 // What a line is made of: names, numbers, and the values that are in a buffer.
+use crate::values::at_most;
 use crate::values::digest;
 use crate::values::nines;
 use crate::values::wide;
@@ -27,14 +28,12 @@ pub(crate) fn list(values: &[u16]) {
 
 // The end of a line: the first n values as they are, if they are few; else their digest, and how many nines they have.
 pub(crate) fn buffer(values: &[u16], n: usize) {
-    if values.len() < n {
-        return;
-    }
+    let shown = &values[..at_most(n, values.len())];
     if n <= 17 {
-        list(&values[..n]);
+        list(shown);
     } else {
-        number(digest(&values[..n]));
-        number(nines(&values[..n]));
+        number(digest(shown));
+        number(nines(shown));
     }
     text(b"\n");
 }

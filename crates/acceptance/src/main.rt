@@ -1,10 +1,11 @@
-// The rows of document 01 that are run by a program: single words, frames, and their correction. A line names the call and what it is lent, and gives the
-// answer: 0 or the refusal's number; of a correction then how many symbols or bits it changed, and of a frame's the digest of its report's counts; last the
-// buffer. `stdout` is what tests/vectors.rs computes from the documents.
+// The rows of document 01 that are run by a program: single words, frames, their correction, and its logging. A line names the call and what it is lent, and
+// gives the answer: 0 or the refusal's number; of a correction then how many symbols or bits it changed, and of a frame's the digest of its report's counts;
+// last the buffer. `stdout` is what tests/vectors.rs computes from the documents.
 mod calls;
 mod data;
 mod frame_rows;
 mod lines;
+mod logging_rows;
 mod rows;
 mod values;
 mod word_rows;
@@ -16,4 +17,6 @@ fn main() {
     frame_rows::payloads();
     frame_rows::refusals();
     frame_rows::corrections();
+    logging_rows::counters();
+    logging_rows::worst_lists();
 }

@@ -15,6 +15,13 @@ pub(crate) fn wide(x: u16) -> usize
     x as usize
 }
 
+// n, or the most that there is.
+pub(crate) fn at_most(n: usize, most: usize) -> usize
+    ensures { λ r. ⌜ (r ≤ n) × (r ≤ most) ⌝ }
+{
+    if n < most { n } else { most }
+}
+
 fn byte(x: u8) -> u16 {
     x as u16
 }
@@ -61,22 +68,20 @@ pub(crate) fn add_errors(
 }
 
 pub(crate) fn to_bytes(values: &[u16], bytes: &mut [u8]) {
-    if values.len() <= bytes.len() {
-        let mut i: usize = 0;
-        while i < values.len() {
-            bytes[i] = (values[i] % 256) as u8;
-            i += 1;
-        }
+    let n = at_most(values.len(), bytes.len());
+    let mut i: usize = 0;
+    while i < n {
+        bytes[i] = (values[i] % 256) as u8;
+        i += 1;
     }
 }
 
 pub(crate) fn from_bytes(bytes: &[u8], values: &mut [u16]) {
-    if values.len() <= bytes.len() {
-        let mut i: usize = 0;
-        while i < values.len() {
-            values[i] = byte(bytes[i]);
-            i += 1;
-        }
+    let n = at_most(bytes.len(), values.len());
+    let mut i: usize = 0;
+    while i < n {
+        values[i] = byte(bytes[i]);
+        i += 1;
     }
 }
 

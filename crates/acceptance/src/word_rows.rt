@@ -4,7 +4,7 @@ use crate::calls::CORRECT;
 use crate::calls::ENCODE;
 use crate::calls::INNER;
 use crate::calls::OUTER;
-use crate::data::LAST_BIT;
+use crate::data::BIT;
 use crate::data::NEAR;
 use crate::data::SPARSE_BYTES;
 use crate::data::SPARSE_SYMBOLS;
@@ -16,6 +16,9 @@ use crate::rows::row;
 use crate::rows::send;
 use crate::values::MOST;
 use crate::values::add_error;
+
+// The last data bit of an inner word: its code word is the divisor.
+const DIVISOR: usize = BIT + 1951;
 
 pub(crate) fn outer() {
     lent(CHECK, OUTER, 0, 0, 0);
@@ -53,9 +56,9 @@ pub(crate) fn inner() {
     lent(CHECK, INNER, 255, 0, 0);
     lent(CHECK, INNER, 256, 0, 0);
     received(CHECK, INNER, 244, 0, 255, 1, 1, 0, 0, 0);
-    received(CHECK, INNER, 244, LAST_BIT, 255, 0, 1, 0, 0, 0);
-    received(CHECK, INNER, 244, LAST_BIT, 255, 1, 1, 2039, 0, 0);
-    lent(ENCODE, INNER, 244, LAST_BIT, 11);
+    received(CHECK, INNER, 244, DIVISOR, 255, 0, 1, 0, 0, 0);
+    received(CHECK, INNER, 244, DIVISOR, 255, 1, 1, 2039, 0, 0);
+    lent(ENCODE, INNER, 244, DIVISOR, 11);
     lent(ENCODE, INNER, 244, 255, 11);
     lent(ENCODE, INNER, 244, SPARSE_BYTES, 11);
     lent(ENCODE, INNER, 0, 0, 10);

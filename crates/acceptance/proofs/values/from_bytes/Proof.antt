@@ -7,10 +7,13 @@ use Rattle.acceptance.proofs.values.from_bytes.Statement.{statement}
 use Rattle.acceptance.proofs.values.from_bytes.Tie as tie
 
 abbrev Inv-loop : tie.InvT-loop
-Inv-loop bytes values₀ i₀ values i = (i ≤ length values₀) × (length values ≡ length values₀)
+Inv-loop bytes values₀ n i₀ values i = (i ≤ n) × (length values ≡ length values₀)
 
 abbrev μ-loop : tie.MeasureT-loop
-μ-loop bytes values₀ i₀ values i = length values₀ - i
+μ-loop bytes values₀ n i₀ values i = n - i
+
+at-most-requires : tie.Need-at-most-requires Inv-loop μ-loop
+at-most-requires c κs = search needs
 
 loop-holds : tie.Need-loop-holds Inv-loop μ-loop
 loop-holds c = search needs
@@ -42,15 +45,13 @@ same-length c = search needs
 returns : tie.Need-returns Inv-loop μ-loop
 returns c = search needs
 
-returns-2 : tie.Need-returns-2 Inv-loop μ-loop
-returns-2 c = search needs
-
 pub from-bytes-spec : {M : Type 1} → statement M
 from-bytes-spec =
     tie.close
     (tie.spec
     Inv-loop
     μ-loop
+    at-most-requires
     loop-holds
     shared-slice-read-byte
     byte-requires
@@ -60,5 +61,4 @@ from-bytes-spec =
     loop-less
     loop-again
     same-length
-    returns
-    returns-2)
+    returns)

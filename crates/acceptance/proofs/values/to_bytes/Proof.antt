@@ -7,10 +7,13 @@ use Rattle.acceptance.proofs.values.to_bytes.Statement.{statement}
 use Rattle.acceptance.proofs.values.to_bytes.Tie as tie
 
 abbrev Inv-loop : tie.InvT-loop
-Inv-loop values bytes₀ i₀ bytes i = (i ≤ length values) × (length bytes ≡ length bytes₀)
+Inv-loop values bytes₀ n i₀ bytes i = (i ≤ n) × (length bytes ≡ length bytes₀)
 
 abbrev μ-loop : tie.MeasureT-loop
-μ-loop values bytes₀ i₀ bytes i = length values - i
+μ-loop values bytes₀ n i₀ bytes i = n - i
+
+at-most-requires : tie.Need-at-most-requires Inv-loop μ-loop
+at-most-requires c κs = search needs
 
 loop-holds : tie.Need-loop-holds Inv-loop μ-loop
 loop-holds c = search needs
@@ -42,15 +45,13 @@ same-length c = search needs
 returns : tie.Need-returns Inv-loop μ-loop
 returns c = search needs
 
-returns-2 : tie.Need-returns-2 Inv-loop μ-loop
-returns-2 c = search needs
-
 pub to-bytes-spec : {M : Type 1} → statement M
 to-bytes-spec =
     tie.close
     (tie.spec
     Inv-loop
     μ-loop
+    at-most-requires
     loop-holds
     mul-bytes
     shared-slice-read-bytes
@@ -60,5 +61,4 @@ to-bytes-spec =
     loop-less
     loop-again
     same-length
-    returns
-    returns-2)
+    returns)

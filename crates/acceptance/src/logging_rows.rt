@@ -1,0 +1,124 @@
+// Rows on the logging of corrections, of zero frames with inverted bits: the three counters after each answer (frames, uncorrectable blocks, bits), and worst
+// lists.
+use crate::calls::FRAME;
+use crate::lines::list;
+use crate::lines::number;
+use crate::lines::part;
+use crate::lines::text;
+use crate::values::MOST;
+use crate::values::add_errors;
+use crate::values::at_most;
+use crate::values::from_bytes;
+use crate::values::to_bytes;
+use crate::values::wide;
+use logging::Counters;
+
+// Stands for (5 k) mod 9 wrong bits of each inner word k, instead of a number of errors.
+const GRADED: usize = 1_000_000;
+
+fn grade(block: &mut [u16]) {
+    let mut k: usize = 0;
+    while k < 64 {
+        add_errors(FRAME, block, (5 * k) % 9, 1, k, 64);
+        k += 1;
+    }
+}
+
+fn damage(block: &mut [u16], count: usize, first: usize, step: u16) {
+    if count == GRADED {
+        grade(block);
+    } else {
+        add_errors(FRAME, block, count, 1, first, step);
+    }
+}
+
+fn describe(count: usize, first: usize, step: u16) {
+    if count == GRADED {
+        text(b", (5 k) mod 9 errors of each inner word k");
+    } else {
+        part(b", errors ", count);
+        part(b" from ", first);
+        part(b" apart ", wide(step));
+    }
+}
+
+// Lends the first n bytes, and as many of the buffer's as the space says.
+fn corrected(bytes: &[u8], n: usize, out: &mut [u8], space: usize) -> frames::Report {
+    let end = at_most(space, out.len());
+    let lent = &bytes[..at_most(n, bytes.len())];
+    let free = &mut out[..end];
+    frames::correct_frame(lent, free)
+}
+
+fn report(count: usize, first: usize, step: u16, n: usize, space: usize) -> frames::Report {
+    let mut block = [0u16; MOST];
+    let mut bytes = [0u8; MOST];
+    damage(&mut block, count, first, step);
+    to_bytes(&block, &mut bytes);
+    corrected(&bytes, n, &mut [9u8; MOST], space)
+}
+
+fn show(counters: Counters) {
+    text(b"counters:");
+    number(counters.frames as usize);
+    number(counters.uncorrectable as usize);
+    number(counters.bits as usize);
+    text(b"\n");
+}
+
+// The counters after the answer to a block of n bytes and a buffer of so many.
+fn counted(counters: Counters, count: usize, step: u16, n: usize, space: usize) -> Counters {
+    let answer = report(count, 0, step, n, space);
+    let after = counters.counted(answer);
+    part(b"counted, length ", n);
+    describe(count, 0, step);
+    part(b", buffer of ", space);
+    part(b", refusal ", answer.refusal as usize);
+    text(b", ");
+    show(after);
+    after
+}
+
+// Each answer once; cleared again; then from numbers just below the largest, which they reach or stop at, and where they stay.
+pub(crate) fn counters() {
+    let clean = counted(Counters::cleared(), 0, 1, 16320, 16320);
+    let eight = counted(clean, 8, 64, 16320, 16320);
+    let many = counted(eight, 512, 1, 16320, 16320);
+    let uncorrectable = counted(many, 513, 1, 16320, 16320);
+    let short = counted(uncorrectable, 0, 1, 16319, 16320);
+    counted(short, 0, 1, 16320, 16319);
+    text(b"cleared, ");
+    show(Counters::cleared());
+    let near = Counters {
+        frames: 4_294_967_294,
+        uncorrectable: 4_294_967_294,
+        bits: 4_294_967_290,
+    };
+    text(b"set, ");
+    show(near);
+    let reached = counted(near, 8, 64, 16320, 16320);
+    let full = counted(reached, 513, 1, 16320, 16320);
+    let still = counted(full, 8, 64, 16320, 16320);
+    counted(still, 513, 1, 16320, 16320);
+}
+
+fn worst(count: usize, first: usize, step: u16) {
+    let words = logging::worst_words(report(count, first, step, 16320, 16320));
+    let mut numbers = [0u16; 8];
+    from_bytes(&words, &mut numbers);
+    text(b"worst list");
+    describe(count, first, step);
+    text(b":");
+    list(&numbers);
+    text(b"\n");
+}
+
+// 512 errors are eight of each inner word. Graded ones leave out words with as many errors as the last one listed, and words with fewer.
+pub(crate) fn worst_lists() {
+    worst(0, 0, 1);
+    worst(5, 37, 64);
+    worst(9, 1, 12800);
+    worst(512, 0, 1);
+    worst(GRADED, 0, 0);
+    worst(513, 0, 1);
+}

@@ -1,15 +1,12 @@
 // Blocks to try the report program on, each with its report, from document 01 alone. A report is computed twice: from the bits that are inverted, and by the
 // decoder of vectors.rs. The two must agree.
 use super::*;
-use std::cmp::Reverse;
 use std::fs;
 use std::path::Path;
 
-// The report on a corrected block. The sort leaves equal counts in the order of their inner words.
+// The report on a corrected block.
 fn report(counts: &[u32]) -> String {
-    let mut listed: Vec<usize> = (0..64).filter(|k| counts[*k] > 0).collect();
-    listed.sort_by_key(|k| Reverse(counts[*k]));
-    let lines: String = listed.iter().take(8).map(|k| format!("inner {k} {}\n", counts[*k])).collect();
+    let lines: String = worst(counts).iter().map(|k| format!("inner {k} {}\n", counts[*k])).collect();
     format!("mended {}\n{lines}", counts.iter().sum::<u32>())
 }
 

@@ -693,12 +693,16 @@ fn show(sums: [u64; 3]) {
     println!("counters: {frames} {uncorrectable} {bits}");
 }
 
-// Up to eight inner words with a count above 0, the largest count first, equal counts by the lower number; then 64.
-fn worst_list(described: &str, errors: &[usize]) {
-    let (_, counts) = logged(errors, 16_320, 16_320);
+// Up to eight inner words with a count above 0, the largest count first, equal counts by the lower number.
+fn worst(counts: &[u32]) -> Vec<usize> {
     let mut words: Vec<usize> = (0..64).filter(|k| counts[*k] > 0).collect();
     words.sort_by_key(|k| (std::cmp::Reverse(counts[*k]), *k));
     words.truncate(8);
+    words
+}
+
+fn worst_list(described: &str, errors: &[usize]) {
+    let mut words = worst(&logged(errors, 16_320, 16_320).1);
     words.resize(8, 64);
     println!("worst list, {described}:{}", words.iter().map(|k| format!(" {k}")).collect::<String>());
 }

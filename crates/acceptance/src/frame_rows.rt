@@ -1,4 +1,8 @@
-// Rows on frames: payloads that are encoded, checked and extracted again, refusals, blocks that are no frames, and corrections.
+// Rows on frames: payloads that are encoded, checked and extracted again, refusals, blocks that are no frames, and corrections. The columns are
+//
+//     lent      operation, code, bytes, data, buffer
+//     received  operation, code, payload bytes, payload, bytes sent, errors, value of each, first place, places apart, buffer
+//     correct   payload, wrong bits, first place, places apart
 use crate::calls::CHECK;
 use crate::calls::CORRECT;
 use crate::calls::ENCODE;

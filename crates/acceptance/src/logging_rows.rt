@@ -1,5 +1,8 @@
 // Rows on the logging of corrections, of zero frames with inverted bits: the three counters after each answer (frames, uncorrectable blocks, bits), and worst
-// lists.
+// lists. The columns are
+//
+//     counted   counters, wrong bits, places apart, bytes of the block, buffer
+//     worst     wrong bits, first place, places apart
 use crate::calls::FRAME;
 use crate::lines::list;
 use crate::lines::number;

@@ -1,4 +1,7 @@
-// Rows on single words: lengths, symbols above 1,023 and buffers that are refused, parity, and words with errors.
+// Rows on single words: lengths, symbols above 1,023 and buffers that are refused, parity, and words with errors. The columns are
+//
+//     lent      operation, code, values, data, buffer
+//     received  operation, code, data values, data, values sent, errors, value of each, first place, places apart, buffer
 use crate::calls::CHECK;
 use crate::calls::CORRECT;
 use crate::calls::ENCODE;

@@ -8,7 +8,7 @@ use native.Mathlib.Nat.{le-refl, not-suc-le-zero}
 use native.Mathlib.Omega.{arith}
 use borrow.Author.Count.{below-more}
 use lib.Seq.{ext-getD}
-use Rattle.logging.specs.WorstList.{worst, worstWords}
+use Rattle.logging.specs.WorstList.{worstWords}
 use Rattle.logging.specs.Laws.{Before, placeOf, Worst}
 use Rattle.logging.proofs.Ranking.{worst-list}
 
@@ -61,10 +61,11 @@ module _ (counts : List ℕ) where
               let at-i : placeOf m i ≡ placeOf l i = rw here at e in
               (omega arith, λ differ. absurd (differ (sym at-i)))
 
-  -- so they agree at place i
+  -- no two inner words stand before each other
   not-both : (j k : ℕ) → Before counts j k → Before counts k j → ⊥
   not-both j k = ⊎-elim (λ h. ⊎-elim (λ g. omega arith) (λ q. omega (arith, q .0))) (λ p. ⊎-elim (λ g. omega (arith, p .0)) (λ q. omega (arith, p .1, q .1)))
 
+  -- so two such lists agree at place i, and at all places
   module _ (l m : List ℕ) (wl : Worst counts l) (wm : Worst counts m) where
     agree-at : (i : ℕ) → i < 8 → ((j : ℕ) → j < i → placeOf l j ≡ placeOf m j) → placeOf l i ≡ placeOf m i
     agree-at i h agree = go (decLt (placeOf l i) 64) (decLt (placeOf m i) 64)

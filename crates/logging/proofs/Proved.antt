@@ -46,7 +46,7 @@ module _ (c : Correction) where
   unfolding bitsOf
   bits-promised = ap₂ (λ (n s : ℕ). cond (eqb n 0) s 0) number-promised sum-promised
 
-pub of-corrections : (cs : List Correction) →
+of-corrections : (cs : List Correction) →
     totals (map (λ c. c .report) cs)
     ≡ record {
       frames = limited (sumOver (λ c. cond (eqb (numberOf c) 0) 1 0) cs);

@@ -35,7 +35,7 @@ module _ (counts : List ℕ) where
 
 -- ---- places named or empty
 
-pub from-named : (n : ℕ) (counts : List ℕ) (i : ℕ) → i < n → (placeOf (worstFrom n counts) i ≡ 64) ⊎ Named counts (placeOf (worstFrom n counts) i)
+from-named : (n : ℕ) (counts : List ℕ) (i : ℕ) → i < n → (placeOf (worstFrom n counts) i ≡ 64) ⊎ Named counts (placeOf (worstFrom n counts) i)
 unfolding worstFrom
 from-named zero counts i h = absurd (not-suc-le-zero h)
 from-named (suc n) counts zero h = top-named counts
@@ -43,12 +43,12 @@ from-named (suc n) counts (suc i) h =
     ⊎-elim (λ e. inl e) (λ p. inr (was-named counts _ p)) (from-named n (others counts) i (omega arith))
 
 -- a place below 64 is named
-pub from-some : (n : ℕ) (counts : List ℕ) (i : ℕ) → i < n → placeOf (worstFrom n counts) i < 64 → Named counts (placeOf (worstFrom n counts) i)
+from-some : (n : ℕ) (counts : List ℕ) (i : ℕ) → i < n → placeOf (worstFrom n counts) i < 64 → Named counts (placeOf (worstFrom n counts) i)
 from-some n counts i h l = ⊎-elim (λ e. absurd (omega arith)) (λ p. p) (from-named n counts i h)
 
 -- ---- sorted
 
-pub from-sorted : (n : ℕ) (counts : List ℕ) (i j : ℕ) → i < j → j < n → placeOf (worstFrom n counts) j < 64 →
+from-sorted : (n : ℕ) (counts : List ℕ) (i j : ℕ) → i < j → j < n → placeOf (worstFrom n counts) j < 64 →
     (placeOf (worstFrom n counts) i < 64) × Before counts (placeOf (worstFrom n counts) i) (placeOf (worstFrom n counts) j)
 unfolding worstFrom
 from-sorted zero counts i j h l small = absurd (not-suc-le-zero l)
@@ -67,7 +67,7 @@ from-sorted (suc n) counts (suc i) (suc j) h l small =
 before-some : (counts : List ℕ) (j k : ℕ) → 0 < countOf counts k → Before counts j k → 0 < countOf counts j
 before-some counts j k some = ⊎-elim (λ h. omega arith) (λ p. omega (arith, p .0))
 
-pub from-complete : (n : ℕ) (counts : List ℕ) (k : ℕ) → Named counts k → ((i : ℕ) → i < n → placeOf (worstFrom n counts) i ≡ k → ⊥) →
+from-complete : (n : ℕ) (counts : List ℕ) (k : ℕ) → Named counts k → ((i : ℕ) → i < n → placeOf (worstFrom n counts) i ≡ k → ⊥) →
     (i : ℕ) → i < n → (placeOf (worstFrom n counts) i < 64) × Before counts (placeOf (worstFrom n counts) i) k
 unfolding worstFrom
 from-complete zero counts k named absent i h = absurd (not-suc-le-zero h)

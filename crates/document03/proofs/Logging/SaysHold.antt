@@ -9,8 +9,7 @@ use lib.Dec.{eqb, leb}
 use Rattle.frames.specs.declared.Report.{Report}
 use Rattle.logging.specs.declared.Counters.{Counters}
 use Rattle.logging.specs.Counting.{framesOf, uncorrectableOf, bitsOf, limited, cleared, counted}
-use Rattle.logging.specs.WorstList.{worst, worstWords}
-use Rattle.logging.specs.WorstList as WorstList
+use Rattle.logging.specs.WorstList.{worstWords}
 use Rattle.logging.proofs.Order.{count-inside}
 use Rattle.document03.proofs.Fields.{pick}
 use Rattle.document03.proofs.Words.Statements.{when}

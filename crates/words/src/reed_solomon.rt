@@ -1,4 +1,4 @@
-// Outer words over a field that is lent as its two tables: refusals, values at the roots, the generator, and a word with errors added. `symbol` is for the
+// Outer words over a field that is lent as its two tables: refusals, values at the roots, the generator, and a word with errors added. `symbol` and `copy` are for the
 // crates above too.
 use crate::Outer;
 use crate::decoder::Errors;
@@ -123,7 +123,7 @@ pub fn store(cells: [u16; Outer::PARITY], out: &mut [u16])
     }
 }
 
-fn copy(word: &[u16], out: &mut [u16])
+pub fn copy(word: &[u16], out: &mut [u16])
     requires { ⌜ length (now out) ≡ length (now word) ⌝ }
     ensures { λ _. ⌜ now (out .exit) ≡ now (word .entry) ⌝ }
 {

@@ -1,11 +1,11 @@
--- `timing::products` meets its contract. Assumes nothing.
+-- `exports::products` meets its contract. Assumes nothing.
 use mathlib.Core.Path.{_≡_}
 use Prim.Native.Nat.{_-_, _≤_}
 use borrow.Author.Needs.{needs}
-use Rattle.timing.specs.Chains.{chain}
-use Rattle.timing.proofs.Chains.{chain-start, chain-next, chain-end}
-use Rattle.timing.proofs.products.Statement.{statement}
-use Rattle.timing.proofs.products.Tie as tie
+use Rattle.exports.specs.Chains.{chain}
+use Rattle.exports.proofs.Chains.{chain-start, chain-next, chain-end}
+use Rattle.exports.proofs.products.Statement.{statement}
+use Rattle.exports.proofs.products.Tie as tie
 
 abbrev Inv-loop : tie.InvT-loop
 Inv-loop exp log x y n v₀ i₀ v i = (i ≤ n) × (v ≡ chain exp log x y i)

@@ -5,7 +5,7 @@ use Prim.Native.Nat.{ℕ, _+_, _≤_}
 use native.Mathlib.Numerals.{add-one}
 use native.Mathlib.Omega.{arith}
 use Rattle.fields.specs.ByTables.{tableProduct}
-use Rattle.timing.specs.Chains.{chain}
+use Rattle.exports.specs.Chains.{chain}
 
 pub chain-start : (es ls : List ℕ) (x y : ℕ) → x ≡ chain es ls x y 0
 unfolding chain

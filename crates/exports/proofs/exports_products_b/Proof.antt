@@ -1,8 +1,8 @@
--- `timing::timing_products_b` meets its contract. Assumes nothing.
+-- `exports::exports_products_b` meets its contract. Assumes nothing.
 use borrow.Author.Needs.{needs}
-use Rattle.timing.proofs.Chains.{chain-through}
-use Rattle.timing.proofs.timing_products_b.Statement.{statement}
-use Rattle.timing.proofs.timing_products_b.Tie as tie
+use Rattle.exports.proofs.Chains.{chain-through}
+use Rattle.exports.proofs.exports_products_b.Statement.{statement}
+use Rattle.exports.proofs.exports_products_b.Tie as tie
 
 exp-b-requires : tie.Need-exp-b-requires
 exp-b-requires c κs = search needs
@@ -22,8 +22,8 @@ products-requires c κs = search needs
 returns : tie.Need-returns
 returns c = search (needs, chain-through)
 
-pub timing-products-b-spec : {M : Type 1} → statement M
-timing-products-b-spec =
+pub exports-products-b-spec : {M : Type 1} → statement M
+exports-products-b-spec =
     tie.close
     (tie.spec
     exp-b-requires

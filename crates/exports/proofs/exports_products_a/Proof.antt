@@ -1,8 +1,8 @@
--- `timing::timing_products_a` meets its contract. Assumes nothing.
+-- `exports::exports_products_a` meets its contract. Assumes nothing.
 use borrow.Author.Needs.{needs}
-use Rattle.timing.proofs.Chains.{chain-through}
-use Rattle.timing.proofs.timing_products_a.Statement.{statement}
-use Rattle.timing.proofs.timing_products_a.Tie as tie
+use Rattle.exports.proofs.Chains.{chain-through}
+use Rattle.exports.proofs.exports_products_a.Statement.{statement}
+use Rattle.exports.proofs.exports_products_a.Tie as tie
 
 exp-a-requires : tie.Need-exp-a-requires
 exp-a-requires c κs = search needs
@@ -22,8 +22,8 @@ products-requires c κs = search needs
 returns : tie.Need-returns
 returns c = search (needs, chain-through)
 
-pub timing-products-a-spec : {M : Type 1} → statement M
-timing-products-a-spec =
+pub exports-products-a-spec : {M : Type 1} → statement M
+exports-products-a-spec =
     tie.close
     (tie.spec
     exp-a-requires

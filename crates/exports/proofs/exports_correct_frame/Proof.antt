@@ -1,0 +1,50 @@
+-- `exports::exports_correct_frame` meets its contract. Assumes nothing.
+use borrow.Author.Needs.{needs}
+use Rattle.exports.proofs.Packed.{frame-packed}
+use Rattle.exports.proofs.exports_correct_frame.Statement.{statement}
+use Rattle.exports.proofs.exports_correct_frame.Tie as tie
+
+correct-frame-requires : tie.Need-correct-frame-requires
+correct-frame-requires c κs = search needs
+
+slice-aggregate-hand-out : tie.Need-slice-aggregate-hand-out
+slice-aggregate-hand-out c = search needs
+
+hand-out-requires : tie.Need-hand-out-requires
+hand-out-requires c κs = search needs
+
+cast-result : tie.Need-cast-result
+cast-result c = search needs
+
+mul-result : tie.Need-mul-result
+mul-result c = search needs
+
+cast-result-2 : tie.Need-cast-result-2
+cast-result-2 c = search needs
+
+add-result : tie.Need-add-result
+add-result c = search needs
+
+same-length : tie.Need-same-length
+same-length c = search needs
+
+same-length-2 : tie.Need-same-length-2
+same-length-2 c = search needs
+
+returns : tie.Need-returns
+returns c = search (needs, frame-packed)
+
+pub exports-correct-frame-spec : {M : Type 1} → statement M
+exports-correct-frame-spec =
+    tie.close
+    (tie.spec
+    correct-frame-requires
+    slice-aggregate-hand-out
+    hand-out-requires
+    cast-result
+    mul-result
+    cast-result-2
+    add-result
+    same-length
+    same-length-2
+    returns)

@@ -1,0 +1,3 @@
+-- What the exported functions give.
+pub mod Chains
+pub mod Packed

@@ -1,0 +1,112 @@
+// What the programs of tests/ and bench/ call and a terminal does not, exported for C and Rust: the entries on single words, the corrector with its report,
+// and chains of products through tables that are bound once and lent. An answer of more than one number comes packed into one.
+use words::Correction;
+ghost use mathlib.Core.Path.{_≡_};
+ghost use Rattle.fields.specs.Elements.{powersA, exponentsA, powersB, exponentsB};
+ghost use Rattle.words.specs.Answers.{outerChecked, outerEncoded, innerChecked, innerEncoded, refusalOf, changedOf, outerCorrected, innerCorrected};
+ghost use Rattle.frames.specs.Answers.{frameCorrected};
+ghost use Rattle.exports.specs.Chains.{chain};
+ghost use Rattle.exports.specs.Packed.{packed, packedWord, handedOut, packedFrame};
+
+#[no_mangle]
+pub extern "C" fn exports_check_outer(word: &[u16]) -> u8
+    ensures { λ r. ⌜ r ≡ outerChecked (now (word .entry)) ⌝ }
+{
+    words::check_outer(word)
+}
+
+#[no_mangle]
+pub extern "C" fn exports_encode_outer(data: &[u16], out: &mut [u16]) -> u8
+    ensures { λ r. ⌜ (r, now (out .exit)) ≡ outerEncoded (now («data» .entry)) (now (out .entry)) ⌝ }
+{
+    words::encode_outer(data, out)
+}
+
+// 256 times the number of changes, or the refusal's number.
+fn packed_word(c: Correction) -> u32
+    ensures { λ r. ⌜ r ≡ packed (refusalOf c) (changedOf c) ⌝ }
+{
+    match c {
+        Correction::Corrected { changed } => 256 * changed as u32,
+        Correction::Refused { number } => number as u32,
+    }
+}
+
+#[no_mangle]
+pub extern "C" fn exports_correct_outer(word: &[u16], out: &mut [u16]) -> u32
+    ensures { λ r. ⌜ (r, now (out .exit)) ≡ packedWord (outerCorrected (now (word .entry)) (now (out .entry))) ⌝ }
+{
+    packed_word(words::correct_outer(word, out))
+}
+
+#[no_mangle]
+pub extern "C" fn exports_check_inner(word: &[u8]) -> u8
+    ensures { λ r. ⌜ r ≡ innerChecked (now (word .entry)) ⌝ }
+{
+    words::check_inner(word)
+}
+
+#[no_mangle]
+pub extern "C" fn exports_encode_inner(data: &[u8], out: &mut [u8]) -> u8
+    ensures { λ r. ⌜ (r, now (out .exit)) ≡ innerEncoded (now («data» .entry)) (now (out .entry)) ⌝ }
+{
+    words::encode_inner(data, out)
+}
+
+#[no_mangle]
+pub extern "C" fn exports_correct_inner(word: &[u8], out: &mut [u8]) -> u32
+    ensures { λ r. ⌜ (r, now (out .exit)) ≡ packedWord (innerCorrected (now (word .entry)) (now (out .entry))) ⌝ }
+{
+    packed_word(words::correct_inner(word, out))
+}
+
+// Writes all counts, if there is place for exactly as many.
+fn hand_out(all: &[u16], counts: &mut [u16])
+    ensures { λ _. ⌜ now (counts .exit) ≡ handedOut (now (all .entry)) (now (counts .entry)) ⌝ }
+{
+    if counts.len() == all.len() {
+        words::reed_solomon::copy(all, counts);
+    }
+}
+
+// 256 times the sum, plus the refusal's number; the counts are written if there is place for exactly 64.
+#[no_mangle]
+pub extern "C" fn exports_correct_frame(block: &[u8], out: &mut [u8], counts: &mut [u16]) -> u64
+    ensures { λ r.
+        ⌜ (r, now (out .exit), now (counts .exit)) ≡ packedFrame (frameCorrected (now (block .entry)) (now (out .entry))) (now (counts .entry)) ⌝ }
+{
+    let report = frames::correct_frame(block, out);
+    let all = report.counts;
+    hand_out(&all, counts);
+    256 * report.sum as u64 + report.refusal as u64
+}
+
+fn products(exp: &[u16], log: &[u16], x: u16, y: u16, n: u32) -> u16
+    ensures { λ r. ⌜ r ≡ chain (now (exp .entry)) (now (log .entry)) x y n ⌝ }
+{
+    let mut v = x;
+    let mut i: u32 = 0;
+    while i < n {
+        v = fields::product(exp, log, v, y);
+        i += 1;
+    }
+    v
+}
+
+#[no_mangle]
+pub extern "C" fn exports_products_a(x: u16, y: u16, n: u32) -> u16
+    ensures { λ r. ⌜ r ≡ chain powersA exponentsA x y n ⌝ }
+{
+    let exp = fields::exp_a();
+    let log = fields::log_a();
+    products(&exp, &log, x, y, n)
+}
+
+#[no_mangle]
+pub extern "C" fn exports_products_b(x: u16, y: u16, n: u32) -> u16
+    ensures { λ r. ⌜ r ≡ chain powersB exponentsB x y n ⌝ }
+{
+    let exp = fields::exp_b();
+    let log = fields::log_b();
+    products(&exp, &log, x, y, n)
+}

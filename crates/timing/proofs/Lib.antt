@@ -1,3 +1,0 @@
--- The laws that the kernels' proofs cite.
-pub mod Chains
-pub mod Corrections

@@ -1,3 +1,0 @@
--- What the kernels of bench/ compute.
-pub mod Chains
-pub mod Corrections

@@ -1,0 +1,147 @@
+//! One function for each entry: it makes the call on both sides, and compares the answers and every element of every buffer, before and after.
+
+use crate::lent::{Element, Lent};
+use crate::random::Random;
+use second::Corrected;
+use wrapper::{frames, words, Refusal};
+
+/// 0 or the refusal's number, on which both sides agree; or what differs.
+pub type Answer = Result<u8, String>;
+
+/// A number with the answer, as the sum of a report, and the content of the buffer; or the refusal's number.
+type Expected<T> = Result<(Vec<T>, u32), u8>;
+
+fn compare<T: Element>(
+    entry: &str,
+    input: &[T],
+    out: &mut Lent<T>,
+    expected: Expected<T>,
+    call: impl FnOnce(&[T], &mut [T]) -> Result<u32, Refusal>,
+) -> Answer {
+    let lent = Lent::new(input);
+    let found = call(lent.slice(), out.slice_mut()).map_err(Refusal::number);
+    let answers = expected.as_ref().map(|e| e.1).map_err(|n| *n);
+    if found != answers {
+        return Err(format!("{entry}: the library answers {found:?}, the second {answers:?}"));
+    }
+    let told = |e| format!("{entry}: {e}");
+    lent.kept("the input").map_err(told)?;
+    match expected {
+        Ok((content, _)) => out.holds("the output", &content).map(|()| 0).map_err(told),
+        Err(number) => out.kept("the output").map(|()| number).map_err(told),
+    }
+}
+
+pub fn bytes_before(random: &mut Random, space: usize) -> Lent<u8> {
+    Lent::new(&random.bytes(space))
+}
+
+/// Symbols before a call may be any numbers of 16 bits.
+pub fn symbols_before(random: &mut Random, space: usize) -> Lent<u16> {
+    let symbols: Vec<u16> = (0..space).map(|_| random.next() as u16).collect();
+    Lent::new(&symbols)
+}
+
+fn no_number<T>(answer: Result<Vec<T>, u8>) -> Expected<T> {
+    answer.map(|content| (content, 0))
+}
+
+pub fn encode_frame(random: &mut Random, payload: &[u8], space: usize) -> Answer {
+    let expected = no_number(second::encode_frame(payload, space));
+    compare("encode_frame", payload, &mut bytes_before(random, space), expected, |i, o| frames::encode(i, o).map(|()| 0))
+}
+
+pub fn check_frame(block: &[u8]) -> Answer {
+    let expected = second::check_frame(block).map(|()| (vec![], 0));
+    compare("check_frame", block, &mut Lent::new(&[]), expected, |i, _| frames::check(i).map(|()| 0))
+}
+
+pub fn extract_payload(random: &mut Random, block: &[u8], space: usize) -> Answer {
+    let expected = no_number(second::extract_payload(block, space));
+    compare("extract_payload", block, &mut bytes_before(random, space), expected, |i, o| frames::extract(i, o).map(|()| 0))
+}
+
+/// The entry for C, and the one with the report: its sum, and the counts in a space for `places`.
+pub fn correct_frame(random: &mut Random, block: &[u8], space: usize, places: usize) -> Result<Result<Corrected, u8>, String> {
+    let answer = second::correct_frame(block, space);
+    let expected = |sum: bool| answer.as_ref().map(|c| (c.frame.clone(), if sum { c.sum } else { 0 })).map_err(|n| *n);
+    compare("correct_frame", block, &mut bytes_before(random, space), expected(false), |i, o| frames::correct(i, o).map(|()| 0))?;
+    let mut counts = symbols_before(random, places);
+    compare("correct_frame with its report", block, &mut bytes_before(random, space), expected(true), |i, o| {
+        frames::correct_with_report(i, o, counts.slice_mut())
+    })?;
+    if places == frames::INNER_WORDS {
+        counts.holds("the counts", answer.as_ref().map(|c| &c.counts).unwrap_or(&[0; frames::INNER_WORDS]))?;
+    } else {
+        counts.kept("the counts")?;
+    }
+    Ok(answer)
+}
+
+pub fn check_outer(word: &[u16]) -> Answer {
+    let expected = second::check_outer(word).map(|()| (vec![], 0));
+    compare("check_outer", word, &mut Lent::new(&[]), expected, |i, _| words::check_outer(i).map(|()| 0))
+}
+
+pub fn encode_outer(random: &mut Random, data: &[u16], space: usize) -> Answer {
+    let expected = no_number(second::encode_outer(data, space));
+    compare("encode_outer", data, &mut symbols_before(random, space), expected, |i, o| words::encode_outer(i, o).map(|()| 0))
+}
+
+pub fn correct_outer(random: &mut Random, word: &[u16], space: usize) -> Answer {
+    let expected = second::correct_outer(word, space).map(|(content, changed)| (content, changed as u32));
+    compare("correct_outer", word, &mut symbols_before(random, space), expected, words::correct_outer)
+}
+
+pub fn check_inner(word: &[u8]) -> Answer {
+    let expected = second::check_inner(word).map(|()| (vec![], 0));
+    compare("check_inner", word, &mut Lent::new(&[]), expected, |i, _| words::check_inner(i).map(|()| 0))
+}
+
+pub fn encode_inner(random: &mut Random, data: &[u8], space: usize) -> Answer {
+    let expected = no_number(second::encode_inner(data, space));
+    compare("encode_inner", data, &mut bytes_before(random, space), expected, |i, o| words::encode_inner(i, o).map(|()| 0))
+}
+
+pub fn correct_inner(random: &mut Random, word: &[u8], space: usize) -> Answer {
+    let expected = second::correct_inner(word, space).map(|(content, changed)| (content, changed as u32));
+    compare("correct_inner", word, &mut bytes_before(random, space), expected, words::correct_inner)
+}
+
+#[cfg(test)]
+mod tests {
+    use super::*;
+
+    fn told(expected: Expected<u8>, call: impl FnOnce(&[u8], &mut [u8]) -> Result<u32, Refusal>) -> bool {
+        compare("entry", &[1, 2, 3], &mut Lent::new(&[4, 5]), expected, call).is_ok()
+    }
+
+    #[test]
+    fn equal_answers_are_no_difference() {
+        assert!(told(Ok((vec![6, 7], 1)), |_, o| {
+            o.copy_from_slice(&[6, 7]);
+            Ok(1)
+        }));
+        assert!(told(Err(3), |_, _| Err(Refusal::BufferSize)));
+    }
+
+    #[test]
+    fn another_answer_is_a_difference() {
+        assert!(!told(Ok((vec![4, 5], 1)), |_, _| Ok(2)));
+        assert!(!told(Ok((vec![4, 5], 1)), |_, _| Err(Refusal::BufferSize)));
+        assert!(!told(Err(2), |_, _| Err(Refusal::BufferSize)));
+        assert!(!told(Err(3), |_, _| Ok(0)));
+    }
+
+    #[test]
+    fn another_content_is_a_difference() {
+        assert!(!told(Ok((vec![6, 7], 1)), |_, o| {
+            o.copy_from_slice(&[6, 8]);
+            Ok(1)
+        }));
+        assert!(!told(Err(3), |_, o| {
+            o[1] = 6;
+            Err(Refusal::BufferSize)
+        }));
+    }
+}

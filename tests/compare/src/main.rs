@@ -1,0 +1,224 @@
+//! The proved library against the second encoder and decoder: the same calls on both sides, case by case.
+//!
+//!     compare quick [SEED]           some minutes' worth, as the gate runs it
+//!     compare long [SEED]            over a million damaged frames and words, with a progress line
+//!     compare GROUP SEED NUMBER      one case again
+//!
+//! A case is given by its group, the seed and its number, and by nothing else. The first difference ends the run, with the words that run its case again.
+
+mod calls;
+mod frames;
+mod layout;
+mod lengths;
+mod lent;
+mod light;
+mod random;
+mod words;
+
+use random::Random;
+use std::panic::{catch_unwind, AssertUnwindSafe};
+use std::process::ExitCode;
+use std::sync::atomic::{AtomicU64, Ordering::Relaxed};
+use std::sync::Mutex;
+use std::time::{Duration, Instant};
+
+/// What came of a case on which both sides agree: the answer, 0 or the refusal's number, and whether it was a frame or a code word with wrong bits.
+pub struct Done {
+    pub answer: u8,
+    pub damaged: bool,
+}
+
+struct Group {
+    name: &'static str,
+    quick: u64,
+    long: u64,
+    case: fn(&mut Random, u64) -> Result<Done, String>,
+}
+
+const fn group(name: &'static str, quick: u64, long: u64, case: fn(&mut Random, u64) -> Result<Done, String>) -> Group {
+    Group { name, quick, long, case }
+}
+
+/// Lengths from 0 to 20,000, every one of them in both sets.
+const fn sweep(name: &'static str, case: fn(&mut Random, u64) -> Result<Done, String>) -> Group {
+    group(name, 20_001, 20_001, case)
+}
+
+const GROUPS: &[Group] = &[
+    group("encode", 2_000, 24_000, frames::encode),
+    group("check-and-extract", 2_400, 28_800, frames::check_and_extract),
+    group("scattered", 1_200, 14_400, frames::scattered),
+    group("burst", 1_600, 19_200, frames::burst),
+    group("each-word", 1_100, 13_200, frames::each_word),
+    group("mixed", 800, 9_600, frames::mixed),
+    group("few-words", 1_600, 19_200, frames::few_words),
+    group("outer-limit", 1_600, 19_200, frames::outer_limit),
+    group("last-word", 1_600, 19_200, frames::last_word),
+    group("no-frame", 400, 4_800, frames::no_frame),
+    group("exchanged", 800, 9_600, frames::exchanged),
+    group("padding", 600, 7_200, frames::padding),
+    group("between-frames", 800, 9_600, frames::between_frames),
+    group("towards-code-words", 800, 9_600, frames::towards_code_words),
+    group("omitted-places", 800, 9_600, frames::omitted_places),
+    group("encode-outer", 20_000, 200_000, words::encode_outer),
+    group("correct-outer", 44_000, 440_000, words::correct_outer),
+    group("between-outer", 20_000, 200_000, words::between_outer),
+    group("any-outer", 20_000, 200_000, words::any_outer),
+    group("omitted-outer", 20_000, 200_000, words::omitted_outer),
+    group("encode-inner", 20_000, 200_000, words::encode_inner),
+    group("correct-inner", 44_000, 440_000, words::correct_inner),
+    group("between-inner", 20_000, 200_000, words::between_inner),
+    group("omitted-inner", 20_000, 200_000, words::omitted_inner),
+    group("any-inner", 20_000, 200_000, words::any_inner),
+    sweep("encode-frame-payload-length", lengths::encode_frame_payload),
+    sweep("encode-frame-out-length", lengths::encode_frame_out),
+    sweep("check-frame-block-length", lengths::check_frame_block),
+    sweep("extract-payload-block-length", lengths::extract_payload_block),
+    sweep("extract-payload-out-length", lengths::extract_payload_out),
+    sweep("correct-frame-block-length", lengths::correct_frame_block),
+    sweep("correct-frame-out-length", lengths::correct_frame_out),
+    sweep("check-outer-word-length", lengths::check_outer_word),
+    sweep("encode-outer-data-length", lengths::encode_outer_data),
+    sweep("encode-outer-out-length", lengths::encode_outer_out),
+    sweep("correct-outer-word-length", lengths::correct_outer_word),
+    sweep("correct-outer-out-length", lengths::correct_outer_out),
+    sweep("check-inner-word-length", lengths::check_inner_word),
+    sweep("encode-inner-data-length", lengths::encode_inner_data),
+    sweep("encode-inner-out-length", lengths::encode_inner_out),
+    sweep("correct-inner-word-length", lengths::correct_inner_word),
+    sweep("correct-inner-out-length", lengths::correct_inner_out),
+    group("lengths-together", 14_000, 140_000, lengths::together),
+];
+
+/// One case; a panic of either side counts as a difference.
+fn run_case(group: &Group, seed: u64, number: u64) -> Result<Done, String> {
+    let mut random = Random::of_case(seed, group.name, number);
+    catch_unwind(AssertUnwindSafe(|| (group.case)(&mut random, number))).unwrap_or_else(|_| Err("a panic".into()))
+}
+
+/// How many cases had each answer, and how many were damaged frames or words.
+#[derive(Default)]
+struct Tally {
+    answers: [u64; 8],
+    damaged: u64,
+}
+
+/// The cases of a group, shared out among the processors; the first difference, by number.
+fn run_group(group: &Group, seed: u64, cases: u64, progress: bool) -> Result<Tally, (u64, String)> {
+    let next = AtomicU64::new(0);
+    let tally = Mutex::new(Tally::default());
+    let difference: Mutex<Option<(u64, String)>> = Mutex::new(None);
+    let last_told = Mutex::new(Instant::now());
+    let work = || {
+        let mut own = Tally::default();
+        loop {
+            let number = next.fetch_add(1, Relaxed);
+            if number >= cases {
+                break;
+            }
+            match run_case(group, seed, number) {
+                Ok(done) => {
+                    own.answers[done.answer as usize] += 1;
+                    own.damaged += done.damaged as u64;
+                }
+                Err(text) => {
+                    next.store(cases, Relaxed);
+                    let mut first = difference.lock().unwrap();
+                    if first.as_ref().map_or(true, |(n, _)| number < *n) {
+                        *first = Some((number, text));
+                    }
+                }
+            }
+            if progress {
+                tell_progress(group, number, cases, &last_told);
+            }
+        }
+        let mut all = tally.lock().unwrap();
+        (0..8).for_each(|i| all.answers[i] += own.answers[i]);
+        all.damaged += own.damaged;
+    };
+    let workers = std::thread::available_parallelism().map_or(1, |n| n.get());
+    std::thread::scope(|scope| (0..workers).for_each(|_| drop(scope.spawn(work))));
+    match difference.into_inner().unwrap() {
+        Some(found) => Err(found),
+        None => Ok(tally.into_inner().unwrap()),
+    }
+}
+
+/// A line every ten seconds.
+fn tell_progress(group: &Group, number: u64, cases: u64, last_told: &Mutex<Instant>) {
+    if let Ok(mut last) = last_told.try_lock() {
+        if last.elapsed() > Duration::from_secs(10) {
+            *last = Instant::now();
+            eprintln!("    {}: {} of {cases}", group.name, number + 1);
+        }
+    }
+}
+
+fn tell_difference(group: &str, seed: u64, number: u64, text: &str) -> ExitCode {
+    println!("compare: DIFFERENCE in {group}, seed {seed}, case {number}: {text}");
+    println!("compare: run it again with: bash tests/compare/run {group} {seed} {number}");
+    ExitCode::FAILURE
+}
+
+fn tell_group(group: &Group, tally: &Tally, took: Duration) {
+    let number = |i: usize| format!("{} refused by {i}", tally.answers[i]);
+    let mut answers = vec![format!("{} accepted", tally.answers[0])];
+    answers.extend((1..8).filter(|&i| tally.answers[i] > 0).map(number));
+    println!("{:30} {:5.1} s: {}", group.name, took.as_secs_f64(), answers.join(", "));
+}
+
+fn run_set(name: &str, seed: u64, cases: fn(&Group) -> u64) -> ExitCode {
+    let (start, mut all, mut damaged) = (Instant::now(), 0, 0);
+    for group in GROUPS {
+        let since = Instant::now();
+        match run_group(group, seed, cases(group), name == "long") {
+            Err((number, text)) => return tell_difference(group.name, seed, number, &text),
+            Ok(tally) => {
+                all += cases(group);
+                damaged += tally.damaged;
+                tell_group(group, &tally, since.elapsed());
+            }
+        }
+    }
+    let took = start.elapsed().as_secs();
+    println!("compare: {name} set, seed {seed}: {all} cases, {damaged} of them damaged frames or words, no difference ({took} s)");
+    ExitCode::SUCCESS
+}
+
+fn run_again(name: &str, seed: u64, number: u64) -> ExitCode {
+    let Some(group) = GROUPS.iter().find(|g| g.name == name) else { return usage() };
+    match run_case(group, seed, number) {
+        Err(text) => tell_difference(name, seed, number, &text),
+        Ok(done) => {
+            println!("compare: {name}, seed {seed}, case {number}: both sides answer {}", done.answer);
+            ExitCode::SUCCESS
+        }
+    }
+}
+
+fn usage() -> ExitCode {
+    eprintln!("usage: compare quick [SEED] | compare long [SEED] | compare GROUP SEED NUMBER");
+    ExitCode::from(2)
+}
+
+const SEED: u64 = 20_261_116;
+
+fn main() -> ExitCode {
+    let words: Vec<String> = std::env::args().skip(1).collect();
+    let words: Vec<&str> = words.iter().map(String::as_str).collect();
+    let number = |text: &str| text.parse::<u64>().ok();
+    match words[..] {
+        ["quick"] => run_set("quick", SEED, |g| g.quick),
+        ["long"] => run_set("long", SEED, |g| g.long),
+        [name @ ("quick" | "long"), seed] => match number(seed) {
+            Some(seed) => run_set(name, seed, if name == "quick" { |g| g.quick } else { |g| g.long }),
+            None => usage(),
+        },
+        [name, seed, case] => match (number(seed), number(case)) {
+            (Some(seed), Some(case)) => run_again(name, seed, case),
+            _ => usage(),
+        },
+        _ => usage(),
+    }
+}

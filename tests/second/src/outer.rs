@@ -1,0 +1,117 @@
+//! The outer code: a Reed-Solomon code over field A, shortened to any length.
+//!
+//! A word is a list of symbols, the one of the highest power first. The
+//! generator has the roots a^0 to a^15, so two code words of one length differ
+//! in at least 17 symbols, and at most one lies within eight of a given word.
+
+use crate::field::{Field, FieldA};
+use crate::poly;
+use std::ops::RangeInclusive;
+use std::sync::OnceLock;
+
+/// Parity symbols of a word: the roots of the generator.
+pub const PARITY: usize = 16;
+/// Symbols that can be corrected.
+const REACH: usize = PARITY / 2;
+/// Lengths of a word.
+pub const LENGTHS: RangeInclusive<usize> = PARITY + 1..=FieldA::ORDER;
+/// The largest symbol.
+pub const MAX_SYMBOL: u16 = FieldA::ORDER as u16;
+
+/// The coefficients of the generator, the one of power 15 first; that of power
+/// 16 is 1 and left out.
+fn generator() -> &'static [u32; PARITY] {
+    static GENERATOR: OnceLock<[u32; PARITY]> = OnceLock::new();
+    GENERATOR.get_or_init(|| {
+        let product = poly::from_roots::<FieldA>((0..PARITY).map(FieldA::alpha));
+        std::array::from_fn(|i| product[PARITY - 1 - i])
+    })
+}
+
+/// The parity symbols of data: the remainder, after long division by the
+/// generator, of the data moved up by sixteen powers.
+pub fn parity(data: &[u16]) -> [u16; PARITY] {
+    let generator = generator();
+    let mut rest = [0; PARITY];
+    for &symbol in data {
+        let lead = rest[0] ^ u32::from(symbol);
+        rest.copy_within(1.., 0);
+        rest[PARITY - 1] = 0;
+        for (r, &g) in rest.iter_mut().zip(generator) {
+            *r ^= FieldA::multiply(g, lead);
+        }
+    }
+    rest.map(|symbol| symbol as u16)
+}
+
+/// The values of a word at a^0 to a^15, by Horner's rule.
+fn syndromes(word: &[u16]) -> [u32; PARITY] {
+    let mut values = [0; PARITY];
+    for &symbol in word {
+        for (i, value) in values.iter_mut().enumerate() {
+            *value = FieldA::times_power(*value, i as u32) ^ u32::from(symbol);
+        }
+    }
+    values
+}
+
+/// Is the word zero at all roots of the generator?
+pub fn is_code_word(word: &[u16]) -> bool {
+    syndromes(word) == [0; PARITY]
+}
+
+/// The code word of the same length within eight symbols, and the number of
+/// symbols changed; nothing if there is none.
+///
+/// If there is one, the word differs from it in v symbols, v at most eight, and
+/// the Euclidean algorithm gives their locator, of degree v, which has all its
+/// roots at places of the word: these are then the symbols that are changed.
+/// What it gives in other cases does not pass one of the tests below.
+pub fn correct(word: &[u16]) -> Option<(Vec<u16>, usize)> {
+    let syndromes = syndromes(word);
+    if syndromes == [0; PARITY] {
+        return Some((word.to_vec(), 0));
+    }
+    let (locator, evaluator) = solve_key_equation(&syndromes);
+    let roots = poly::chien_search::<FieldA>(&locator, word.len());
+    if roots.len() != locator.len() - 1 {
+        return None;
+    }
+    let mut proposed = word.to_vec();
+    for root in roots {
+        proposed[root.place] ^= error_value(&locator, &evaluator, root.point);
+    }
+    let changed = word.iter().zip(&proposed).filter(|(old, new)| old != new).count();
+    (changed <= REACH && is_code_word(&proposed)).then_some((proposed, changed))
+}
+
+/// Error locator and error evaluator by Sugiyama's algorithm, up to a common
+/// factor. The locator is not zero and has degree at most eight.
+///
+/// Euclid's algorithm on x^16 and the syndrome polynomial S, up to the first
+/// remainder of degree below eight. Throughout, `rest` is `factor` times S
+/// modulo x^16, and the degree of `factor` is 16 less that of `rest_before`.
+fn solve_key_equation(syndromes: &[u32; PARITY]) -> (Vec<u32>, Vec<u32>) {
+    let mut rest_before = vec![0; PARITY + 1];
+    rest_before[PARITY] = 1;
+    let mut rest = poly::trim(syndromes.to_vec());
+    let (mut factor_before, mut factor) = (vec![], vec![1]);
+    while rest.len() > REACH {
+        let (quotient, remainder) = poly::divide::<FieldA>(&rest_before, &rest);
+        (rest_before, rest) = (rest, remainder);
+        let next = poly::add(&factor_before, &poly::multiply::<FieldA>(&quotient, &factor));
+        (factor_before, factor) = (factor, next);
+    }
+    (factor, rest)
+}
+
+/// The error at a simple root of the locator, by Forney's formula.
+///
+/// The errors Y_l at the points 1/X_l give the syndromes S_i as the sums of
+/// Y_l X_l^i, with i from 0 on since a^0 is the first root. So S is the sum of
+/// Y_l / (1 - X_l x), and Y_l is X_l times evaluator by derivative of locator.
+fn error_value(locator: &[u32], evaluator: &[u32], point: u32) -> u16 {
+    let above = poly::evaluate::<FieldA>(evaluator, point);
+    let below = poly::evaluate::<FieldA>(&poly::derivative(locator), point);
+    FieldA::multiply(above, FieldA::inverse(FieldA::multiply(point, below))) as u16
+}

@@ -189,6 +189,45 @@ static void frames(void)
 	correct_with_report(lost, FRAME, FRAME, 64, 5);
 }
 
+static unsigned random_below(unsigned n)
+{
+	static uint32_t state = 1;
+	state = 1664525 * state + 1013904223;
+	return (state >> 8) % n;
+}
+
+// a frame with scattered wrong bits; with eight in each inner word, or many in three of them; noise; ones
+static void damage(uint8_t *block, int kind)
+{
+	unsigned bits = kind == 0 ? random_below(700) : kind == 1 ? 512 : kind == 2 ? 120 : 0;
+	memcpy(block, frame, FRAME);
+	for (unsigned i = 0; i < bits; i++) {
+		unsigned word = kind == 0 ? random_below(64) : kind == 1 ? i % 64 : 20 * (i % 3);
+		unsigned bit = 64 * random_below(2040) + word;
+		block[bit / 8] ^= 128 >> bit % 8;
+	}
+	for (int i = 0; i < FRAME && kind > 2; i++)
+		block[i] = kind == 3 ? random_below(256) : 255;
+}
+
+// whatever stands in a block: a corrected one is a frame, and one that is refused leaves its buffer
+static void any_contents(void)
+{
+	static uint8_t block[FRAME];
+	for (int i = 0; i < 100; i++) {
+		damage(block, i % 5);
+		struct lent in = lend_input(block, FRAME, FRAME), out = lend_output(FRAME), read = lend_output(PAYLOAD);
+		int checked = g9751_i4_check(in.bytes, FRAME), number = g9751_i4_correct(in.bytes, FRAME, out.bytes, FRAME);
+		require(kept(in) && (checked == 0 || checked == 4), "check of any content", i, 0);
+		require(number == 0 ? g9751_i4_check(out.bytes, FRAME) == 0 : number == 5 && untouched(out), "correct of any content", i, 0);
+		require(g9751_i4_extract(out.bytes, FRAME, read.bytes, PAYLOAD) == (number == 0 ? 0 : 4), "extract of any content", i, 0);
+		give_back(in);
+		give_back(out);
+		give_back(read);
+		calls += 3;
+	}
+}
+
 // ---- single words
 
 static uint16_t outer[1024], wrong_outer[1024];
@@ -263,6 +302,7 @@ int main(int argc, char **argv)
 	pages = argc > 1 && strcmp(argv[1], "pages") == 0;
 	for (at_the_start = 0; at_the_start <= pages; at_the_start++) {
 		frames();
+		any_contents();
 		outer_words();
 		inner_words();
 	}

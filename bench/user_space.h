@@ -18,6 +18,7 @@ typedef uint32_t u32;
 #define kzalloc(size, flags) calloc(1, size)
 #define kfree free
 #define WARN_ON(condition) (condition)
+#define printk(...)
 #define EXPORT_SYMBOL_GPL(name)
 #define MODULE_LICENSE(text)
 #define MODULE_AUTHOR(text)
@@ -28,12 +29,4 @@ typedef uint32_t u32;
 static inline int fls(unsigned int x)
 {
 	return x ? 32 - __builtin_clz(x) : 0;
-}
-
-static inline u8 bitrev8(u8 x)
-{
-	u8 y = 0;
-	for (int i = 0; i < 8; i++)
-		y |= (x >> i & 1) << (7 - i);
-	return y;
 }

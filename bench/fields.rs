@@ -8,6 +8,14 @@ extern "C" {
     fn timing_products_b(x: u16, y: u16, n: u32) -> u16;
 }
 
+fn proved_products_a(x: u16, y: u16, n: u32) -> u16 {
+    unsafe { timing_products_a(x, y, n) }
+}
+
+fn proved_products_b(x: u16, y: u16, n: u32) -> u16 {
+    unsafe { timing_products_b(x, y, n) }
+}
+
 const PRODUCTS: u32 = 4096;
 const ROUNDS: usize = 1001;
 
@@ -89,14 +97,6 @@ fn rust_products_b(x: u16, y: u16, n: u32) -> u16 {
     products(&exp, &log, x, y, n)
 }
 
-fn proved_products_a(x: u16, y: u16, n: u32) -> u16 {
-    unsafe { timing_products_a(x, y, n) }
-}
-
-fn proved_products_b(x: u16, y: u16, n: u32) -> u16 {
-    unsafe { timing_products_b(x, y, n) }
-}
-
 fn by_shift_and_add(degree: u32, polynomial: u32, x: u16, y: u16) -> u16 {
     let mut term = u32::from(x) % (1 << degree);
     let mut sum = 0;
@@ -144,14 +144,14 @@ fn compare(name: &str, degree: u32, polynomial: u32, proved: Products, rust: Pro
         "{name}: {PRODUCTS} dependent products: proved {ours:.0} ns ({:.2} each), Rust {theirs:.0} ns ({:.2} each), ratio {:.2}",
         ours / each,
         theirs / each,
-        ours / theirs
+        theirs / ours
     );
     let (ours, theirs) = medians(proved, rust, 0, 1000);
     println!("{name}: no product, the tables bound: proved {ours:.1} ns, Rust {theirs:.1} ns");
 }
 
 fn main() {
-    println!("medians of {ROUNDS} rounds");
+    println!("medians of {ROUNDS} rounds; the ratio is theirs to ours, above 1 where the proved code is faster");
     compare("field A", 10, 1033, proved_products_a, rust_products_a);
     compare("field B", 11, 2053, proved_products_b, rust_products_b);
 }

@@ -1,207 +1,127 @@
-// Frames: the proved entries of crates/frames, from bytes to bytes, against libfec for the sixteen outer words and the Linux kernel's lib/bch.c for the 64
-// inner words, turn by turn in one run. The peers' encoders and decoders are timed alone, on words that are laid out between the calls; they make no frame
-// afresh and no report. Frames and corrections are compared with what the peers have made. With the two libraries a frame is tested by making its parity
-// again, so the time of their encoders stands against check and extract too.
-#include <fec.h>
-#include <linux/bch.h>
-#include <string.h>
-#include "g9751_i4.h"
+// Whole frames, from bytes to bytes: the proved entries of crates/frames against the codec of peer_codec.c, on the same payloads and blocks in one run. The
+// two take turns, and who goes first changes from frame to frame. Every answer is compared, outside of what is timed; so the kernel's answers are tested
+// there too, not in the peers' time.
+#include "blocks.h"
 #include "rounds.h"
 
-enum { PAYLOAD = G9751_I4_PAYLOAD_BYTES, FRAME = G9751_I4_FRAME_BYTES };
-enum { WORDS = 16, SYMBOLS = 781, DATA = 765, PARITY = 16, INNER = 64, DATA_BYTES = 244, BYTES = 255, PLACES = 2040 };
+enum { ROUNDS = 1001 };
 
-static void *rs, *last;
-static struct bch_control *bch;
-static unsigned int outer[WORDS][SYMBOLS];
-static uint8_t inner[INNER][BYTES];
-static uint8_t payload[PAYLOAD], frame[FRAME], block[FRAME], out[FRAME];
-static double checked[ROUNDS], extracted[ROUNDS];
+typedef int (*side)(void);
 
-static int bit(const uint8_t *bytes, int i)
+static int our_encode(void)
 {
-	return bytes[i / 8] >> (7 - i % 8) & 1;
+	return g9751_i4_encode(payload, PAYLOAD, ours_out, FRAME);
 }
 
-static int data_in(int w)
+static int peers_encode(void)
 {
-	return w < WORDS - 1 ? DATA : DATA - 3;
+	peer_encode(payload, peers_out);
+	return 0;
 }
 
-static void *code_of(int w)
+static int our_check(void)
 {
-	return w < WORDS - 1 ? rs : last;
+	return g9751_i4_check(block, FRAME);
 }
 
-// data symbols: ten payload bits each, with two zeros past the payload's end
-static void lay_out_payload(void)
+static int peers_check(void)
 {
-	for (int w = 0; w < WORDS; w++)
-		for (int s = 0; s < data_in(w); s++) {
-			outer[w][s] = 0;
-			for (int j = 0; j < 10; j++) {
-				int i = 10 * DATA * w + 10 * s + j;
-				outer[w][s] = 2 * outer[w][s] + (i < 8 * PAYLOAD ? bit(payload, i) : 0);
-			}
-		}
+	return peer_check(block);
 }
 
-// one sent bit to each inner word in turn, or back; the two bits that are not sent are the last of the data of word 15
-static void deal_out(int back)
+static int our_extract(void)
 {
-	int i = 0;
-	if (back)
-		memset(outer, 0, sizeof outer);
+	return g9751_i4_extract(block, FRAME, ours_out, PAYLOAD);
+}
+
+static int peers_extract(void)
+{
+	return peer_extract(block, peers_out);
+}
+
+static int our_correct(void)
+{
+	return g9751_i4_correct(block, FRAME, ours_out, FRAME);
+}
+
+static int peers_correct(void)
+{
+	return peer_correct(block, peers_out, NULL);
+}
+
+static const side encode[2] = { our_encode, peers_encode }, check[2] = { our_check, peers_check };
+static const side extract[2] = { our_extract, peers_extract }, correct[2] = { our_correct, peers_correct };
+
+struct row {
+	const char *name;
+	const side *sides;
+	// damage: as many wrong bits in each of so many inner words, or one burst
+	int words, errors, burst;
+	// the answer, and what is to be written
+	int number;
+	const uint8_t *written;
+	size_t length;
+};
+
+static double times[2][ROUNDS];
+static int numbers[2];
+
+static void take_turns(const side *sides, int round)
+{
+	for (int turn = 0; turn < 2; turn++) {
+		int s = (round + turn) % 2;
+		double start = now();
+		numbers[s] = sides[s]();
+		times[s][round] = now() - start;
+	}
+}
+
+static void compare(const struct row *row)
+{
+	require(numbers[0] == row->number, "%s: proved answer %d", row->name, numbers[0]);
+	if (row->written)
+		require(!memcmp(ours_out, row->written, row->length), "%s: what the proved code has written", row->name);
+	if (row->sides == correct)
+		compare_corrections(numbers[0], numbers[1], row->name);
 	else
-		memset(inner, 0, sizeof inner);
-	for (int w = 0; w < WORDS; w++)
-		for (int s = 0; s < data_in(w) + PARITY; s++)
-			for (int j = 0; j < 10; j++) {
-				if (w == WORDS - 1 && s == data_in(w) - 1 && j >= 8)
-					continue;
-				if (back)
-					outer[w][s] |= (unsigned int)bit(inner[i % INNER], i / INNER) << (9 - j);
-				else if (outer[w][s] >> (9 - j) & 1)
-					inner[i % INNER][i / INNER / 8] |= 128 >> i / INNER % 8;
-				i++;
-			}
+		require(numbers[1] == numbers[0] && !memcmp(peers_out, ours_out, FRAME), "%s: the peers' answer %d", row->name, numbers[1]);
 }
 
-static double encode_outer(void)
+static void measure(const struct row *row)
 {
-	double start = now();
-	for (int w = 0; w < WORDS; w++)
-		encode_rs_int(code_of(w), outer[w], outer[w] + data_in(w));
-	return now() - start;
-}
-
-static double encode_inner(void)
-{
-	double start = now();
-	for (int k = 0; k < INNER; k++)
-		bch_encode(bch, inner[k], DATA_BYTES, inner[k] + DATA_BYTES);
-	return now() - start;
-}
-
-static double decode_inner(void)
-{
-	double start = now();
-	for (int k = 0; k < INNER; k++) {
-		unsigned int wrong[8];
-		int found = bch_decode(bch, inner[k], DATA_BYTES, inner[k] + DATA_BYTES, NULL, NULL, wrong);
-		for (int e = 0; e < found; e++)
-			inner[k][wrong[e] / 8] ^= 1 << wrong[e] % 8;
+	for (int round = 0; round < ROUNDS; round++) {
+		new_frame();
+		damage_words(row->words, row->errors);
+		damage_burst(next_random(8 * FRAME - row->burst + 1), row->burst);
+		clear_outputs();
+		take_turns(row->sides, round);
+		compare(row);
 	}
-	return now() - start;
-}
-
-// how many outer words were not decoded
-static int decode_outer(double *time)
-{
-	int lost = 0;
-	double start = now();
-	for (int w = 0; w < WORDS; w++)
-		lost += decode_rs_int(code_of(w), outer[w], NULL, 0) < 0;
-	*time += now() - start;
-	return lost;
-}
-
-static void new_payload(void)
-{
-	for (int i = 0; i < PAYLOAD; i++)
-		payload[i] = next_random(256);
-	lay_out_payload();
-}
-
-static void encode_round(int round)
-{
-	new_payload();
-	double start = now();
-	uint8_t number = g9751_i4_encode(payload, PAYLOAD, frame, FRAME);
-	ours[round] = now() - start;
-	require(number == 0, "proved encoder", 0);
-	theirs[round] = encode_outer();
-	deal_out(0);
-	theirs[round] += encode_inner();
-	for (int i = 0; i < 8 * FRAME; i++)
-		require(bit(frame, i) == bit(inner[i % INNER], i / INNER), "frame", 0);
-	start = now();
-	number = g9751_i4_check(frame, FRAME);
-	checked[round] = now() - start;
-	require(number == 0, "proved checker", 0);
-	start = now();
-	number = g9751_i4_extract(frame, FRAME, out, PAYLOAD);
-	extracted[round] = now() - start;
-	require(number == 0 && !memcmp(out, payload, PAYLOAD), "proved extractor", 0);
-}
-
-// as many wrong bits in each of the first `words` inner words
-static void correct_round(int round, int words, int errors)
-{
-	new_payload();
-	g9751_i4_encode(payload, PAYLOAD, frame, FRAME);
-	memcpy(block, frame, FRAME);
-	for (int k = 0; k < words; k++)
-		for (int e = 0; e < errors;) {
-			int i = INNER * next_random(PLACES) + k;
-			if (bit(block, i) == bit(frame, i)) {
-				block[i / 8] ^= 128 >> i % 8;
-				e++;
-			}
-		}
-	memset(inner, 0, sizeof inner);
-	for (int i = 0; i < 8 * FRAME; i++)
-		inner[i % INNER][i / INNER / 8] |= bit(block, i) << (7 - i / INNER % 8);
-	memset(out, 0, FRAME);
-	double start = now();
-	uint8_t number = g9751_i4_correct(block, FRAME, out, FRAME);
-	ours[round] = now() - start;
-	theirs[round] = decode_inner();
-	deal_out(1);
-	int lost = decode_outer(&theirs[round]);
-	require(number == (lost ? 5 : 0), "proved corrector", errors);
-	if (!lost) {
-		require(!memcmp(out, frame, FRAME), "proved corrector", errors);
-		deal_out(0);
-		for (int i = 0; i < 124928; i++)
-			require(bit(frame, i) == bit(inner[i % INNER], i / INNER), "peers", errors);
-	}
-}
-
-static void report(const char *name, double *proved, double b)
-{
-	double a = median(proved);
-	printf("%s: proved %.1f us, libfec and kernel %.1f us, ratio %.2f\n", name, a / 1000, b / 1000, a / b);
+	double a = median(times[0], ROUNDS), b = median(times[1], ROUNDS);
+	printf("| %s | %.1f | %.1f | %.2f |\n", row->name, a / 1000, b / 1000, b / a);
+	fflush(stdout);
 }
 
 int main(void)
 {
-	// field A, roots a^0 to a^15, 242 symbols omitted, 245 in the last word; field B, eight errors
-	rs = init_rs_int(10, 1033, 0, 1, PARITY, 1023 - SYMBOLS);
-	last = init_rs_int(10, 1033, 0, 1, PARITY, 1023 - SYMBOLS + 3);
-	bch = bch_init(11, 8, 2053, false);
-	printf("medians of %d frames\n", ROUNDS);
-	for (int round = 0; round < ROUNDS; round++)
-		encode_round(round);
-	double b = median(theirs);
-	report("encode frame", ours, b);
-	report("check frame", checked, b);
-	report("extract payload", extracted, b);
-	struct {
-		const char *name;
-		int words, errors;
-	} damages[] = {
-		{ "correct frame, clean", 0, 0 },
-		{ "correct frame, one wrong bit", 1, 1 },
-		{ "correct frame, one wrong bit in every inner word", INNER, 1 },
-		{ "correct frame, eight wrong bits in every inner word", INNER, 8 },
-		{ "correct frame, 24 wrong bits in one inner word", 1, 24 },
-		{ "correct frame, nine wrong bits in every inner word", INNER, 9 },
+	static const struct row rows[] = {
+		{ "encode", encode, 0, 0, 0, 0, frame, FRAME },
+		{ "check", check, 0, 0, 0, 0, NULL, 0 },
+		{ "extract", extract, 0, 0, 0, 0, payload, PAYLOAD },
+		{ "correct: clean", correct, 0, 0, 0, 0, frame, FRAME },
+		{ "correct: 1 wrong bit in one inner word", correct, 1, 1, 0, 0, frame, FRAME },
+		{ "correct: 1 wrong bit in every inner word", correct, INNER, 1, 0, 0, frame, FRAME },
+		{ "correct: 2 in every inner word", correct, INNER, 2, 0, 0, frame, FRAME },
+		{ "correct: 4 in every inner word", correct, INNER, 4, 0, 0, frame, FRAME },
+		{ "correct: 8 in every inner word", correct, INNER, 8, 0, 0, frame, FRAME },
+		{ "correct: a burst of 512", correct, 0, 0, 512, 0, frame, FRAME },
+		{ "correct: 40 in each of 8 inner words (refused)", correct, 8, 40, 0, 5, NULL, 0 },
 	};
-	for (size_t k = 0; k < sizeof damages / sizeof *damages; k++) {
-		for (int round = 0; round < ROUNDS; round++)
-			correct_round(round, damages[k].words, damages[k].errors);
-		report(damages[k].name, ours, median(theirs));
-	}
+	require(peer_init(), "no memory for the peers");
+	printf("medians of %d frames; the ratio is theirs to ours, above 1 where the proved code is faster\n\n", ROUNDS);
+	printf("| case | proved (µs) | libfec + kernel (µs) | ratio |\n|---|---|---|---|\n");
+	for (size_t k = 0; k < sizeof rows / sizeof *rows; k++)
+		measure(&rows[k]);
+	printf("\nanswers of the kernel's decoder that gave no code word: %d; blocks that the peers answered wrongly for it: %d\n", no_code_words, wrong_blocks);
 	return 0;
 }

@@ -3,9 +3,10 @@
 #include <fec.h>
 #include <linux/bch.h>
 #include <string.h>
+#include "random.h"
 #include "rounds.h"
 
-enum { SYMBOLS = 781, DATA = 765, BYTES = 255, DATA_BYTES = 244, PLACES = 2040 };
+enum { ROUNDS = 2001, SYMBOLS = 781, DATA = 765, BYTES = 255, DATA_BYTES = 244, PLACES = 2040 };
 
 uint8_t timing_correct_outer(const uint16_t *word, size_t word_len, uint16_t *out, size_t out_len);
 uint8_t timing_correct_inner(const uint8_t *word, size_t word_len, uint8_t *out, size_t out_len);
@@ -21,23 +22,11 @@ static inline uint8_t correct_inner(const uint8_t *word, uint8_t *out)
 	return timing_correct_inner(word, BYTES, out, BYTES);
 }
 
-// n distinct places below `below`
-static void choose(uint32_t *places, int n, uint32_t below)
-{
-	for (int i = 0; i < n; i++) {
-		int again = 1;
-		while (again) {
-			places[i] = next_random(below);
-			again = 0;
-			for (int k = 0; k < i; k++)
-				again |= places[k] == places[i];
-		}
-	}
-}
+static double ours[ROUNDS], theirs[ROUNDS];
 
 static void report(const char *word, const char *peer, int errors)
 {
-	double a = median(ours), b = median(theirs);
+	double a = median(ours, ROUNDS), b = median(theirs, ROUNDS);
 	printf("%s, %d errors: proved %.2f us, %s %.2f us, ratio %.2f\n", word, errors, a / 1000, peer, b / 1000, b / a);
 }
 
@@ -71,12 +60,12 @@ static void outer(void *rs, int errors)
 		theirs[round] = now() - middle;
 		ours[round] = middle - start;
 		if (errors <= 8) {
-			require(number == 0, "proved, outer", errors);
+			require(number == 0, "proved, outer, %d errors", errors);
 			for (int i = 0; i < SYMBOLS; i++)
-				require(out[i] == sent[i], "proved, outer", errors);
-			require(found == errors && !memcmp(peer, sent, sizeof sent), "libfec", errors);
+				require(out[i] == sent[i], "proved, outer, %d errors", errors);
+			require(found == errors && !memcmp(peer, sent, sizeof sent), "libfec, %d errors", errors);
 		} else {
-			require(number == 5, "proved, outer", errors);
+			require(number == 5, "proved, outer, %d errors", errors);
 			taken += found >= 0;
 		}
 	}
@@ -110,10 +99,10 @@ static void inner(struct bch_control *bch, int errors)
 		theirs[round] = now() - middle;
 		ours[round] = middle - start;
 		if (errors <= 8) {
-			require(number == 0 && !memcmp(out, sent, BYTES), "proved, inner", errors);
-			require(found == errors && !memcmp(word, sent, BYTES), "kernel", errors);
+			require(number == 0 && !memcmp(out, sent, BYTES), "proved, inner, %d errors", errors);
+			require(found == errors && !memcmp(word, sent, BYTES), "kernel, %d errors", errors);
 		} else {
-			require(number == 5, "proved, inner", errors);
+			require(number == 5, "proved, inner, %d errors", errors);
 			taken += found >= 0;
 		}
 	}

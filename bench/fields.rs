@@ -1,19 +1,19 @@
-//! 4,096 dependent products in each field: the proved kernel of crates/timing against the same code in Rust, in one run.
+//! 4,096 dependent products in each field: the proved kernel of crates/exports against the same code in Rust, in one run.
 //! Before it times them, it compares both with the product by shift and add.
 use std::hint::black_box;
 use std::time::Instant;
 
 extern "C" {
-    fn timing_products_a(x: u16, y: u16, n: u32) -> u16;
-    fn timing_products_b(x: u16, y: u16, n: u32) -> u16;
+    fn exports_products_a(x: u16, y: u16, n: u32) -> u16;
+    fn exports_products_b(x: u16, y: u16, n: u32) -> u16;
 }
 
 fn proved_products_a(x: u16, y: u16, n: u32) -> u16 {
-    unsafe { timing_products_a(x, y, n) }
+    unsafe { exports_products_a(x, y, n) }
 }
 
 fn proved_products_b(x: u16, y: u16, n: u32) -> u16 {
-    unsafe { timing_products_b(x, y, n) }
+    unsafe { exports_products_b(x, y, n) }
 }
 
 const PRODUCTS: u32 = 4096;

@@ -3,23 +3,21 @@
 #include <fec.h>
 #include <linux/bch.h>
 #include <string.h>
+#include "exports.h"
 #include "random.h"
 #include "rounds.h"
 
 enum { ROUNDS = 2001, SYMBOLS = 781, DATA = 765, BYTES = 255, DATA_BYTES = 244, PLACES = 2040 };
 
-uint8_t timing_correct_outer(const uint16_t *word, size_t word_len, uint16_t *out, size_t out_len);
-uint8_t timing_correct_inner(const uint8_t *word, size_t word_len, uint8_t *out, size_t out_len);
-
-// the proved correctors: 0, or the refusal's number
+// the proved correctors: 0, or the refusal's number, which is the lowest byte of their answer
 static inline uint8_t correct_outer(const uint16_t *word, uint16_t *out)
 {
-	return timing_correct_outer(word, SYMBOLS, out, SYMBOLS);
+	return exports_correct_outer(word, SYMBOLS, out, SYMBOLS);
 }
 
 static inline uint8_t correct_inner(const uint8_t *word, uint8_t *out)
 {
-	return timing_correct_inner(word, BYTES, out, BYTES);
+	return exports_correct_inner(word, BYTES, out, BYTES);
 }
 
 static double ours[ROUNDS], theirs[ROUNDS];

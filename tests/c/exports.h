@@ -1,4 +1,4 @@
-// The entries on single words and the corrector with its report, as crates/exports exports them for tests. The answer of a correction is 256 times the number
+// The entries on single words and the corrector with its report, as crates/exports exports them for tests/ and bench/. The answer of a correction is 256 times the number
 // of changes, or the sum of the report, plus the refusal's number or 0.
 #include <stddef.h>
 #include <stdint.h>

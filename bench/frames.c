@@ -63,20 +63,35 @@ struct row {
 	size_t length;
 };
 
-static double times[2][ROUNDS];
-static int numbers[2];
+static const struct row rows[] = {
+	{ "encode", encode, 0, 0, 0, 0, frame, FRAME },
+	{ "check", check, 0, 0, 0, 0, NULL, 0 },
+	{ "extract", extract, 0, 0, 0, 0, payload, PAYLOAD },
+	{ "correct: clean", correct, 0, 0, 0, 0, frame, FRAME },
+	{ "correct: 1 wrong bit in one inner word", correct, 1, 1, 0, 0, frame, FRAME },
+	{ "correct: 1 wrong bit in every inner word", correct, INNER, 1, 0, 0, frame, FRAME },
+	{ "correct: 2 in every inner word", correct, INNER, 2, 0, 0, frame, FRAME },
+	{ "correct: 4 in every inner word", correct, INNER, 4, 0, 0, frame, FRAME },
+	{ "correct: 8 in every inner word", correct, INNER, 8, 0, 0, frame, FRAME },
+	{ "correct: a burst of 512", correct, 0, 0, 512, 0, frame, FRAME },
+	{ "correct: 40 in each of 8 inner words (refused)", correct, 8, 40, 0, 5, NULL, 0 },
+};
 
-static void take_turns(const side *sides, int round)
+enum { ROWS = sizeof rows / sizeof *rows };
+
+static double times[ROWS][2][ROUNDS];
+
+static void take_turns(int r, int round, int *numbers)
 {
 	for (int turn = 0; turn < 2; turn++) {
 		int s = (round + turn) % 2;
 		double start = now();
-		numbers[s] = sides[s]();
-		times[s][round] = now() - start;
+		numbers[s] = rows[r].sides[s]();
+		times[r][s][round] = now() - start;
 	}
 }
 
-static void compare(const struct row *row)
+static void compare(const struct row *row, const int *numbers)
 {
 	require(numbers[0] == row->number, "%s: proved answer %d", row->name, numbers[0]);
 	if (row->written)
@@ -87,41 +102,31 @@ static void compare(const struct row *row)
 		require(numbers[1] == numbers[0] && !memcmp(peers_out, ours_out, FRAME), "%s: the peers' answer %d", row->name, numbers[1]);
 }
 
-static void measure(const struct row *row)
+static void measure(int r, int round)
 {
-	for (int round = 0; round < ROUNDS; round++) {
-		new_frame();
-		damage_words(row->words, row->errors);
-		damage_burst(next_random(8 * FRAME - row->burst + 1), row->burst);
-		clear_outputs();
-		take_turns(row->sides, round);
-		compare(row);
-	}
-	double a = median(times[0], ROUNDS), b = median(times[1], ROUNDS);
-	printf("| %s | %.1f | %.1f | %.2f |\n", row->name, a / 1000, b / 1000, b / a);
-	fflush(stdout);
+	const struct row *row = &rows[r];
+	int numbers[2];
+	new_frame();
+	damage_words(row->words, row->errors);
+	damage_burst(next_random(8 * FRAME - row->burst + 1), row->burst);
+	clear_outputs();
+	take_turns(r, round, numbers);
+	compare(row, numbers);
 }
 
 int main(void)
 {
-	static const struct row rows[] = {
-		{ "encode", encode, 0, 0, 0, 0, frame, FRAME },
-		{ "check", check, 0, 0, 0, 0, NULL, 0 },
-		{ "extract", extract, 0, 0, 0, 0, payload, PAYLOAD },
-		{ "correct: clean", correct, 0, 0, 0, 0, frame, FRAME },
-		{ "correct: 1 wrong bit in one inner word", correct, 1, 1, 0, 0, frame, FRAME },
-		{ "correct: 1 wrong bit in every inner word", correct, INNER, 1, 0, 0, frame, FRAME },
-		{ "correct: 2 in every inner word", correct, INNER, 2, 0, 0, frame, FRAME },
-		{ "correct: 4 in every inner word", correct, INNER, 4, 0, 0, frame, FRAME },
-		{ "correct: 8 in every inner word", correct, INNER, 8, 0, 0, frame, FRAME },
-		{ "correct: a burst of 512", correct, 0, 0, 512, 0, frame, FRAME },
-		{ "correct: 40 in each of 8 inner words (refused)", correct, 8, 40, 0, 5, NULL, 0 },
-	};
 	require(peer_init(), "no memory for the peers");
+	// every row in each round: where the machine is slower for a while, it is so for all of them
+	for (int round = 0; round < ROUNDS; round++)
+		for (int r = 0; r < ROWS; r++)
+			measure(r, round);
 	printf("medians of %d frames; the ratio is theirs to ours, above 1 where the proved code is faster\n\n", ROUNDS);
 	printf("| case | proved (µs) | libfec + kernel (µs) | ratio |\n|---|---|---|---|\n");
-	for (size_t k = 0; k < sizeof rows / sizeof *rows; k++)
-		measure(&rows[k]);
+	for (int r = 0; r < ROWS; r++) {
+		double a = median(times[r][0], ROUNDS), b = median(times[r][1], ROUNDS);
+		printf("| %s | %.1f | %.1f | %.2f |\n", rows[r].name, a / 1000, b / 1000, b / a);
+	}
 	printf("\nanswers of the kernel's decoder that gave no code word: %d; blocks that the peers answered wrongly for it: %d\n", no_code_words, wrong_blocks);
 	return 0;
 }

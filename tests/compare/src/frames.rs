@@ -127,6 +127,15 @@ fn damage_word(random: &mut Random, block: &mut [u8], k: usize, n: usize) {
     }
 }
 
+/// So many inner words with so many wrong bits each; the numbers are the least and the most.
+fn damage_words(random: &mut Random, block: &mut [u8], words: (usize, usize), bits: (usize, usize)) {
+    let several = random.from(words.0, words.1);
+    for k in random.choose(several, INNER_WORDS) {
+        let n = random.from(bits.0, bits.1);
+        damage_word(random, block, k, n);
+    }
+}
+
 /// Every inner word with the same number of wrong bits, 0 to 10 by turns.
 pub fn each_word(random: &mut Random, number: u64) -> Result<Done, String> {
     let sent = sent(random);
@@ -154,17 +163,9 @@ pub fn few_words(random: &mut Random, _: u64) -> Result<Done, String> {
     let sent = sent(random);
     let mut block = sent.clone();
     let most = [12, 25, 50, 200][random.below(4)];
-    let several = random.from(1, 9);
-    for k in random.choose(several, INNER_WORDS) {
-        let n = random.from(9, most);
-        damage_word(random, &mut block, k, n);
-    }
+    damage_words(random, &mut block, (1, 9), (9, most));
     if random.chance(2) {
-        let several = random.below(40);
-        for k in random.choose(several, INNER_WORDS) {
-            let n = random.below(9);
-            damage_word(random, &mut block, k, n);
-        }
+        damage_words(random, &mut block, (0, 39), (0, 8));
     }
     correct(random, &sent, &block)
 }
@@ -246,11 +247,7 @@ pub fn exchanged(random: &mut Random, number: u64) -> Result<Done, String> {
     let sent = sent(random);
     let mut block = sent.clone();
     exchange(random, &mut block, number % 2 == 0);
-    let several = random.below(20);
-    for k in random.choose(several, INNER_WORDS) {
-        let n = random.below(10);
-        damage_word(random, &mut block, k, n);
-    }
+    damage_words(random, &mut block, (0, 19), (0, 9));
     correct(random, &sent, &block)
 }
 
@@ -260,11 +257,7 @@ pub fn padding(random: &mut Random, number: u64) -> Result<Done, String> {
     let mut block = sent.clone();
     put_code_word(random, &mut block, 15, 1 + (number % 3) as u16);
     renew_parity(&mut block);
-    let several = random.below(10);
-    for k in random.choose(several, INNER_WORDS) {
-        let n = random.below(9);
-        damage_word(random, &mut block, k, n);
-    }
+    damage_words(random, &mut block, (0, 9), (0, 8));
     let done = correct(random, &sent, &block)?;
     if done.answer != 5 {
         return Err(format!("word 15 with padding bits that are not zero: answer {}", done.answer));
@@ -295,7 +288,7 @@ pub fn between_frames(random: &mut Random, _: u64) -> Result<Done, String> {
     correct(random, &sent, &block)
 }
 
-/// Inner words on the way to another code word: with nine of its 17 places the inner pass takes the wrong one, and the outer pass has to mend it.
+/// Inner words on the way to another code word: with nine of its 17 places the inner pass takes the wrong one, and the outer pass has to correct that.
 pub fn towards_code_words(random: &mut Random, _: u64) -> Result<Done, String> {
     let sent = sent(random);
     let mut block = sent.clone();

@@ -19,7 +19,6 @@ fn block(random: &mut Random, n: usize) -> Vec<u8> {
     block
 }
 
-/// Which buffer has the length n.
 pub fn encode_frame_payload(random: &mut Random, n: u64) -> Result<Done, String> {
     let payload = random.bytes(n as usize);
     done(calls::encode_frame(random, &payload, BLOCK)?)

@@ -11,7 +11,7 @@
 #include <string.h>
 
 enum { FRAME = 16320, PAYLOAD_BITS = 8 * 15296 };
-enum { WORDS = 16, DATA = 765, LAST_DATA = 762, PARITY = 16, REACH = 8, DATA_BITS = 10 * DATA, WORD_BITS = 10 * (DATA + PARITY) };
+enum { WORDS = 16, DATA = 765, LAST_DATA = 762, PARITY = 16, RADIUS = 8, DATA_BITS = 10 * DATA, WORD_BITS = 10 * (DATA + PARITY) };
 enum { INNER = 64, PLACES = 2040, DATA_PLACES = 1952, DATA_BYTES = 244, PARITY_BYTES = 11, GROUPS = 32, PARITY_GROUP = DATA_PLACES / 64 };
 
 static void *rs, *last_rs;
@@ -31,7 +31,7 @@ int peer_init(void)
 	// field A, roots a^0 to a^15, 242 symbols omitted, 245 in the last word; field B, eight errors
 	rs = init_rs_int(10, 1033, 0, 1, PARITY, 1023 - PARITY - DATA);
 	last_rs = init_rs_int(10, 1033, 0, 1, PARITY, 1023 - PARITY - LAST_DATA);
-	bch = bch_init(11, REACH, 2053, false);
+	bch = bch_init(11, RADIUS, 2053, false);
 	return rs && last_rs && bch;
 }
 
@@ -283,7 +283,7 @@ static uint64_t inner_pass(uint8_t *frame, int *no_code_words)
 {
 	uint64_t left = 0;
 	for (int k = 0; k < INNER; k++) {
-		unsigned int found[REACH];
+		unsigned int found[RADIUS];
 		int n = bch_decode(bch, bytes_of(k), DATA_BYTES, bytes_of(k) + DATA_BYTES, NULL, NULL, found);
 		for (int i = 0; i < n; i++)
 			invert(frame, k, found[i]);
@@ -322,7 +322,7 @@ static int outer_pass(uint8_t *frame, uint64_t *changed)
 		int symbols[PARITY];
 		gather_word(frame, w);
 		int found = decode_rs_int(code_of(w), word, symbols, 0);
-		if (found < 0 || found > REACH || (w == WORDS - 1 && word[LAST_DATA - 1] & 3))
+		if (found < 0 || found > RADIUS || (w == WORDS - 1 && word[LAST_DATA - 1] & 3))
 			return 0;
 		for (int i = 0; i < found; i++)
 			*changed |= put_symbol(frame, w, symbols[i]);

@@ -193,9 +193,9 @@ pub fn last_word(random: &mut Random, _: u64) -> Result<Done, String> {
     let sent = sent(random);
     let mut block = sent.clone();
     let middle = [117_150, 124_767, OUTER_BITS, BITS - 1][random.below(4)];
-    let reach = [4, 20, 100, 300][random.below(4)];
-    let (from, to) = (middle - reach, (middle + reach).min(BITS - 1));
-    for _ in 0..random.from(1, 3 * reach) {
+    let around = [4, 20, 100, 300][random.below(4)];
+    let (from, to) = (middle - around, (middle + around).min(BITS - 1));
+    for _ in 0..random.from(1, 3 * around) {
         flip(&mut block, random.from(from, to));
     }
     if random.chance(2) {

@@ -98,19 +98,19 @@ fn run_case(group: &Group, seed: u64, number: u64) -> Result<Done, String> {
 
 /// How many cases had each answer, and how many were damaged frames or words.
 #[derive(Default)]
-struct Tally {
+struct Outcomes {
     answers: [u64; 8],
     damaged: u64,
 }
 
 /// The cases of a group, shared out among the processors; the first difference, by number.
-fn run_group(group: &Group, seed: u64, cases: u64, progress: bool) -> Result<Tally, (u64, String)> {
+fn run_group(group: &Group, seed: u64, cases: u64, progress: bool) -> Result<Outcomes, (u64, String)> {
     let next = AtomicU64::new(0);
-    let tally = Mutex::new(Tally::default());
+    let outcomes = Mutex::new(Outcomes::default());
     let difference: Mutex<Option<(u64, String)>> = Mutex::new(None);
     let last_told = Mutex::new(Instant::now());
     let work = || {
-        let mut own = Tally::default();
+        let mut own = Outcomes::default();
         loop {
             let number = next.fetch_add(1, Relaxed);
             if number >= cases {
@@ -133,7 +133,7 @@ fn run_group(group: &Group, seed: u64, cases: u64, progress: bool) -> Result<Tal
                 tell_progress(group, number, cases, &last_told);
             }
         }
-        let mut all = tally.lock().unwrap();
+        let mut all = outcomes.lock().unwrap();
         (0..8).for_each(|i| all.answers[i] += own.answers[i]);
         all.damaged += own.damaged;
     };
@@ -141,7 +141,7 @@ fn run_group(group: &Group, seed: u64, cases: u64, progress: bool) -> Result<Tal
     std::thread::scope(|scope| (0..workers).for_each(|_| drop(scope.spawn(work))));
     match difference.into_inner().unwrap() {
         Some(found) => Err(found),
-        None => Ok(tally.into_inner().unwrap()),
+        None => Ok(outcomes.into_inner().unwrap()),
     }
 }
 
@@ -161,10 +161,10 @@ fn tell_difference(group: &str, seed: u64, number: u64, text: &str) -> ExitCode 
     ExitCode::FAILURE
 }
 
-fn tell_group(group: &Group, tally: &Tally, took: Duration) {
-    let number = |i: usize| format!("{} refused by {i}", tally.answers[i]);
-    let mut answers = vec![format!("{} accepted", tally.answers[0])];
-    answers.extend((1..8).filter(|&i| tally.answers[i] > 0).map(number));
+fn tell_group(group: &Group, outcomes: &Outcomes, took: Duration) {
+    let number = |i: usize| format!("{} refused by {i}", outcomes.answers[i]);
+    let mut answers = vec![format!("{} accepted", outcomes.answers[0])];
+    answers.extend((1..8).filter(|&i| outcomes.answers[i] > 0).map(number));
     println!("{:30} {:5.1} s: {}", group.name, took.as_secs_f64(), answers.join(", "));
 }
 
@@ -174,10 +174,10 @@ fn run_set(name: &str, seed: u64, cases: fn(&Group) -> u64) -> ExitCode {
         let since = Instant::now();
         match run_group(group, seed, cases(group), name == "long") {
             Err((number, text)) => return tell_difference(group.name, seed, number, &text),
-            Ok(tally) => {
+            Ok(outcomes) => {
                 all += cases(group);
-                damaged += tally.damaged;
-                tell_group(group, &tally, since.elapsed());
+                damaged += outcomes.damaged;
+                tell_group(group, &outcomes, since.elapsed());
             }
         }
     }

@@ -15,9 +15,9 @@ pub const PARITY: usize = 88;
 /// Data bits of a word.
 pub const DATA: usize = LENGTH - PARITY;
 /// Places that can be corrected.
-const REACH: usize = 8;
+const RADIUS: usize = 8;
 /// Syndromes: the values at a^1 to a^16.
-const SYNDROMES: usize = 2 * REACH;
+const SYNDROMES: usize = 2 * RADIUS;
 
 /// The least binary polynomial of a^j, bit i for power i: the product of x + c
 /// over the conjugates c of a^j. Field B has 2^11 elements and 11 is prime, so
@@ -88,10 +88,10 @@ pub fn correct(word: &[bool]) -> Option<(Vec<bool>, usize)> {
         return Some((word.to_vec(), 0));
     }
     let (locator, errors) = shortest_recurrence(&syndromes(rest));
-    if errors > REACH {
+    if errors > RADIUS {
         return None;
     }
-    let roots = poly::chien_search::<FieldB>(&locator[..=REACH], LENGTH);
+    let roots = poly::chien_search::<FieldB>(&locator[..=RADIUS], LENGTH);
     if roots.len() != errors {
         return None;
     }

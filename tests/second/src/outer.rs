@@ -12,7 +12,7 @@ use std::sync::OnceLock;
 /// Parity symbols of a word: the roots of the generator.
 pub const PARITY: usize = 16;
 /// Symbols that can be corrected.
-const REACH: usize = PARITY / 2;
+const RADIUS: usize = PARITY / 2;
 /// Lengths of a word.
 pub const LENGTHS: RangeInclusive<usize> = PARITY + 1..=FieldA::ORDER;
 /// The largest symbol.
@@ -82,7 +82,7 @@ pub fn correct(word: &[u16]) -> Option<(Vec<u16>, usize)> {
         proposed[root.place] ^= error_value(&locator, &evaluator, root.point);
     }
     let changed = word.iter().zip(&proposed).filter(|(old, new)| old != new).count();
-    (changed <= REACH && is_code_word(&proposed)).then_some((proposed, changed))
+    (changed <= RADIUS && is_code_word(&proposed)).then_some((proposed, changed))
 }
 
 /// Error locator and error evaluator by Sugiyama's algorithm, up to a common
@@ -96,7 +96,7 @@ fn solve_key_equation(syndromes: &[u32; PARITY]) -> (Vec<u32>, Vec<u32>) {
     rest_before[PARITY] = 1;
     let mut rest = poly::trim(syndromes.to_vec());
     let (mut factor_before, mut factor) = (vec![], vec![1]);
-    while rest.len() > REACH {
+    while rest.len() > RADIUS {
         let (quotient, remainder) = poly::divide::<FieldA>(&rest_before, &rest);
         (rest_before, rest) = (rest, remainder);
         let next = poly::add(&factor_before, &poly::multiply::<FieldA>(&quotient, &factor));

@@ -1,12 +1,14 @@
 -- What the corrector answers, one law for each way through it. Assumes nothing.
 use mathlib.Core.Path.{_≡_, refl, sym, ap, _∙_}
-use mathlib.Core.Bool.{Bool, true, false, not}
+use mathlib.Core.Bool.{Bool, true, false, not, cond}
 use mathlib.Core.List.{List, []}
-use mathlib.Core.Option.{Option}
+use mathlib.Core.Option.{Option, none, some, Option·map}
 use Prim.Native.Nat.{ℕ, _+_, _-_, _*_, _<_}
 use native.Mathlib.Omega.{arith}
 use borrow.Author.Tests.{eq-eqb, ne-eqb, not-true, not-false}
-use lib.ListN.{length, replicate}
+use lib.ListN.{length, getD, replicate}
+use mir.Syntax.{w8}
+use mir.Val.{Fits}
 use Rattle.fields.specs.Lists.{tabulate}
 use Rattle.fields.proofs.Lists.{tabulate-at, tabulate-same}
 use Rattle.words.specs.Places.{at, bitAt, bytesOf}
@@ -15,12 +17,13 @@ use Rattle.words.proofs.Places.Numbers.{numberOf-same}
 use Rattle.frames.specs.Frames.{symbolAt, dataIn, withParity, frameOfWords}
 use Rattle.frames.specs.Correction.{innerPass, receivedBit, receivedSymbol, receivedWord, isPermitted, outerRestored, everyOf, outerPass, restoredFrame, reportOf, total}
 use Rattle.frames.specs.Answers.{Corrected, noCounts, refused, reported, frameCorrected, withoutReport}
-use Rattle.frames.specs.Received.{receivedRow}
-use Rattle.frames.specs.Symbols.{InRow, Sent, rowWord}
-use Rattle.frames.specs.Passes.{InnerPassed, provided, rowWords, rowRestored}
+use Rattle.frames.specs.Received.{receivedRow, outerCodes, innerCodes}
+use Rattle.frames.specs.Symbols.{InRow, Sent, rowWord, rowCodes}
+use Rattle.frames.specs.Passes.{InnerPassed, provided, written, rowWords, rowRestored}
 use Rattle.frames.proofs.ReceivedWords.{received-cases, received-first, received-padding, received-last, row-room}
-use Rattle.frames.proofs.RowWords.{received-word}
-use Rattle.frames.proofs.FrameAnswers.{frame-written}
+use Rattle.frames.proofs.RowWords.{received-word, received-codes}
+use Rattle.frames.proofs.FrameAnswers.{frame-written, is-block}
+use Rattle.frames.proofs.RestoredWords.{frame-kept}
 
 -- ---- the two passes
 
@@ -37,22 +40,18 @@ module _ (b c : ℕ → ℕ) (same : (i : ℕ) → i < 130560 → b i ≡ c i) w
       tabulate-same (dataIn w + 16) _ _ (λ s l.
       numberOf-same 10 _ _ (λ j m. received-bit-same (10 * (781 * w + s) + j) (omega (arith, row-room w s k l))))
 
--- the row of the block after the inner pass
-row-passed : (block passed : List ℕ) → InnerPassed block passed → rowRestored (receivedRow (bitAt passed)) ≡ outerPass (innerPass (bitAt block))
+-- the outer pass over the row of a block, and over a block after the inner pass
+row-passed : (b : ℕ → ℕ) → rowRestored (receivedRow b) ≡ outerPass b
 unfolding rowRestored outerPass outerRestored
-row-passed block passed p =
-    ap everyOf (tabulate-same 16 _ _ (λ w k.
-    ap (nearest (isPermitted w) 1024 8) (received-word (bitAt passed) w k ∙ received-same (bitAt passed) (innerPass (bitAt block)) (p .bits) w k)))
+row-passed b = ap everyOf (tabulate-same 16 _ _ (λ w k. ap (nearest (isPermitted w) 1024 8) (received-word b w k)))
 
-pub passes-done : (block copy passed row : List ℕ) (x : Option (List (List ℕ))) → copy ≡ block → InnerPassed copy passed → row ≡ receivedRow (bitAt passed) →
-    x ≡ rowRestored row → x ≡ outerPass (innerPass (bitAt block))
-passes-done block copy passed row x ec p er ex = ex ∙ ap rowRestored er ∙ row-passed copy passed p ∙ ap (λ (b : List ℕ). outerPass (innerPass (bitAt b))) ec
+pub passes-done : (block copy passed : List ℕ) → copy ≡ block → InnerPassed copy passed → outerPass (bitAt passed) ≡ outerPass (innerPass (bitAt block))
+unfolding outerPass outerRestored
+passes-done block copy passed e p =
+    ap everyOf (tabulate-same 16 _ _ (λ w k. ap (nearest (isPermitted w) 1024 8) (received-same (bitAt passed) (innerPass (bitAt copy)) (p .bits) w k)))
+    ∙ ap (λ (b : List ℕ). everyOf (tabulate 16 (outerRestored (innerPass (bitAt b))))) e
 
--- ---- the entry
-
-pub none-counted : replicate 64 0 ≡ noCounts
-unfolding noCounts tabulate
-none-counted = refl
+-- ---- the outer pass
 
 -- the words of a row stand in it
 row-words : (row : List ℕ) → length row ≡ 12496 → InRow (rowWords row) row
@@ -62,6 +61,52 @@ row-words row long =
       long = long;
       place = λ w s k l. sym (ap (λ (c : List ℕ). at c s) (tabulate-at 16 _ w [] k) ∙ tabulate-at (dataIn w + 16) _ s 0 l);
     }
+
+-- a block that is a frame already
+pub pass-kept : (passed row out o : List ℕ) (s t : Bool) → length passed ≡ 16320 → ((i : ℕ) → Fits w8 (getD passed i 0)) →
+    (s ≡ true → innerCodes (bitAt passed) ≡ true) → s ≡ true → row ≡ receivedRow (bitAt passed) → t ≡ rowCodes row → t ≡ true → out ≡ passed →
+    _≡_ {A = Bool × List ℕ} (true, out) (written o (Option·map frameOfWords (outerPass (bitAt passed))))
+unfolding written
+pass-kept passed row out o s t long bytes inner hs er et h e =
+    let outer : outerCodes (bitAt passed) ≡ true = sym (received-codes (bitAt passed)) ∙ ap rowCodes (sym er) ∙ sym et ∙ h in
+    rw (frame-kept passed (is-block passed long bytes) outer (inner hs), e)
+
+module _ (passed row next o : List ℕ) (t : Bool) (er : row ≡ receivedRow (bitAt passed)) (restored : provided t (rowWords next) ≡ rowRestored row) where
+  passed-row : outerPass (bitAt passed) ≡ provided t (rowWords next)
+  passed-row = sym (row-passed (bitAt passed)) ∙ ap rowRestored (sym er) ∙ sym restored
+
+  pub pass-none : not t ≡ true → _≡_ {A = Bool × List ℕ} (false, o) (written o (Option·map frameOfWords (outerPass (bitAt passed))))
+  unfolding written provided
+  pass-none h = rw (passed-row, not-true t h)
+
+  pub pass-written : not t ≡ false → (mid out : List ℕ) → length next ≡ 12496 → Sent next mid → out ≡ bytesOf 16320 (withParity (bitAt mid)) →
+      _≡_ {A = Bool × List ℕ} (true, out) (written o (Option·map frameOfWords (outerPass (bitAt passed))))
+  unfolding written provided
+  pass-written h mid out long sent made =
+      rw (passed-row, not-false t h, made ∙ frame-written (rowWords next) next mid (row-words next long) sent)
+
+-- ---- the entry
+
+pub none-counted : replicate 64 0 ≡ noCounts
+unfolding noCounts tabulate
+none-counted = refl
+
+-- the report of an answer, and of none
+none-reported : (b o out : List ℕ) (t : Bool) → not t ≡ true → (r : Option (List ℕ)) → (t, out) ≡ written o r →
+    _≡_ {A = Corrected} (5, noCounts, 0, out) (reported b o r)
+unfolding reported refused written
+none-reported b o out t h none w = ap (λ (a : Bool × List ℕ). (5, noCounts, 0, a .1)) w
+none-reported b o out t h (some frame) w =
+    let z : true ≡ false = ap (λ (a : Bool × List ℕ). a .0) (sym w) ∙ not-true t h in
+    absurd (omega (arith, ap {B = ℕ} (λ (x : Bool). cond x 1 0) z))
+
+some-reported : (b o out : List ℕ) (t : Bool) → not t ≡ false → (r : Option (List ℕ)) → (t, out) ≡ written o r →
+    _≡_ {A = Corrected} (0, reportOf b out, total (reportOf b out), out) (reported b o r)
+unfolding reported written
+some-reported b o out t h none w =
+    let z : true ≡ false = sym (not-false t h) ∙ ap (λ (a : Bool × List ℕ). a .0) w in
+    absurd (omega (arith, ap {B = ℕ} (λ (x : Bool). cond x 1 0) z))
+some-reported b o out t h (some frame) w = ap (λ (a : Bool × List ℕ). (0, reportOf b (a .1), total (reportOf b (a .1)), a .1)) w
 
 module _ (b o : List ℕ) where
   pub correct-length : (length b ≡ 16320 → ⊥) → (n sum : ℕ) (counts : List ℕ) → n ≡ 2 → counts ≡ noCounts → sum ≡ 0 →
@@ -75,19 +120,24 @@ module _ (b o : List ℕ) where
     unfolding frameCorrected refused
     correct-space f n sum counts en ec es = rw (eq-eqb (length b) 16320 e, ne-eqb (length o) 16320 f, en, ec, es)
 
-    module _ (f : length o ≡ 16320) (t : Bool) (row : List ℕ) (passes : provided t (rowWords row) ≡ outerPass (innerPass (bitAt b))) where
-      pub correct-none : not t ≡ true → (n sum : ℕ) (counts : List ℕ) → n ≡ 5 → counts ≡ noCounts → sum ≡ 0 →
-          _≡_ {A = Corrected} (n, counts, sum, o) (frameCorrected b o)
-      unfolding frameCorrected reported refused restoredFrame provided
-      correct-none h n sum counts en ec es =
-          rw (eq-eqb (length b) 16320 e, eq-eqb (length o) 16320 f, ← passes, not-true t h, en, ec, es)
+    module _ (f : length o ≡ 16320) (t : Bool) (copy passed out : List ℕ) (ec : copy ≡ b) (p : InnerPassed copy passed)
+        (told : (t, out) ≡ written o (Option·map frameOfWords (outerPass (bitAt passed)))) where
+      -- what was written is the restored frame, or there is none
+      restored-is : (t, out) ≡ written o (restoredFrame b)
+      unfolding restoredFrame
+      restored-is = rw (passes-done b copy passed ec p) at told
 
-      pub correct-written : not t ≡ false → (mid out counts : List ℕ) (sum : ℕ) → length row ≡ 12496 → Sent row mid → out ≡ bytesOf 16320 (withParity (bitAt mid)) →
-          counts ≡ reportOf b out → sum ≡ total counts → _≡_ {A = Corrected} (0, counts, sum, out) (frameCorrected b o)
-      unfolding frameCorrected reported restoredFrame provided
-      correct-written h mid out counts sum long sent made ec es =
-          let frame : out ≡ frameOfWords (rowWords row) = made ∙ frame-written (rowWords row) row mid (row-words row long) sent in
-          rw (eq-eqb (length b) 16320 e, eq-eqb (length o) 16320 f, ← passes, not-false t h, es, ec, frame)
+      pub correct-none : not t ≡ true → (n sum : ℕ) (counts : List ℕ) → n ≡ 5 → counts ≡ noCounts → sum ≡ 0 →
+          _≡_ {A = Corrected} (n, counts, sum, out) (frameCorrected b o)
+      unfolding frameCorrected
+      correct-none h n sum counts en ew es =
+          rw (eq-eqb (length b) 16320 e, eq-eqb (length o) 16320 f, en, ew, es) (none-reported b o out t h (restoredFrame b) restored-is)
+
+      pub correct-written : not t ≡ false → (counts : List ℕ) (sum : ℕ) → counts ≡ reportOf b out → sum ≡ total counts →
+          _≡_ {A = Corrected} (0, counts, sum, out) (frameCorrected b o)
+      unfolding frameCorrected
+      correct-written h counts sum ew es =
+          rw (eq-eqb (length b) 16320 e, eq-eqb (length o) 16320 f, es, ew) (some-reported b o out t h (restoredFrame b) restored-is)
 
 -- what the C host is told of an answer
 pub report-left-out : (a : Corrected) (n sum : ℕ) (counts out : List ℕ) → _≡_ {A = Corrected} (n, counts, sum, out) a → _≡_ {A = ℕ × List ℕ} (n, out) (withoutReport a)

@@ -69,7 +69,7 @@ module _ (b row : List ℕ) (r : row ≡ receivedRow (bitAt b)) (outer : Bool) (
   pub words-refused : outer ≡ false → false ≡ (outerCodes (bitAt b) && innerCodes (bitAt b))
   words-refused t = rw (outer-is, t)
 
-is-block : (b : List ℕ) → length b ≡ 16320 → ((i : ℕ) → Fits w8 (getD b i 0)) → isBlock b ≡ true
+pub is-block : (b : List ℕ) → length b ≡ 16320 → ((i : ℕ) → Fits w8 (getD b i 0)) → isBlock b ≡ true
 unfolding isBlock
 is-block b e bytes = rw (eq-eqb (length b) 16320 e, below-all 256 b (λ i l. omega (arith, bytes i)))
 

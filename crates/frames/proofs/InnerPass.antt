@@ -25,15 +25,17 @@ use Rattle.words.specs.Answers.{refusal, found, corrected, innerCorrected}
 use Rattle.words.proofs.Places.Bytes.{bitAt-lt, bits-at, bits-length}
 use Rattle.words.proofs.Places.Filling.{Filled, filled-end}
 use Rattle.words.proofs.Places.Numbers.{bitOf-lt, numberOf-lt}
+use Rattle.words.proofs.Places.Tests.{every-at}
 use Rattle.words.proofs.Codes.InnerWords.{inner-is}
 use Rattle.words.proofs.Codes.Proved.{codes}
 use Rattle.frames.specs.Frames.{innerWord}
 use Rattle.frames.specs.Correction.{innerRestored, innerPass}
+use Rattle.frames.specs.Received.{innerCodes}
 use Rattle.frames.specs.Passes.{wrongWords, wordByte, wordBytes, WordPut, InnerPassed}
 use Rattle.frames.proofs.Windows.{masked-bit}
 use Rattle.frames.proofs.Differences.{apart-self}
-use Rattle.frames.proofs.FrameBits.{bytes-bit, inner-word-length, place-to-bit}
-use Rattle.frames.proofs.InnerSteps.{wrong-not, wrong-bit}
+use Rattle.frames.proofs.FrameBits.{bytes-bit, inner-word-length, place-to-bit, bit-to-place}
+use Rattle.frames.proofs.InnerSteps.{wrong-not, wrong-bit, none-wrong}
 
 -- ---- a byte of an inner word
 
@@ -234,3 +236,18 @@ module _ {before after : List ℕ} {k : ℕ} (s : Passing before k after) where
 
   pub passing-end : 64 ≤ k → InnerPassed before after
   passing-end h = record { long = s .long; bits = λ i b. s .done i b (omega arith) }
+
+-- a block whose inner words are all code words is what the pass makes of it
+module _ (block : List ℕ) (x : ℕ) (told : x ≡ wrongWords (bitAt block)) (none : x ≡ 0) where
+  pub none-codes : innerCodes (bitAt block) ≡ true
+  none-codes = sym (none-wrong (bitAt block) x told) ∙ eq-eqb x 0 none
+
+  pub none-passed : InnerPassed block block
+  unfolding innerPass innerCodes
+  none-passed =
+      record {
+        long = refl;
+        bits = λ i b.
+            let w = innerWord (bitAt block) (i % 64) in
+            bit-to-place (bitAt block) i b ∙ ap (λ (c : List ℕ). at c (i / 64)) (sym (restored-code w (every-at 64 _ none-codes (i % 64) (omega arith))));
+      }

@@ -14,9 +14,9 @@ pub mod RowSteps
 pub mod RowWords
 pub mod OuterPass
 pub mod FrameAnswers
+pub mod RestoredWords
 pub mod CorrectionAnswers
 pub mod FarApart
-pub mod RestoredWords
 pub mod DemandThree
 pub mod ZeroFrame
 pub mod Bench

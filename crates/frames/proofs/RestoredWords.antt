@@ -10,24 +10,27 @@ use native.Mathlib.Omega.{arith}
 use borrow.Author.Tests.{eq-eqb}
 use lib.Dec.{eqb}
 use lib.ListN.{length, getD}
-use Rattle.fields.proofs.Lists.{tabulate-is}
+use Rattle.fields.proofs.Lists.{tabulate-at, tabulate-is, tabulate-length}
 use Rattle.words.specs.Places.{bitAt, apart}
 use Rattle.words.specs.OuterCode.{isOuter}
 use Rattle.words.specs.InnerCode.{isInner}
 use Rattle.words.specs.Nearest.{nearest, Decodes}
+use Rattle.words.proofs.Places.Tests.{every-at}
 use Rattle.words.proofs.Codes.OuterWords.{outer-is}
 use Rattle.words.proofs.Codes.InnerWords.{inner-is}
 use Rattle.words.proofs.Codes.Nearest.{nearest-lost}
 use Rattle.words.proofs.Codes.Proved.{codes}
-use Rattle.frames.specs.Frames.{isBlock, dataIn, innerWord, frameOfWords}
+use Rattle.frames.specs.Frames.{isBlock, dataIn, outerWord, outerWords, innerWord, frameOfWords, frameOf, payloadOf}
 use Rattle.frames.specs.Correction.{innerRestored, innerPass, receivedWord, isPermitted, outerRestored, outerPass, restoredFrame, reportOf, total}
 use Rattle.frames.specs.Answers.{isFrame, Corrected, refused, reported, frameCorrected}
+use Rattle.frames.specs.Received.{outerCodes, innerCodes}
 use Rattle.frames.specs.Demands.{Uncorrectable, Restored}
-use Rattle.frames.proofs.FrameBits.{inner-word-length, frame-block, frame-inner, dataIn-le}
+use Rattle.frames.proofs.Differences.{apart-self}
+use Rattle.frames.proofs.FrameBits.{inner-word-length, frame-block, frame-inner, dataIn-le, outer-word-length, payloadOf-length}
 use Rattle.frames.proofs.InnerPass.{restored-none, restored-some}
-use Rattle.frames.proofs.ReceivedWords.{received-length, received-words, code-words-frame, same-frame}
+use Rattle.frames.proofs.ReceivedWords.{received-length, received-words, received-own, code-words-frame, same-frame}
 use Rattle.frames.proofs.Options.{every-some, every-missing, every-none, every-all}
-use Rattle.frames.proofs.Permitted.{permitted-is, permitted-nearest, padded-row}
+use Rattle.frames.proofs.Permitted.{permitted-is, permitted-nearest, padded-row, payload-permitted}
 
 -- ---- the inner pass
 
@@ -116,6 +119,33 @@ module _ (b : ℕ → ℕ) where
       (λ w k.
       let code = permitted-is w (getD ws w []) (r .permitted w k) .0 in
       ap isOuter (received-words ws padding w k (r .long w k) (outer-is (getD ws w []) code .symbols)) ∙ code) (frame-inner ws))
+
+-- a block whose outer and inner words are all code words is the frame that the outer pass gives
+pub frame-kept : (b : List ℕ) → isBlock b ≡ true → outerCodes (bitAt b) ≡ true → innerCodes (bitAt b) ≡ true →
+    Option·map frameOfWords (outerPass (bitAt b)) ≡ some b
+unfolding outerCodes innerCodes frameOf outerWords
+frame-kept b h outer inner = ap (Option·map frameOfWords) (restored-pass (bitAt b) (outerWords p) words) ∙ ap some same
+  where
+    p : List ℕ
+    p = payloadOf b
+
+    same : frameOf p ≡ b
+    same = code-words-frame b h (every-at 16 _ outer) (every-at 64 _ inner)
+
+    own : (w : ℕ) → w < 16 → receivedWord (bitAt b) w ≡ outerWord p w
+    own w k = subst (λ (f : List ℕ). receivedWord (bitAt f) w ≡ outerWord p w) same (received-own p (payloadOf-length b) w k)
+
+    word : (w : ℕ) → w < 16 → getD (outerWords p) w [] ≡ outerWord p w
+    word w k = tabulate-at 16 (outerWord p) w [] k
+
+    words : Restored (bitAt b) (outerWords p)
+    words =
+        record {
+          sixteen = tabulate-length 16 (outerWord p);
+          long = λ w k. ap length (word w k) ∙ outer-word-length p w;
+          permitted = λ w k. rw (word w k) (payload-permitted p (payloadOf-length b) w k);
+          near = λ w k. rw (word w k, own w k) (omega (arith, apart-self (outerWord p w)));
+        }
 
 -- ---- the corrector's answer
 

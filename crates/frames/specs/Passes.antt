@@ -1,6 +1,6 @@
 -- What the functions give that correct a block: its inner words one by one, the outer words of its row, and the report.
 use mathlib.Core.Path.{_≡_}
-use mathlib.Core.Bool.{Bool, cond}
+use mathlib.Core.Bool.{Bool, true, false, cond}
 use mathlib.Core.List.{List}
 use mathlib.Core.Option.{Option, none, some}
 use Prim.Native.Nat.{ℕ, _+_, _*_, _%_, _<_}
@@ -42,6 +42,11 @@ pub record InnerPassed (before after : List ℕ) : Type 0 where
 -- the answer x, if the test holds
 unfoldable pub provided : {A : Type 0} → Bool → A → Option A
 provided test x = cond test (some x) none
+
+-- whether there is an answer, and a buffer with it; the buffer stays as it was where there is none
+unfoldable pub written : List ℕ → Option (List ℕ) → Bool × List ℕ
+written buffer none = (false, buffer)
+written buffer (some answer) = (true, answer)
 
 -- outer word w of a row becomes the permitted code word within eight symbols, if there is one, and the other words are as they were
 pub record WordRestored (w : ℕ) (before after : List ℕ) (r : Bool) : Type 0 where

@@ -4,7 +4,7 @@ use crate::Frame;
 use crate::bits;
 use words::bch;
 ghost use mathlib.Core.Path.{_≡_};
-ghost use mathlib.Core.Bool.{cond};
+ghost use mathlib.Core.Bool.{true, cond};
 ghost use Prim.Native.Nat.{_+_, _*_, _≤_, _<_};
 ghost use lib.ListN.{length};
 ghost use Rattle.words.specs.Places.{at, bitOf, bitAt, bytesOf};
@@ -215,15 +215,29 @@ fn correct_wrong(wrong: u64, k: usize, block: &mut [u8])
     }
 }
 
-// The inner pass: each inner word of the block becomes the code word within eight places; where there is none it is left as received.
-pub fn correct(block: &mut [u8])
-    requires { ⌜ length (now block) ≡ 16320 ⌝ }
+// The inner words of the block that are no code words, one after the other.
+fn correct_each(wrong: u64, block: &mut [u8])
+    requires { ⌜ (length (now block) ≡ 16320) × (wrong ≡ wrongWords (bitAt (now block))) ⌝ }
     ensures { λ _. ⌜ InnerPassed (now (block .entry)) (now (block .exit)) ⌝ }
 {
-    let wrong = wrong_words(block);
     let mut k: usize = 0;
     while k < Frame::INNER_WORDS {
         correct_wrong(wrong, k, block);
         k += 1;
     }
+}
+
+// The inner pass: each inner word of the block becomes the code word within eight places; where there is none it is left as received. True only if all
+// inner words are code words then.
+pub fn correct(block: &mut [u8]) -> bool
+    requires { ⌜ length (now block) ≡ 16320 ⌝ }
+    ensures passed { λ _. ⌜ InnerPassed (now (block .entry)) (now (block .exit)) ⌝ }
+    ensures codes { λ r. ⌜ (r ≡ true → innerCodes (bitAt (now (block .exit))) ≡ true) ⌝ }
+{
+    let wrong = wrong_words(block);
+    if wrong == 0 {
+        return true;
+    }
+    correct_each(wrong, block);
+    false
 }

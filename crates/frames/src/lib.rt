@@ -6,19 +6,22 @@
 //     extract  after the same test, the data symbols of the row are the payload
 //     correct  inner pass: the inner words of a copy of the block that are no code words become the code words within eight places, those that have none
 //              stay; outer pass: the copy's bytes make the row, and its outer words become the code words within eight symbols; if each has one, the row
-//              is sent and parity bits are made as in encoding, and the report compares block and frame (module comparison)
+//              is sent and parity bits are made as in encoding, and the report compares block and frame (module comparison); a copy that is a frame after
+//              the inner pass is the answer as it stands
 //
 // Every input is answered: an entry returns 0, or the number of the refusal; a refusal leaves the output buffer as it was. Where there is more than one
 // fault, the order is 1 (length of the payload) or 2 (length of the block), 3 (size of the output buffer), then 4 (no frame) or 5
 // (uncorrectable).
 use words::bch;
 ghost use mathlib.Core.Path.{_≡_};
-ghost use mathlib.Core.Bool.{_&&_};
+ghost use mathlib.Core.Bool.{true, _&&_};
+ghost use mathlib.Core.Option.{Option·map};
 ghost use lib.ListN.{length};
 ghost use Rattle.words.specs.Places.{bitAt};
-ghost use Rattle.frames.specs.Correction.{innerPass, outerPass};
+ghost use Rattle.frames.specs.Frames.{frameOfWords};
+ghost use Rattle.frames.specs.Correction.{outerPass};
 ghost use Rattle.frames.specs.Received.{receivedRow, outerCodes, innerCodes};
-ghost use Rattle.frames.specs.Passes.{provided, rowWords};
+ghost use Rattle.frames.specs.Passes.{written};
 ghost use Rattle.frames.specs.Answers.{frameEncoded, frameChecked, payloadExtracted, noCounts, frameCorrected};
 
 mod bits;
@@ -142,16 +145,27 @@ fn refused(number: u8) -> Report
     }
 }
 
-// The two passes: writes the row of restored outer words; false, if some outer word has none.
-fn restore(block: &[u8], row: &mut [u16]) -> bool
-    requires { ⌜ (length (now block) ≡ 16320) × (length (now row) ≡ 12496) ⌝ }
-    ensures { λ r. ⌜ (length (now (row .exit)) ≡ 12496) × (provided r (rowWords (now (row .exit))) ≡ outerPass (innerPass (bitAt (now (block .entry))))) ⌝ }
+// The outer pass over a block after the inner pass: writes the frame of the restored outer words, and the answer is true; false, if some outer word has none.
+// A block that is a frame already is that frame; `inner` is true only if its inner words are code words.
+fn outer_pass(passed: &[u8], inner: bool, out: &mut [u8]) -> bool
+    requires { ⌜ (length (now passed) ≡ 16320) × (length (now out) ≡ 16320) ⌝ }
+    requires { ⌜ (inner ≡ true → innerCodes (bitAt (now passed)) ≡ true) ⌝ }
+    ensures { λ r. ⌜ (r, now (out .exit)) ≡ written (now (out .entry)) (Option·map frameOfWords (outerPass (bitAt (now (passed .entry))))) ⌝ }
 {
-    let mut passed = inner_words::blank();
-    bch::copy(block, &mut passed);
-    inner_words::correct(&mut passed);
-    outer_words::receive(&passed, row);
-    outer_words::correct(row)
+    let mut row = outer_words::blank();
+    outer_words::receive(passed, &mut row);
+    if inner {
+        if outer_words::are_code_words(&row) {
+            bch::copy(passed, out);
+            return true;
+        }
+    }
+    if !outer_words::correct(&mut row) {
+        return false;
+    }
+    outer_words::send(&row, out);
+    inner_words::encode(out);
+    true
 }
 
 // Writes the restored frame and gives the report; 2, 3 or 5.
@@ -164,12 +178,12 @@ pub fn correct_frame(block: &[u8], out: &mut [u8]) -> Report
     if out.len() != Frame::BYTES {
         return refused(3);
     }
-    let mut row = outer_words::blank();
-    if !restore(block, &mut row) {
+    let mut passed = inner_words::blank();
+    bch::copy(block, &mut passed);
+    let inner = inner_words::correct(&mut passed);
+    if !outer_pass(&passed, inner, out) {
         return refused(5);
     }
-    outer_words::send(&row, out);
-    inner_words::encode(out);
     let counts = comparison::counts(block, out);
     let sum = comparison::sum(&counts);
     Report {

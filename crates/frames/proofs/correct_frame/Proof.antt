@@ -19,26 +19,32 @@ returns-2 c = search (needs, correct-space)
 blank-requires : tie.Need-blank-requires
 blank-requires c κs = search needs
 
-slice-aggregate-restore : tie.Need-slice-aggregate-restore
-slice-aggregate-restore c = search needs
+slice-aggregate-copy : tie.Need-slice-aggregate-copy
+slice-aggregate-copy c = search needs
 
-restore-requires : tie.Need-restore-requires
-restore-requires c κs = search needs
+copy-requires : tie.Need-copy-requires
+copy-requires c κs = search needs
+
+slice-aggregate-correct : tie.Need-slice-aggregate-correct
+slice-aggregate-correct c = search needs
+
+correct-requires : tie.Need-correct-requires
+correct-requires c κs = search needs
+
+slice-aggregate-outer-pass : tie.Need-slice-aggregate-outer-pass
+slice-aggregate-outer-pass c = search needs
+
+outer-pass-requires : tie.Need-outer-pass-requires
+outer-pass-requires c κs = search needs
 
 refused-requires-3 : tie.Need-refused-requires-3
 refused-requires-3 c κs = search needs
 
+same-length : tie.Need-same-length
+same-length c = search needs
+
 returns-3 : tie.Need-returns-3
 returns-3 c = search (needs, correct-none)
-
-slice-aggregate-send : tie.Need-slice-aggregate-send
-slice-aggregate-send c = search needs
-
-send-requires : tie.Need-send-requires
-send-requires c κs = search needs
-
-encode-requires : tie.Need-encode-requires
-encode-requires c κs = search needs
 
 counts-requires : tie.Need-counts-requires
 counts-requires c κs = search needs
@@ -49,8 +55,8 @@ slice-aggregate-sum c = search needs
 sum-requires : tie.Need-sum-requires
 sum-requires c κs = search needs
 
-same-length : tie.Need-same-length
-same-length c = search needs
+same-length-2 : tie.Need-same-length-2
+same-length-2 c = search needs
 
 returns-4 : tie.Need-returns-4
 returns-4 c = search (needs, correct-written)
@@ -64,15 +70,17 @@ correct-frame-spec =
     refused-requires-2
     returns-2
     blank-requires
-    slice-aggregate-restore
-    restore-requires
+    slice-aggregate-copy
+    copy-requires
+    slice-aggregate-correct
+    correct-requires
+    slice-aggregate-outer-pass
+    outer-pass-requires
     refused-requires-3
+    same-length
     returns-3
-    slice-aggregate-send
-    send-requires
-    encode-requires
     counts-requires
     slice-aggregate-sum
     sum-requires
-    same-length
+    same-length-2
     returns-4)

@@ -1,51 +1,38 @@
 -- `frames::inner_words::correct` meets its contract. Assumes nothing.
-use Prim.Native.Nat.{_-_}
+use mathlib.Core.Path.{ap}
+use mathlib.Core.Bool.{Bool, cond}
+use Prim.Native.Nat.{ℕ}
+use native.Mathlib.Omega.{arith}
 use borrow.Author.Needs.{needs}
-use Rattle.frames.proofs.InnerPass.{Passing, passing-start, passing-wrong, passing-next, passing-end}
+use Rattle.frames.proofs.InnerPass.{none-codes, none-passed}
 use Rattle.frames.proofs.inner_words.correct.Statement.{statement}
 use Rattle.frames.proofs.inner_words.correct.Tie as tie
 
-abbrev Inv-loop : tie.InvT-loop
-Inv-loop block₀ wrong k₀ block k = Passing block₀ k block
-
-abbrev μ-loop : tie.MeasureT-loop
-μ-loop block₀ wrong k₀ block k = 64 - k
-
-wrong-words-requires : tie.Need-wrong-words-requires Inv-loop μ-loop
+wrong-words-requires : tie.Need-wrong-words-requires
 wrong-words-requires c κs = search needs
 
-loop-holds : tie.Need-loop-holds Inv-loop μ-loop
-loop-holds c = search (needs, passing-start)
-
-correct-wrong-requires : tie.Need-correct-wrong-requires Inv-loop μ-loop
-correct-wrong-requires c κs = search (needs, passing-wrong)
-
-add-k : tie.Need-add-k Inv-loop μ-loop
-add-k c = search needs
-
-loop-less : tie.Need-loop-less Inv-loop μ-loop
-loop-less c = search needs
-
-loop-again : tie.Need-loop-again Inv-loop μ-loop
-loop-again c = search (needs, passing-next)
-
-same-length : tie.Need-same-length Inv-loop μ-loop
+same-length : tie.Need-same-length
 same-length c = search needs
 
-returns : tie.Need-returns Inv-loop μ-loop
-returns c = search (needs, passing-end)
+returns : tie.Need-returns
+returns c = (search (needs, none-passed), λ t. search (needs, none-codes))
+
+correct-each-requires : tie.Need-correct-each-requires
+correct-each-requires c κs = search needs
+
+same-length-2 : tie.Need-same-length-2
+same-length-2 c = search needs
+
+returns-2 : tie.Need-returns-2
+returns-2 c = (search needs, λ t. absurd (omega (arith, ap {B = ℕ} (λ (x : Bool). cond x 1 0) t)))
 
 pub correct-spec : {M : Type 1} → statement M
 correct-spec =
     tie.close
     (tie.spec
-    Inv-loop
-    μ-loop
     wrong-words-requires
-    loop-holds
-    correct-wrong-requires
-    add-k
-    loop-less
-    loop-again
     same-length
-    returns)
+    returns
+    correct-each-requires
+    same-length-2
+    returns-2)

@@ -1,0 +1,75 @@
+-- `frames::outer_pass` meets its contract. Assumes nothing.
+use borrow.Author.Needs.{needs}
+use Rattle.frames.proofs.CorrectionAnswers.{pass-kept, pass-none, pass-written}
+use Rattle.frames.proofs.FrameAnswers.{row-below}
+use Rattle.frames.proofs.outer_pass.Statement.{statement}
+use Rattle.frames.proofs.outer_pass.Tie as tie
+
+blank-requires : tie.Need-blank-requires
+blank-requires c κs = search needs
+
+slice-aggregate-receive : tie.Need-slice-aggregate-receive
+slice-aggregate-receive c = search needs
+
+receive-requires : tie.Need-receive-requires
+receive-requires c κs = search needs
+
+slice-aggregate-are-code-words : tie.Need-slice-aggregate-are-code-words
+slice-aggregate-are-code-words c = search needs
+
+are-code-words-requires : tie.Need-are-code-words-requires
+are-code-words-requires c κs = search (needs, row-below)
+
+copy-requires : tie.Need-copy-requires
+copy-requires c κs = search needs
+
+same-length : tie.Need-same-length
+same-length c = search needs
+
+returns : tie.Need-returns
+returns c = search (needs, pass-kept, c .before .before .before .before .before .before .before .before .before .before .before .before .before .shared-slice-known .given)
+
+slice-aggregate-correct : tie.Need-slice-aggregate-correct
+slice-aggregate-correct c = search needs
+
+correct-requires : tie.Need-correct-requires
+correct-requires c κs = search (needs, row-below)
+
+returns-2 : tie.Need-returns-2
+returns-2 c = search (needs, pass-none)
+
+slice-aggregate-send : tie.Need-slice-aggregate-send
+slice-aggregate-send c = search needs
+
+send-requires : tie.Need-send-requires
+send-requires c κs = search needs
+
+encode-requires : tie.Need-encode-requires
+encode-requires c κs = search needs
+
+same-length-2 : tie.Need-same-length-2
+same-length-2 c = search needs
+
+returns-3 : tie.Need-returns-3
+returns-3 c = search (needs, pass-written)
+
+pub outer-pass-spec : {M : Type 1} → statement M
+outer-pass-spec =
+    tie.close
+    (tie.spec
+    blank-requires
+    slice-aggregate-receive
+    receive-requires
+    slice-aggregate-are-code-words
+    are-code-words-requires
+    copy-requires
+    same-length
+    returns
+    slice-aggregate-correct
+    correct-requires
+    returns-2
+    slice-aggregate-send
+    send-requires
+    encode-requires
+    same-length-2
+    returns-3)

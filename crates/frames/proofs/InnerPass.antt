@@ -150,7 +150,7 @@ module _ (w : List ℕ) where
   restored-some c e = rw e
 
   -- a code word stays as it is
-  restored-code : isInner w ≡ true → innerRestored w ≡ w
+  pub restored-code : isInner w ≡ true → innerRestored w ≡ w
   restored-code h = let l = inner-is w h .long in restored-some w (codes .inner-nearest .complete w w l l h (omega (arith, apart-self w)))
 
 -- what `correct_inner` answers for 255 bytes, where the buffer holds the same

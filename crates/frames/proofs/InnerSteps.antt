@@ -268,7 +268,7 @@ module _ (block : List ℕ) where
   words-wrong cells x e h = h ∙ ap (λ (c : List ℕ). differing c block) e ∙ differing-wrong
 
 -- 0 where a test holds, else 1
-wrong-lt : (t : Bool) → cond t 0 1 < 2
+pub wrong-lt : (t : Bool) → cond t 0 1 < 2
 wrong-lt true = lit< tt
 wrong-lt false = lit< tt
 

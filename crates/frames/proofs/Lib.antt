@@ -7,6 +7,7 @@ pub mod SideBySide
 pub mod InnerSteps
 pub mod InnerPass
 pub mod ReportCounts
+pub mod TakenProposals
 pub mod ReceivedWords
 pub mod Options
 pub mod Permitted

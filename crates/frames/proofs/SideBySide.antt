@@ -35,7 +35,7 @@ bits-product (suc zero) (suc zero) hx hy = refl
 bits-product (suc zero) (suc (suc y)) hx hy = absurd (omega arith)
 bits-product (suc (suc x)) y hx hy = absurd (omega arith)
 
-bit-product : (n k x y : ℕ) → bitOf n (bitAnd x y) k ≡ scale (bitOf n x k) (bitOf n y k)
+pub bit-product : (n k x y : ℕ) → bitOf n (bitAnd x y) k ≡ scale (bitOf n x k) (bitOf n y k)
 unfolding bitOf
 bit-product n k x y =
     let e = n - suc k in
@@ -49,7 +49,7 @@ bits-or false zero h = refl
 bits-or false (suc zero) h = refl
 bits-or t (suc (suc y)) h = absurd (omega arith)
 
-bit-or : (n k x y : ℕ) → bitOf n (bitOr x y) k ≡ bitOr (bitOf n x k) (bitOf n y k)
+pub bit-or : (n k x y : ℕ) → bitOf n (bitOr x y) k ≡ bitOr (bitOf n x k) (bitOf n y k)
 unfolding bitOf
 bit-or n k x y = let e = n - suc k in ap (λ (z : ℕ). z % 2) (or-shr x y e) ∙ or-mod (x / 2 ^ e) (y / 2 ^ e) 1
 
@@ -66,7 +66,7 @@ orTo-lt n zero f h = pow-pos n
 orTo-lt n (suc m) f h = or-lt n (orTo m f) (f m) (orTo-lt n m f (λ i l. h i (omega arith))) (h m (le-refl (suc m)))
 
 -- all ones: what a bit is in one place it is in each
-all-ones : 2 ^ 64 - 1 ≡ numberOf 64 (λ i. 1)
+pub all-ones : 2 ^ 64 - 1 ≡ numberOf 64 (λ i. 1)
 unfolding numberOf
 all-ones = refl
 

@@ -10,3 +10,4 @@ pub mod Received
 pub mod Symbols
 pub mod SideBySide
 pub mod Passes
+pub mod Proposals

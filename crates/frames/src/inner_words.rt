@@ -85,7 +85,7 @@ fn parities(bytes: &[u8]) -> [u64; words::Inner::PARITY]
 }
 
 // Byte j of a number, the highest first.
-fn byte(x: u64, j: usize) -> u8
+pub fn byte(x: u64, j: usize) -> u8
     requires { ⌜ j < 8 ⌝ }
     ensures { λ r. ⌜ r ≡ byteOf64 x j ⌝ }
 {
@@ -128,7 +128,7 @@ fn differing(cells: &[u64], block: &[u8]) -> u64
 }
 
 // The inner words of the block that are no code words: bit k, the highest first, is 1 for word k.
-fn wrong_words(block: &[u8]) -> u64
+pub fn wrong_words(block: &[u8]) -> u64
     requires { ⌜ length (now block) ≡ 16320 ⌝ }
     ensures { λ r. ⌜ r ≡ wrongWords (bitAt (now (block .entry))) ⌝ }
 {

@@ -29,6 +29,7 @@ pub mod c_entries;
 mod comparison;
 mod inner_words;
 mod outer_words;
+mod proposals;
 
 // The frame and its parts.
 pub struct Frame;

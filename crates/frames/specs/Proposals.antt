@@ -1,0 +1,29 @@
+-- A proposal for all inner words at once: 2,040 numbers, one for each place, whose bit k, the highest of 64 first, is 1 where inner word k is to be inverted.
+use mathlib.Core.Path.{_≡_}
+use mathlib.Core.Bool.{cond}
+use mathlib.Core.List.{List}
+use Prim.Native.Nat.{ℕ, _/_, _%_, _<_}
+use lib.Bits.{bitAnd}
+use lib.Dec.{ltb}
+use lib.ListN.{length}
+use Rattle.fields.specs.Elements.{xor}
+use Rattle.words.specs.Places.{at, bitOf, numberOf, bitAt}
+use Rattle.frames.specs.Frames.{innerWord}
+use Rattle.frames.specs.Correction.{innerRestored}
+
+-- the places of the proposal are inverted in the inner words that the mask has a 1 for
+pub record Flipped (flips : List ℕ) (mask : ℕ) (before after : List ℕ) : Type 0 where
+  pub long : length after ≡ length before
+  pub bits : (i : ℕ) → i < 130560 → bitAt after i ≡ xor (bitAt before i) (bitOf 64 (bitAnd (at flips (i / 64)) mask) (i % 64))
+
+-- 1 for a count beyond the radius; and for each inner word
+unfoldable pub overRadius : ℕ → ℕ
+overRadius count = cond (ltb 8 count) 1 0
+
+unfoldable pub beyondRadius : List ℕ → ℕ
+beyondRadius counts = numberOf 64 (λ k. overRadius (at counts k))
+
+-- inner words may have become code words within eight places: what they are restored to is the same
+pub record Nearer (before after : List ℕ) : Type 0 where
+  pub long : length after ≡ length before
+  pub word : (k : ℕ) → k < 64 → innerRestored (innerWord (bitAt after) k) ≡ innerRestored (innerWord (bitAt before) k)

@@ -1,0 +1,83 @@
+// What the decoder of all inner words at once proposes (module side_by_side) is taken after a test: an inner word with the proposed places inverted is taken
+// only if it is a code word then, and at most eight places were inverted. So nothing is asked of the proposal itself.
+use crate::Frame;
+use crate::comparison;
+use crate::inner_words;
+ghost use mathlib.Core.Path.{_≡_};
+ghost use Prim.Native.Nat.{_+_, _*_, _≤_, _<_};
+ghost use lib.ListN.{length};
+ghost use Rattle.fields.specs.Lists.{tabulate};
+ghost use Rattle.words.specs.Places.{bitAt};
+ghost use Rattle.frames.specs.SideBySide.{byteOf64};
+ghost use Rattle.frames.specs.Symbols.{Placed};
+ghost use Rattle.frames.specs.Passes.{wrongWords};
+ghost use Rattle.frames.specs.Proposals.{Flipped, overRadius, beyondRadius, Nearer};
+
+// Every inner word.
+const ALL: u64 = 0xffff_ffff_ffff_ffff;
+
+// Writes place p of every inner word.
+fn put_place(block: &mut [u8], p: usize, x: u64)
+    requires { ⌜ (length (now block) ≡ 16320) × (p < 2040) ⌝ }
+    ensures { λ _. ⌜ Placed (8 * p) (tabulate 8 (byteOf64 x)) (now (block .entry)) (now (block .exit)) ⌝ }
+{
+    let mut j: usize = 0;
+    while j < Frame::PLACE_BYTES {
+        block[Frame::PLACE_BYTES * p + j] = inner_words::byte(x, j);
+        j += 1;
+    }
+}
+
+// Inverts the places that `flips` has a 1 for, in the inner words that the mask has a 1 for.
+fn flip_places(flips: &[u64], mask: u64, block: &mut [u8])
+    requires { ⌜ (length (now flips) ≡ 2040) × (length (now block) ≡ 16320) ⌝ }
+    ensures { λ _. ⌜ Flipped (now (flips .entry)) mask (now (block .entry)) (now (block .exit)) ⌝ }
+{
+    let mut p: usize = 0;
+    while p < words::Inner::PLACES {
+        let x = inner_words::place(block, p) ^ (flips[p] & mask);
+        put_place(block, p, x);
+        p += 1;
+    }
+}
+
+// 1 for a count beyond the radius.
+fn over_radius(count: u16) -> u64
+    ensures { λ r. ⌜ (r ≡ overRadius count) × (r < 2) ⌝ }
+{
+    if words::Inner::RADIUS < count as usize {
+        1
+    } else {
+        0
+    }
+}
+
+// The inner words with a count beyond the radius.
+fn beyond_radius(counts: &[u16]) -> u64
+    requires { ⌜ length (now counts) ≡ 64 ⌝ }
+    ensures { λ r. ⌜ r ≡ beyondRadius (now (counts .entry)) ⌝ }
+{
+    let mut m: u64 = 0;
+    let mut k: usize = 0;
+    while k < Frame::INNER_WORDS {
+        m = 2 * m + over_radius(counts[k]);
+        k += 1;
+    }
+    m
+}
+
+// Takes the proposal in a copy of the received block, where it holds; what is left as received and is no code word is the answer, bit k, the highest first,
+// for word k.
+pub fn take(received: &[u8], wrong: u64, flips: &[u64], block: &mut [u8]) -> u64
+    requires { ⌜ (length (now received) ≡ 16320) × (length (now block) ≡ 16320) × (length (now flips) ≡ 2040) ⌝ }
+    requires { ⌜ now block ≡ now received ⌝ }
+    requires { ⌜ wrong ≡ wrongWords (bitAt (now block)) ⌝ }
+    ensures { λ r. ⌜ (r ≡ wrongWords (bitAt (now (block .exit)))) × Nearer (now (block .entry)) (now (block .exit)) ⌝ }
+{
+    flip_places(flips, ALL, block);
+    let wrong_now = inner_words::wrong_words(block);
+    let counts = comparison::counts(received, block);
+    let back = wrong_now | beyond_radius(&counts);
+    flip_places(flips, back, block);
+    wrong & back
+}

@@ -4,6 +4,8 @@ pub mod Windows
 pub mod Differences
 pub mod FrameBits
 pub mod SideBySide
+pub mod InnerResidues
+pub mod ResidueSteps
 pub mod InnerSteps
 pub mod InnerPass
 pub mod ReportCounts

@@ -9,5 +9,6 @@ pub mod Demands
 pub mod Received
 pub mod Symbols
 pub mod SideBySide
+pub mod InnerResidues
 pub mod Passes
 pub mod Proposals

@@ -30,6 +30,7 @@ mod comparison;
 mod inner_words;
 mod outer_words;
 mod proposals;
+mod residues;
 
 // The frame and its parts.
 pub struct Frame;

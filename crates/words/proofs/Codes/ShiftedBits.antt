@@ -20,7 +20,7 @@ unfolding scale
 bitOf-scale n i zero x = bitOf-zero n i
 bitOf-scale n i (suc t) x = refl
 
-twice-high : (x k : ℕ) → 2 * x / 2 ^ suc k ≡ x / 2 ^ k
+pub twice-high : (x k : ℕ) → 2 * x / 2 ^ suc k ≡ x / 2 ^ k
 twice-high x k =
     let e : 2 * x / 2 ^ 1 ≡ x = omega arith in
     ap (λ (j : ℕ). 2 * x / 2 ^ j) (sym (one-add k)) ∙ sym (shr-shr (2 * x) 1 k) ∙ ap (λ (y : ℕ). y / 2 ^ k) e

@@ -1,0 +1,58 @@
+-- What the functions on residues compute. Assumes nothing.
+use mathlib.Core.Path.{_≡_, refl, sym, ap, ap₂, _∙_}
+use mathlib.Core.List.{List, [], _∷_}
+use Prim.Native.Nat.{ℕ, _+_, _*_, _≤_, _<_}
+use native.Mathlib.Nat.{add-zero}
+use native.Mathlib.Omega.{arith}
+use Rattle.fields.specs.Lists.{tabulate}
+use Rattle.words.specs.Places.{at}
+use Rattle.words.specs.InnerCode.{factors}
+use Rattle.frames.specs.SideBySide.{placeAt}
+use Rattle.frames.specs.InnerResidues.{residueOf, advanced, advancedBy, begun}
+use Rattle.frames.proofs.InnerResidues.{residue-more, begun-residue}
+
+-- ---- places
+
+pub five-places : (b : List ℕ) {x0 x1 x2 x3 x4 : ℕ} → x4 ≡ placeAt b 4 → x3 ≡ placeAt b 3 → x2 ≡ placeAt b 2 → x1 ≡ placeAt b 1 → x0 ≡ placeAt b 0 →
+    x4 ∷ x3 ∷ x2 ∷ x1 ∷ x0 ∷ 0 ∷ 0 ∷ 0 ∷ 0 ∷ 0 ∷ 0 ∷ [] ≡ begun b
+unfolding begun tabulate
+five-places b e4 e3 e2 e1 e0 = rw (e4, e3, e2, e1, e0)
+
+pub eleven-places : (p q : ℕ) (b s : List ℕ) {s1 s2 s3 s4 s5 s6 s7 s8 s9 s10 s11 : List ℕ} → s1 ≡ advanced p s (placeAt b q) → s2 ≡ advanced p s1 (placeAt b (q + 1)) →
+    s3 ≡ advanced p s2 (placeAt b (q + 2)) → s4 ≡ advanced p s3 (placeAt b (q + 3)) → s5 ≡ advanced p s4 (placeAt b (q + 4)) →
+    s6 ≡ advanced p s5 (placeAt b (q + 5)) → s7 ≡ advanced p s6 (placeAt b (q + 6)) → s8 ≡ advanced p s7 (placeAt b (q + 7)) →
+    s9 ≡ advanced p s8 (placeAt b (q + 8)) → s10 ≡ advanced p s9 (placeAt b (q + 9)) → s11 ≡ advanced p s10 (placeAt b (q + 10)) → s11 ≡ advancedBy p b q 11 s
+unfolding advancedBy
+eleven-places p q b s e1 e2 e3 e4 e5 e6 e7 e8 e9 e10 e11 =
+    let next : (s t : List ℕ) (i : ℕ) → s ≡ t → advanced p s (placeAt b i) ≡ advanced p t (placeAt b i) = λ s t i e. ap (λ (c : List ℕ). advanced p c (placeAt b i)) e in
+    let f1 = e1 ∙ ap (λ (i : ℕ). advanced p s (placeAt b i)) (sym (add-zero q)) in
+    let f4 = e4 ∙ next _ _ _ (e3 ∙ next _ _ _ (e2 ∙ next _ _ _ f1)) in
+    let f8 = e8 ∙ next _ _ _ (e7 ∙ next _ _ _ (e6 ∙ next _ _ _ (e5 ∙ next _ _ _ f4))) in
+    e11 ∙ next _ _ _ (e10 ∙ next _ _ _ (e9 ∙ next _ _ _ f8))
+
+pub by-factor : (i j q : ℕ) (b s : List ℕ) {t : List ℕ} → j ≡ i → t ≡ advancedBy (at factors i) b q 11 s → t ≡ advancedBy (at factors j) b q 11 s
+by-factor i j q b s e h = rw e h
+
+-- the last of the eight
+past-four : (j : ℕ) → (j ≡ 0 → ⊥) → (j ≡ 1 → ⊥) → (j ≡ 2 → ⊥) → (j ≡ 3 → ⊥) → 4 ≤ j
+past-four j n0 n1 n2 n3 = omega arith
+
+after-four : (j : ℕ) → 4 ≤ j → (j ≡ 4 → ⊥) → (j ≡ 5 → ⊥) → (j ≡ 6 → ⊥) → j < 8 → j ≡ 7
+after-four j h n4 n5 n6 l = omega arith
+
+pub last-factor : (j : ℕ) → (j ≡ 0 → ⊥) → (j ≡ 1 → ⊥) → (j ≡ 2 → ⊥) → (j ≡ 3 → ⊥) → (j ≡ 4 → ⊥) → (j ≡ 5 → ⊥) → (j ≡ 6 → ⊥) → j < 8 → j ≡ 7
+last-factor j n0 n1 n2 n3 n4 n5 n6 l = after-four j (past-four j n0 n1 n2 n3) n4 n5 n6 l
+
+-- ---- the loop
+
+pub residue-start : (j : ℕ) (b : List ℕ) {s : List ℕ} → s ≡ begun b → s ≡ residueOf j b (5 + 11 * 0)
+residue-start j b e = e ∙ begun-residue j b
+
+pub residue-turn : (j i : ℕ) (b : List ℕ) {s t : List ℕ} → s ≡ residueOf j b (5 + 11 * i) → t ≡ advancedBy (at factors j) b (5 + 11 * i) 11 s →
+    t ≡ residueOf j b (5 + 11 * (i + 1))
+residue-turn j i b es et =
+    let n : 5 + 11 * i + 11 ≡ 5 + 11 * (i + 1) = omega arith in
+    et ∙ ap (advancedBy (at factors j) b (5 + 11 * i) 11) es ∙ residue-more j b (5 + 11 * i) 11 ∙ ap (residueOf j b) n
+
+pub residue-end : (j i n : ℕ) (b : List ℕ) {s : List ℕ} → s ≡ residueOf j b (5 + 11 * i) → i ≤ n → n ≤ i → s ≡ residueOf j b (5 + 11 * n)
+residue-end j i n b e l h = let q : i ≡ n = omega arith in rw q at e

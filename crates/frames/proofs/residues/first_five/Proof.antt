@@ -1,0 +1,14 @@
+-- `frames::residues::first_five` meets its contract. Assumes nothing.
+use borrow.Author.Needs.{needs}
+use Rattle.frames.proofs.ResidueSteps.{five-places}
+use Rattle.frames.proofs.residues.first_five.Statement.{statement}
+use Rattle.frames.proofs.residues.first_five.Tie as tie
+
+returns : tie.Need-returns
+returns c =
+    five-places _ (c .before .before .before .before .place .ensures) (c .before .before .before .place2 .ensures) (c .before .before .place3 .ensures) (c .before .place4 .ensures) (c .place5 .ensures)
+
+pub first-five-spec : {M : Type 1} → statement M
+first-five-spec =
+    tie.close
+    (tie.spec (λ c κs. search needs) (λ c κs. search needs) (λ c κs. search needs) (λ c κs. search needs) (λ c κs. search needs) returns)

@@ -1,0 +1,49 @@
+-- The residues of the 64 inner words modulo the eight factors of the divisor, side by side: bit k of a number, the highest of 64 first, belongs to inner
+-- word k.
+use mathlib.Core.Bool.{cond}
+use mathlib.Core.List.{List, [], _∷_}
+use Prim.Native.Nat.{ℕ, zero, suc, _+_, _-_, _*_, _/_, _%_, _^_}
+use lib.Dec.{ltb}
+use Rattle.fields.specs.Lists.{tabulate}
+use Rattle.fields.specs.Elements.{xor, scale}
+use Rattle.words.specs.Places.{at, numberOf, bitAt}
+use Rattle.words.specs.InnerCode.{factors, remainder}
+use Rattle.frames.specs.SideBySide.{placeAt}
+use Rattle.frames.specs.declared.residues.Lanes.{Lanes}
+
+-- the coefficient of z^i in the polynomial r
+abbrev pub coefficient : ℕ → ℕ → ℕ
+coefficient i r = r / 2 ^ i % 2
+
+-- the polynomials r 0, .. r 63 of degree below m, side by side: their coefficients, the lowest power first
+unfoldable pub sideBySide : ℕ → (ℕ → ℕ) → List ℕ
+sideBySide m r = tabulate m (λ i. numberOf 64 (λ k. coefficient i (r k)))
+
+-- the residue of the first n places of inner word k modulo factor j; those of all inner words, eleven numbers; and these for all eight factors
+unfoldable pub wordResidue : ℕ → List ℕ → ℕ → ℕ → ℕ
+wordResidue j bytes n k = remainder 11 (at factors j) (λ p. bitAt bytes (64 * p + k)) n
+
+unfoldable pub residueOf : ℕ → List ℕ → ℕ → List ℕ
+residueOf j bytes n = sideBySide 11 (wordResidue j bytes n)
+
+unfoldable pub residuesOf : List ℕ → ℕ → List ℕ
+residuesOf bytes n = tabulate 88 (λ c. at (residueOf (c / 11) bytes n) (c % 11))
+
+-- ---- the steps
+
+-- the numbers of a `Lanes`
+abbrev pub cells : Lanes → List ℕ
+cells s = s .r0 ∷ s .r1 ∷ s .r2 ∷ s .r3 ∷ s .r4 ∷ s .r5 ∷ s .r6 ∷ s .r7 ∷ s .r8 ∷ s .r9 ∷ s .r10 ∷ []
+
+-- one place x more: the coefficients move up a power, x comes in below, and where z^11 comes up the polynomial p is taken away
+unfoldable pub advanced : ℕ → List ℕ → ℕ → List ℕ
+advanced p s x = tabulate 11 (λ i. xor (scale (coefficient i p) (at s 10)) (at (x ∷ s) i))
+
+-- n places more, from place q on
+unfoldable pub advancedBy : ℕ → List ℕ → ℕ → ℕ → List ℕ → List ℕ
+advancedBy p bytes q zero s = s
+advancedBy p bytes q (suc n) s = advanced p (advancedBy p bytes q n s) (placeAt bytes (q + n))
+
+-- the first five places
+unfoldable pub begun : List ℕ → List ℕ
+begun bytes = tabulate 11 (λ i. cond (ltb i 5) (placeAt bytes (4 - i)) 0)

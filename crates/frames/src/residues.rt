@@ -1,0 +1,382 @@
+// The residues of the 64 inner words of a frame modulo the eight factors of the divisor, side by side: a number holds one coefficient of 64 residues. An
+// inner word is a code word just where all eight of its residues are zero, and the residues give its parity bits.
+use crate::inner_words::place;
+ghost use mathlib.Core.Path.{_≡_};
+ghost use Prim.Native.Nat.{_+_, _*_, _≤_, _<_};
+ghost use lib.ListN.{length};
+ghost use Rattle.words.specs.Places.{at};
+ghost use Rattle.words.specs.InnerCode.{factors};
+ghost use Rattle.frames.specs.SideBySide.{placeAt};
+ghost use Rattle.frames.specs.InnerResidues.{cells, advanced, advancedBy, begun, residueOf};
+
+// The eleven coefficients of 64 residues, the lowest power first.
+pub struct Lanes {
+    pub r0: u64,
+    pub r1: u64,
+    pub r2: u64,
+    pub r3: u64,
+    pub r4: u64,
+    pub r5: u64,
+    pub r6: u64,
+    pub r7: u64,
+    pub r8: u64,
+    pub r9: u64,
+    pub r10: u64,
+}
+
+// The first five places of every inner word: no residue is reduced yet.
+fn first_five(bytes: &[u8]) -> Lanes
+    requires { ⌜ 40 ≤ length (now bytes) ⌝ }
+    ensures { λ r. ⌜ cells r ≡ begun (now (bytes .entry)) ⌝ }
+{
+    Lanes {
+        r0: place(bytes, 4),
+        r1: place(bytes, 3),
+        r2: place(bytes, 2),
+        r3: place(bytes, 1),
+        r4: place(bytes, 0),
+        r5: 0,
+        r6: 0,
+        r7: 0,
+        r8: 0,
+        r9: 0,
+        r10: 0,
+    }
+}
+
+// One place more, modulo each of the eight factors: z times the residue, plus the place.
+fn step_0(bytes: &[u8], p: usize, s: Lanes) -> Lanes
+    requires { ⌜ (p < 2040) × (8 * p + 8 ≤ length (now bytes)) ⌝ }
+    ensures { λ r. ⌜ cells r ≡ advanced 2053 (cells s) (placeAt (now (bytes .entry)) p) ⌝ }
+{
+    let x = place(bytes, p);
+    let f = s.r10;
+    Lanes {
+        r0: f ^ x,
+        r1: s.r0,
+        r2: f ^ s.r1,
+        r3: s.r2,
+        r4: s.r3,
+        r5: s.r4,
+        r6: s.r5,
+        r7: s.r6,
+        r8: s.r7,
+        r9: s.r8,
+        r10: s.r9,
+    }
+}
+
+fn step_1(bytes: &[u8], p: usize, s: Lanes) -> Lanes
+    requires { ⌜ (p < 2040) × (8 * p + 8 ≤ length (now bytes)) ⌝ }
+    ensures { λ r. ⌜ cells r ≡ advanced 2341 (cells s) (placeAt (now (bytes .entry)) p) ⌝ }
+{
+    let x = place(bytes, p);
+    let f = s.r10;
+    Lanes {
+        r0: f ^ x,
+        r1: s.r0,
+        r2: f ^ s.r1,
+        r3: s.r2,
+        r4: s.r3,
+        r5: f ^ s.r4,
+        r6: s.r5,
+        r7: s.r6,
+        r8: f ^ s.r7,
+        r9: s.r8,
+        r10: s.r9,
+    }
+}
+
+fn step_2(bytes: &[u8], p: usize, s: Lanes) -> Lanes
+    requires { ⌜ (p < 2040) × (8 * p + 8 ≤ length (now bytes)) ⌝ }
+    ensures { λ r. ⌜ cells r ≡ advanced 2189 (cells s) (placeAt (now (bytes .entry)) p) ⌝ }
+{
+    let x = place(bytes, p);
+    let f = s.r10;
+    Lanes {
+        r0: f ^ x,
+        r1: s.r0,
+        r2: f ^ s.r1,
+        r3: f ^ s.r2,
+        r4: s.r3,
+        r5: s.r4,
+        r6: s.r5,
+        r7: f ^ s.r6,
+        r8: s.r7,
+        r9: s.r8,
+        r10: s.r9,
+    }
+}
+
+fn step_3(bytes: &[u8], p: usize, s: Lanes) -> Lanes
+    requires { ⌜ (p < 2040) × (8 * p + 8 ≤ length (now bytes)) ⌝ }
+    ensures { λ r. ⌜ cells r ≡ advanced 2093 (cells s) (placeAt (now (bytes .entry)) p) ⌝ }
+{
+    let x = place(bytes, p);
+    let f = s.r10;
+    Lanes {
+        r0: f ^ x,
+        r1: s.r0,
+        r2: f ^ s.r1,
+        r3: f ^ s.r2,
+        r4: s.r3,
+        r5: f ^ s.r4,
+        r6: s.r5,
+        r7: s.r6,
+        r8: s.r7,
+        r9: s.r8,
+        r10: s.r9,
+    }
+}
+
+fn step_4(bytes: &[u8], p: usize, s: Lanes) -> Lanes
+    requires { ⌜ (p < 2040) × (8 * p + 8 ≤ length (now bytes)) ⌝ }
+    ensures { λ r. ⌜ cells r ≡ advanced 3085 (cells s) (placeAt (now (bytes .entry)) p) ⌝ }
+{
+    let x = place(bytes, p);
+    let f = s.r10;
+    Lanes {
+        r0: f ^ x,
+        r1: s.r0,
+        r2: f ^ s.r1,
+        r3: f ^ s.r2,
+        r4: s.r3,
+        r5: s.r4,
+        r6: s.r5,
+        r7: s.r6,
+        r8: s.r7,
+        r9: s.r8,
+        r10: f ^ s.r9,
+    }
+}
+
+fn step_5(bytes: &[u8], p: usize, s: Lanes) -> Lanes
+    requires { ⌜ (p < 2040) × (8 * p + 8 ≤ length (now bytes)) ⌝ }
+    ensures { λ r. ⌜ cells r ≡ advanced 3851 (cells s) (placeAt (now (bytes .entry)) p) ⌝ }
+{
+    let x = place(bytes, p);
+    let f = s.r10;
+    Lanes {
+        r0: f ^ x,
+        r1: f ^ s.r0,
+        r2: s.r1,
+        r3: f ^ s.r2,
+        r4: s.r3,
+        r5: s.r4,
+        r6: s.r5,
+        r7: s.r6,
+        r8: f ^ s.r7,
+        r9: f ^ s.r8,
+        r10: f ^ s.r9,
+    }
+}
+
+fn step_6(bytes: &[u8], p: usize, s: Lanes) -> Lanes
+    requires { ⌜ (p < 2040) × (8 * p + 8 ≤ length (now bytes)) ⌝ }
+    ensures { λ r. ⌜ cells r ≡ advanced 2147 (cells s) (placeAt (now (bytes .entry)) p) ⌝ }
+{
+    let x = place(bytes, p);
+    let f = s.r10;
+    Lanes {
+        r0: f ^ x,
+        r1: f ^ s.r0,
+        r2: s.r1,
+        r3: s.r2,
+        r4: s.r3,
+        r5: f ^ s.r4,
+        r6: f ^ s.r5,
+        r7: s.r6,
+        r8: s.r7,
+        r9: s.r8,
+        r10: s.r9,
+    }
+}
+
+fn step_7(bytes: &[u8], p: usize, s: Lanes) -> Lanes
+    requires { ⌜ (p < 2040) × (8 * p + 8 ≤ length (now bytes)) ⌝ }
+    ensures { λ r. ⌜ cells r ≡ advanced 2419 (cells s) (placeAt (now (bytes .entry)) p) ⌝ }
+{
+    let x = place(bytes, p);
+    let f = s.r10;
+    Lanes {
+        r0: f ^ x,
+        r1: f ^ s.r0,
+        r2: s.r1,
+        r3: s.r2,
+        r4: f ^ s.r3,
+        r5: f ^ s.r4,
+        r6: f ^ s.r5,
+        r7: s.r6,
+        r8: f ^ s.r7,
+        r9: s.r8,
+        r10: s.r9,
+    }
+}
+
+// Eleven places: after them each coefficient is back where it stood, so that none has to move.
+fn eleven_0(bytes: &[u8], p: usize, s: Lanes) -> Lanes
+    requires { ⌜ (p + 11 ≤ 2040) × (8 * p + 88 ≤ length (now bytes)) ⌝ }
+    ensures { λ r. ⌜ cells r ≡ advancedBy 2053 (now (bytes .entry)) p 11 (cells s) ⌝ }
+{
+    let s1 = step_0(bytes, p, s);
+    let s2 = step_0(bytes, p + 1, s1);
+    let s3 = step_0(bytes, p + 2, s2);
+    let s4 = step_0(bytes, p + 3, s3);
+    let s5 = step_0(bytes, p + 4, s4);
+    let s6 = step_0(bytes, p + 5, s5);
+    let s7 = step_0(bytes, p + 6, s6);
+    let s8 = step_0(bytes, p + 7, s7);
+    let s9 = step_0(bytes, p + 8, s8);
+    let s10 = step_0(bytes, p + 9, s9);
+    step_0(bytes, p + 10, s10)
+}
+
+fn eleven_1(bytes: &[u8], p: usize, s: Lanes) -> Lanes
+    requires { ⌜ (p + 11 ≤ 2040) × (8 * p + 88 ≤ length (now bytes)) ⌝ }
+    ensures { λ r. ⌜ cells r ≡ advancedBy 2341 (now (bytes .entry)) p 11 (cells s) ⌝ }
+{
+    let s1 = step_1(bytes, p, s);
+    let s2 = step_1(bytes, p + 1, s1);
+    let s3 = step_1(bytes, p + 2, s2);
+    let s4 = step_1(bytes, p + 3, s3);
+    let s5 = step_1(bytes, p + 4, s4);
+    let s6 = step_1(bytes, p + 5, s5);
+    let s7 = step_1(bytes, p + 6, s6);
+    let s8 = step_1(bytes, p + 7, s7);
+    let s9 = step_1(bytes, p + 8, s8);
+    let s10 = step_1(bytes, p + 9, s9);
+    step_1(bytes, p + 10, s10)
+}
+
+fn eleven_2(bytes: &[u8], p: usize, s: Lanes) -> Lanes
+    requires { ⌜ (p + 11 ≤ 2040) × (8 * p + 88 ≤ length (now bytes)) ⌝ }
+    ensures { λ r. ⌜ cells r ≡ advancedBy 2189 (now (bytes .entry)) p 11 (cells s) ⌝ }
+{
+    let s1 = step_2(bytes, p, s);
+    let s2 = step_2(bytes, p + 1, s1);
+    let s3 = step_2(bytes, p + 2, s2);
+    let s4 = step_2(bytes, p + 3, s3);
+    let s5 = step_2(bytes, p + 4, s4);
+    let s6 = step_2(bytes, p + 5, s5);
+    let s7 = step_2(bytes, p + 6, s6);
+    let s8 = step_2(bytes, p + 7, s7);
+    let s9 = step_2(bytes, p + 8, s8);
+    let s10 = step_2(bytes, p + 9, s9);
+    step_2(bytes, p + 10, s10)
+}
+
+fn eleven_3(bytes: &[u8], p: usize, s: Lanes) -> Lanes
+    requires { ⌜ (p + 11 ≤ 2040) × (8 * p + 88 ≤ length (now bytes)) ⌝ }
+    ensures { λ r. ⌜ cells r ≡ advancedBy 2093 (now (bytes .entry)) p 11 (cells s) ⌝ }
+{
+    let s1 = step_3(bytes, p, s);
+    let s2 = step_3(bytes, p + 1, s1);
+    let s3 = step_3(bytes, p + 2, s2);
+    let s4 = step_3(bytes, p + 3, s3);
+    let s5 = step_3(bytes, p + 4, s4);
+    let s6 = step_3(bytes, p + 5, s5);
+    let s7 = step_3(bytes, p + 6, s6);
+    let s8 = step_3(bytes, p + 7, s7);
+    let s9 = step_3(bytes, p + 8, s8);
+    let s10 = step_3(bytes, p + 9, s9);
+    step_3(bytes, p + 10, s10)
+}
+
+fn eleven_4(bytes: &[u8], p: usize, s: Lanes) -> Lanes
+    requires { ⌜ (p + 11 ≤ 2040) × (8 * p + 88 ≤ length (now bytes)) ⌝ }
+    ensures { λ r. ⌜ cells r ≡ advancedBy 3085 (now (bytes .entry)) p 11 (cells s) ⌝ }
+{
+    let s1 = step_4(bytes, p, s);
+    let s2 = step_4(bytes, p + 1, s1);
+    let s3 = step_4(bytes, p + 2, s2);
+    let s4 = step_4(bytes, p + 3, s3);
+    let s5 = step_4(bytes, p + 4, s4);
+    let s6 = step_4(bytes, p + 5, s5);
+    let s7 = step_4(bytes, p + 6, s6);
+    let s8 = step_4(bytes, p + 7, s7);
+    let s9 = step_4(bytes, p + 8, s8);
+    let s10 = step_4(bytes, p + 9, s9);
+    step_4(bytes, p + 10, s10)
+}
+
+fn eleven_5(bytes: &[u8], p: usize, s: Lanes) -> Lanes
+    requires { ⌜ (p + 11 ≤ 2040) × (8 * p + 88 ≤ length (now bytes)) ⌝ }
+    ensures { λ r. ⌜ cells r ≡ advancedBy 3851 (now (bytes .entry)) p 11 (cells s) ⌝ }
+{
+    let s1 = step_5(bytes, p, s);
+    let s2 = step_5(bytes, p + 1, s1);
+    let s3 = step_5(bytes, p + 2, s2);
+    let s4 = step_5(bytes, p + 3, s3);
+    let s5 = step_5(bytes, p + 4, s4);
+    let s6 = step_5(bytes, p + 5, s5);
+    let s7 = step_5(bytes, p + 6, s6);
+    let s8 = step_5(bytes, p + 7, s7);
+    let s9 = step_5(bytes, p + 8, s8);
+    let s10 = step_5(bytes, p + 9, s9);
+    step_5(bytes, p + 10, s10)
+}
+
+fn eleven_6(bytes: &[u8], p: usize, s: Lanes) -> Lanes
+    requires { ⌜ (p + 11 ≤ 2040) × (8 * p + 88 ≤ length (now bytes)) ⌝ }
+    ensures { λ r. ⌜ cells r ≡ advancedBy 2147 (now (bytes .entry)) p 11 (cells s) ⌝ }
+{
+    let s1 = step_6(bytes, p, s);
+    let s2 = step_6(bytes, p + 1, s1);
+    let s3 = step_6(bytes, p + 2, s2);
+    let s4 = step_6(bytes, p + 3, s3);
+    let s5 = step_6(bytes, p + 4, s4);
+    let s6 = step_6(bytes, p + 5, s5);
+    let s7 = step_6(bytes, p + 6, s6);
+    let s8 = step_6(bytes, p + 7, s7);
+    let s9 = step_6(bytes, p + 8, s8);
+    let s10 = step_6(bytes, p + 9, s9);
+    step_6(bytes, p + 10, s10)
+}
+
+fn eleven_7(bytes: &[u8], p: usize, s: Lanes) -> Lanes
+    requires { ⌜ (p + 11 ≤ 2040) × (8 * p + 88 ≤ length (now bytes)) ⌝ }
+    ensures { λ r. ⌜ cells r ≡ advancedBy 2419 (now (bytes .entry)) p 11 (cells s) ⌝ }
+{
+    let s1 = step_7(bytes, p, s);
+    let s2 = step_7(bytes, p + 1, s1);
+    let s3 = step_7(bytes, p + 2, s2);
+    let s4 = step_7(bytes, p + 3, s3);
+    let s5 = step_7(bytes, p + 4, s4);
+    let s6 = step_7(bytes, p + 5, s5);
+    let s7 = step_7(bytes, p + 6, s6);
+    let s8 = step_7(bytes, p + 7, s7);
+    let s9 = step_7(bytes, p + 8, s8);
+    let s10 = step_7(bytes, p + 9, s9);
+    step_7(bytes, p + 10, s10)
+}
+
+// Eleven places modulo factor j.
+fn eleven(j: usize, bytes: &[u8], p: usize, s: Lanes) -> Lanes
+    requires { ⌜ (j < 8) × (p + 11 ≤ 2040) × (8 * p + 88 ≤ length (now bytes)) ⌝ }
+    ensures { λ r. ⌜ cells r ≡ advancedBy (at factors j) (now (bytes .entry)) p 11 (cells s) ⌝ }
+{
+    match j {
+        0 => return eleven_0(bytes, p, s),
+        1 => return eleven_1(bytes, p, s),
+        2 => return eleven_2(bytes, p, s),
+        3 => return eleven_3(bytes, p, s),
+        4 => return eleven_4(bytes, p, s),
+        5 => return eleven_5(bytes, p, s),
+        6 => return eleven_6(bytes, p, s),
+        _ => return eleven_7(bytes, p, s),
+    }
+}
+
+// The residues modulo factor j of the first 5 + 11 * blocks places of the inner words.
+pub fn residue(j: usize, bytes: &[u8], blocks: usize) -> Lanes
+    requires { ⌜ (j < 8) × (blocks ≤ 185) × (40 + 88 * blocks ≤ length (now bytes)) ⌝ }
+    ensures { λ r. ⌜ cells r ≡ residueOf j (now (bytes .entry)) (5 + 11 * blocks) ⌝ }
+{
+    let mut s = first_five(bytes);
+    let mut i: usize = 0;
+    while i < blocks {
+        s = eleven(j, bytes, 5 + 11 * i, s);
+        i += 1;
+    }
+    s
+}

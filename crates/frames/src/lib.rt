@@ -31,6 +31,7 @@ mod inner_words;
 mod outer_words;
 mod proposals;
 mod residues;
+mod side_by_side;
 
 // The frame and its parts.
 pub struct Frame;

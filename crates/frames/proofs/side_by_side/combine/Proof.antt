@@ -1,0 +1,62 @@
+-- `frames::side_by_side::combine` meets its contract. Assumes nothing.
+use borrow.Author.Needs.{needs}
+use Prim.Native.Nat.{_-_, _≤_}
+use Rattle.frames.proofs.side_by_side.combine.Statement.{statement}
+use Rattle.frames.proofs.side_by_side.combine.Tie as tie
+
+abbrev Inv-loop : tie.InvT-loop
+Inv-loop locator₀ g other d i₀ locator i = i ≤ 9
+
+abbrev μ-loop : tie.MeasureT-loop
+μ-loop locator₀ g other d i₀ locator i = 9 - i
+
+loop-holds : tie.Need-loop-holds Inv-loop μ-loop
+loop-holds c = search needs
+
+get-requires : tie.Need-get-requires Inv-loop μ-loop
+get-requires c κs = search needs
+
+product-requires : tie.Need-product-requires Inv-loop μ-loop
+product-requires c κs = search needs
+
+get-requires-2 : tie.Need-get-requires-2 Inv-loop μ-loop
+get-requires-2 c κs = search needs
+
+product-requires-2 : tie.Need-product-requires-2 Inv-loop μ-loop
+product-requires-2 c κs = search needs
+
+sum-requires : tie.Need-sum-requires Inv-loop μ-loop
+sum-requires c κs = search needs
+
+put-requires : tie.Need-put-requires Inv-loop μ-loop
+put-requires c κs = search needs
+
+add-i : tie.Need-add-i Inv-loop μ-loop
+add-i c = search needs
+
+loop-less : tie.Need-loop-less Inv-loop μ-loop
+loop-less c = search needs
+
+loop-again : tie.Need-loop-again Inv-loop μ-loop
+loop-again c = search needs
+
+returns : tie.Need-returns Inv-loop μ-loop
+returns c = search needs
+
+pub combine-spec : {M : Type 1} → statement M
+combine-spec =
+    tie.close
+    (tie.spec
+    Inv-loop
+    μ-loop
+    loop-holds
+    get-requires
+    product-requires
+    get-requires-2
+    product-requires-2
+    sum-requires
+    put-requires
+    add-i
+    loop-less
+    loop-again
+    returns)

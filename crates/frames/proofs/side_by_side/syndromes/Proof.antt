@@ -1,0 +1,70 @@
+-- `frames::side_by_side::syndromes` meets its contract. Assumes nothing.
+use borrow.Author.Needs.{needs}
+use Prim.Native.Nat.{_-_, _≤_}
+use Rattle.frames.proofs.side_by_side.syndromes.Statement.{statement}
+use Rattle.frames.proofs.side_by_side.syndromes.Tie as tie
+
+abbrev Inv-loop : tie.InvT-loop
+Inv-loop residues bank₀ j₀ bank j = j ≤ 8
+
+abbrev μ-loop : tie.MeasureT-loop
+μ-loop residues bank₀ j₀ bank j = 8 - j
+
+loop-holds : tie.Need-loop-holds Inv-loop μ-loop
+loop-holds c = search needs
+
+mul-put : tie.Need-mul-put Inv-loop μ-loop
+mul-put c = search needs
+
+odd-syndrome-requires : tie.Need-odd-syndrome-requires Inv-loop μ-loop
+odd-syndrome-requires c κs = search needs
+
+put-requires : tie.Need-put-requires Inv-loop μ-loop
+put-requires c κs = search needs
+
+get-requires : tie.Need-get-requires Inv-loop μ-loop
+get-requires c κs = search needs
+
+mul-put-2 : tie.Need-mul-put-2 Inv-loop μ-loop
+mul-put-2 c = search needs
+
+add-put : tie.Need-add-put Inv-loop μ-loop
+add-put c = search needs
+
+product-requires : tie.Need-product-requires Inv-loop μ-loop
+product-requires c κs = search needs
+
+put-requires-2 : tie.Need-put-requires-2 Inv-loop μ-loop
+put-requires-2 c κs = search needs
+
+add-j : tie.Need-add-j Inv-loop μ-loop
+add-j c = search needs
+
+loop-less : tie.Need-loop-less Inv-loop μ-loop
+loop-less c = search needs
+
+loop-again : tie.Need-loop-again Inv-loop μ-loop
+loop-again c = search needs
+
+returns : tie.Need-returns Inv-loop μ-loop
+returns c = search needs
+
+pub syndromes-spec : {M : Type 1} → statement M
+syndromes-spec =
+    tie.close
+    (tie.spec
+    Inv-loop
+    μ-loop
+    loop-holds
+    mul-put
+    odd-syndrome-requires
+    put-requires
+    get-requires
+    mul-put-2
+    add-put
+    product-requires
+    put-requires-2
+    add-j
+    loop-less
+    loop-again
+    returns)

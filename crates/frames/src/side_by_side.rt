@@ -1,0 +1,466 @@
+// The wrong places of all 64 inner words at once. A number of 64 bits holds one bit of an element of field B for each inner word, eleven numbers an element,
+// so that a sum or a product is made for all of them by the same few operations:
+//
+//     syndromes   the residue modulo the least polynomial of a^e gives the value at a^e for the odd e, a square that for an even e
+//     locators    Berlekamp and Massey's algorithm, without division, in the form for binary codes: eight steps
+//     search      the locator polynomials at one place after the other; the inner words whose polynomial is zero there are wrong there
+//
+// What comes out is a proposal, and nothing is promised of it but its size: how wrong places are found is free, and module `proposals` takes a word only
+// after a test.
+use crate::residues::Lanes;
+ghost use Prim.Native.Nat.{_<_};
+
+// Bits of an element.
+const BITS: usize = 11;
+
+// Elements that a bank has place for, and its numbers.
+const ELEMENTS: usize = 16;
+
+const BANK: usize = BITS * ELEMENTS;
+
+// Coefficients of a locator polynomial, which has degree eight at most.
+const COEFFICIENTS: usize = 9;
+
+const RADIUS: usize = 8;
+
+// The numbers of all residues.
+const RESIDUES: usize = 88;
+
+// Every inner word.
+const ALL: u64 = 0xffff_ffff_ffff_ffff;
+
+// The element 0 or 1 of each inner word, by its bit of x.
+fn bit(x: u64) -> Lanes {
+    Lanes {
+        r0: x,
+        r1: 0,
+        r2: 0,
+        r3: 0,
+        r4: 0,
+        r5: 0,
+        r6: 0,
+        r7: 0,
+        r8: 0,
+        r9: 0,
+        r10: 0,
+    }
+}
+
+fn sum(x: Lanes, y: Lanes) -> Lanes {
+    Lanes {
+        r0: x.r0 ^ y.r0,
+        r1: x.r1 ^ y.r1,
+        r2: x.r2 ^ y.r2,
+        r3: x.r3 ^ y.r3,
+        r4: x.r4 ^ y.r4,
+        r5: x.r5 ^ y.r5,
+        r6: x.r6 ^ y.r6,
+        r7: x.r7 ^ y.r7,
+        r8: x.r8 ^ y.r8,
+        r9: x.r9 ^ y.r9,
+        r10: x.r10 ^ y.r10,
+    }
+}
+
+// x in the inner words of the mask, 0 in the others.
+fn masked(x: Lanes, mask: u64) -> Lanes {
+    Lanes {
+        r0: x.r0 & mask,
+        r1: x.r1 & mask,
+        r2: x.r2 & mask,
+        r3: x.r3 & mask,
+        r4: x.r4 & mask,
+        r5: x.r5 & mask,
+        r6: x.r6 & mask,
+        r7: x.r7 & mask,
+        r8: x.r8 & mask,
+        r9: x.r9 & mask,
+        r10: x.r10 & mask,
+    }
+}
+
+// The inner words in which x is not zero.
+fn nonzero(x: Lanes) -> u64 {
+    x.r0 | x.r1 | x.r2 | x.r3 | x.r4 | x.r5 | x.r6 | x.r7 | x.r8 | x.r9 | x.r10
+}
+
+// a times x: z^11 is z^2 + 1.
+fn doubled(x: Lanes) -> Lanes {
+    Lanes {
+        r0: x.r10,
+        r1: x.r0,
+        r2: x.r1 ^ x.r10,
+        r3: x.r2,
+        r4: x.r3,
+        r5: x.r4,
+        r6: x.r5,
+        r7: x.r6,
+        r8: x.r7,
+        r9: x.r8,
+        r10: x.r9,
+    }
+}
+
+// a^2, a^3, .. a^8 times x.
+fn times_a2(x: Lanes) -> Lanes {
+    doubled(doubled(x))
+}
+
+fn times_a3(x: Lanes) -> Lanes {
+    doubled(times_a2(x))
+}
+
+fn times_a4(x: Lanes) -> Lanes {
+    times_a2(times_a2(x))
+}
+
+fn times_a5(x: Lanes) -> Lanes {
+    doubled(times_a4(x))
+}
+
+fn times_a6(x: Lanes) -> Lanes {
+    times_a2(times_a4(x))
+}
+
+fn times_a7(x: Lanes) -> Lanes {
+    times_a3(times_a4(x))
+}
+
+fn times_a8(x: Lanes) -> Lanes {
+    times_a4(times_a4(x))
+}
+
+// a^n times x.
+fn times_power(x: Lanes, n: usize) -> Lanes {
+    let mut y = x;
+    let mut i: usize = 0;
+    while i < n {
+        y = doubled(y);
+        i += 1;
+    }
+    y
+}
+
+// One more bit of y, the highest first, in the product of x and y.
+fn product_step(p: Lanes, x: Lanes, y: u64) -> Lanes {
+    sum(doubled(p), masked(x, y))
+}
+
+fn product(x: Lanes, y: Lanes) -> Lanes {
+    let p9 = product_step(masked(x, y.r10), x, y.r9);
+    let p8 = product_step(p9, x, y.r8);
+    let p7 = product_step(p8, x, y.r7);
+    let p6 = product_step(p7, x, y.r6);
+    let p5 = product_step(p6, x, y.r5);
+    let p4 = product_step(p5, x, y.r4);
+    let p3 = product_step(p4, x, y.r3);
+    let p2 = product_step(p3, x, y.r2);
+    let p1 = product_step(p2, x, y.r1);
+    product_step(p1, x, y.r0)
+}
+
+// Element i of a bank.
+fn get(bank: &[u64; BANK], i: usize) -> Lanes
+    requires { ⌜ i < 16 ⌝ }
+{
+    let m = BITS * i;
+    Lanes {
+        r0: bank[m],
+        r1: bank[m + 1],
+        r2: bank[m + 2],
+        r3: bank[m + 3],
+        r4: bank[m + 4],
+        r5: bank[m + 5],
+        r6: bank[m + 6],
+        r7: bank[m + 7],
+        r8: bank[m + 8],
+        r9: bank[m + 9],
+        r10: bank[m + 10],
+    }
+}
+
+// Writes element i of a bank.
+fn put(bank: &mut [u64; BANK], i: usize, x: Lanes)
+    requires { ⌜ i < 16 ⌝ }
+{
+    let m = BITS * i;
+    bank[m] = x.r0;
+    bank[m + 1] = x.r1;
+    bank[m + 2] = x.r2;
+    bank[m + 3] = x.r3;
+    bank[m + 4] = x.r4;
+    bank[m + 5] = x.r5;
+    bank[m + 6] = x.r6;
+    bank[m + 7] = x.r7;
+    bank[m + 8] = x.r8;
+    bank[m + 9] = x.r9;
+    bank[m + 10] = x.r10;
+}
+
+// The value at a^e of the residue modulo the least polynomial of a^e, which is the j-th: Horner's rule.
+fn odd_syndrome(residues: &[u64; RESIDUES], j: usize) -> Lanes
+    requires { ⌜ j < 8 ⌝ }
+{
+    let mut v = bit(0);
+    let mut i: usize = 0;
+    while i < BITS {
+        v = sum(
+            times_power(v, 2 * j + 1),
+            bit(residues[BITS * j + (BITS - 1 - i)]),
+        );
+        i += 1;
+    }
+    v
+}
+
+// The values at a, a^2, .. a^16.
+fn syndromes(residues: &[u64; RESIDUES], bank: &mut [u64; BANK]) {
+    let mut j: usize = 0;
+    while j < RADIUS {
+        put(bank, 2 * j, odd_syndrome(residues, j));
+        let root = get(bank, j);
+        put(bank, 2 * j + 1, product(root, root));
+        j += 1;
+    }
+}
+
+// The next syndrome that a locator polynomial would give differs by this from the syndrome in step r: the sum of its coefficients times the syndromes
+// from number 2 r + 1 down.
+fn discrepancy(locator: &[u64; BANK], syndromes: &[u64; BANK], r: usize) -> Lanes
+    requires { ⌜ r < 8 ⌝ }
+{
+    let mut d = bit(0);
+    let mut i: usize = 0;
+    while i < COEFFICIENTS {
+        if i <= 2 * r {
+            d = sum(d, product(get(locator, i), get(syndromes, 2 * r - i)));
+        }
+        i += 1;
+    }
+    d
+}
+
+// The locator polynomial times g, plus d times the other.
+fn combine(locator: &mut [u64; BANK], g: Lanes, other: &[u64; BANK], d: Lanes) {
+    let mut i: usize = 0;
+    while i < COEFFICIENTS {
+        let x = sum(product(g, get(locator, i)), product(d, get(other, i)));
+        put(locator, i, x);
+        i += 1;
+    }
+}
+
+// x in the inner words of the mask, y in the others.
+fn chosen(mask: u64, x: Lanes, y: Lanes) -> Lanes {
+    sum(y, masked(sum(x, y), mask))
+}
+
+// The polynomial becomes the one given in the inner words of the mask; then it is multiplied by x^2, without the terms of too high a degree.
+fn follow(other: &mut [u64; BANK], mask: u64, locator: &[u64; BANK]) {
+    let mut i: usize = RADIUS;
+    while 2 <= i {
+        let x = chosen(mask, get(locator, i - 2), get(other, i - 2));
+        put(other, i, x);
+        i -= 1;
+    }
+    put(other, 0, bit(0));
+    put(other, 1, bit(0));
+}
+
+fn copy(bank: &[u64; BANK], out: &mut [u64; BANK]) {
+    let mut i: usize = 0;
+    while i < BANK {
+        out[i] = bank[i];
+        i += 1;
+    }
+}
+
+// Number j, from 1 to 9, has the inner words in which the shortest recurrence of the syndromes so far has at least length j.
+struct Lengths {
+    at: [u64; COEFFICIENTS + 1],
+}
+
+// The inner words in which a length that becomes 2 r + 1 less itself is at least j then.
+fn reflected(lengths: Lengths, r: usize, j: usize) -> u64
+    requires { ⌜ (r < 8) × (j < 10) ⌝ }
+{
+    if 2 * r + 2 <= j {
+        return 0;
+    }
+    let q = 2 * r + 2 - j;
+    if COEFFICIENTS < q {
+        return ALL;
+    }
+    lengths.at[q] ^ ALL
+}
+
+// Lengths are reflected in the inner words of the mask.
+fn lengthened(lengths: Lengths, r: usize, mask: u64) -> Lengths
+    requires { ⌜ r < 8 ⌝ }
+{
+    let mut at = [0u64; COEFFICIENTS + 1];
+    let mut j: usize = 1;
+    while j <= COEFFICIENTS {
+        at[j] = (reflected(lengths, r, j) & mask) | (lengths.at[j] & (mask ^ ALL));
+        j += 1;
+    }
+    Lengths { at }
+}
+
+// What a step hands to the next: the discrepancy at which a length last grew, and the lengths.
+struct Progress {
+    factor: Lanes,
+    lengths: Lengths,
+}
+
+// Step r: a locator polynomial with a discrepancy d is multiplied by the factor, and d times the other polynomial is added, which is the locator polynomial
+// before the length last grew, moved up. Where the length grows, the locator polynomial from before is the other one for the next steps.
+fn step(
+    progress: Progress,
+    r: usize,
+    syndromes: &[u64; BANK],
+    locator: &mut [u64; BANK],
+    other: &mut [u64; BANK],
+) -> Progress
+    requires { ⌜ r < 8 ⌝ }
+{
+    let d = discrepancy(locator, syndromes, r);
+    let wrong = nonzero(d);
+    if wrong == 0 {
+        follow(other, 0, locator);
+        return progress;
+    }
+    let lengths = progress.lengths;
+    let factor = progress.factor;
+    let grows = wrong & (lengths.at[r + 1] ^ ALL);
+    let mut old = [0u64; BANK];
+    copy(locator, &mut old);
+    combine(locator, factor, other, d);
+    follow(other, grows, &old);
+    Progress {
+        factor: chosen(grows, d, factor),
+        lengths: lengthened(lengths, r, grows),
+    }
+}
+
+// The locator polynomials, the lowest coefficient first. Their roots are the inverses of the locators.
+fn locators(syndromes: &[u64; BANK], locator: &mut [u64; BANK]) {
+    let mut other = [0u64; BANK];
+    put(locator, 0, bit(ALL));
+    put(&mut other, 1, bit(ALL));
+    let mut progress = Progress {
+        factor: bit(ALL),
+        lengths: Lengths {
+            at: [0u64; COEFFICIENTS + 1],
+        },
+    };
+    let mut r: usize = 0;
+    while r < RADIUS {
+        progress = step(progress, r, syndromes, locator, &mut other);
+        r += 1;
+    }
+}
+
+// The largest degree of the locator polynomials.
+fn degree(locator: &[u64; BANK]) -> usize {
+    let mut i: usize = RADIUS;
+    while 0 < i {
+        if nonzero(get(locator, i)) != 0 {
+            return i;
+        }
+        i -= 1;
+    }
+    0
+}
+
+const PLACES: usize = words::Inner::PLACES;
+
+// The term of degree i at place 0, where a locator's inverse is a^8.
+fn first_term(locator: &[u64; BANK], i: usize) -> Lanes
+    requires { ⌜ i < 9 ⌝ }
+{
+    times_power(get(locator, i), 8 * i)
+}
+
+// The inner words of the mask in which x is zero.
+fn zeros(x: Lanes, mask: u64) -> u64 {
+    mask & (nonzero(x) ^ ALL)
+}
+
+// The wrong places, by polynomials of degree 2 at most: from one place to the next the term of degree i is multiplied by a^i.
+fn search_2(locator: &[u64; BANK], wrong: u64, flips: &mut [u64; PLACES]) {
+    let x0 = get(locator, 0);
+    let mut x1 = first_term(locator, 1);
+    let mut x2 = first_term(locator, 2);
+    let mut p: usize = 0;
+    while p < PLACES {
+        flips[p] = zeros(sum(x0, sum(x1, x2)), wrong);
+        x1 = doubled(x1);
+        x2 = times_a2(x2);
+        p += 1;
+    }
+}
+
+// The same of degree 4 at most.
+fn search_4(locator: &[u64; BANK], wrong: u64, flips: &mut [u64; PLACES]) {
+    let x0 = get(locator, 0);
+    let mut x1 = first_term(locator, 1);
+    let mut x2 = first_term(locator, 2);
+    let mut x3 = first_term(locator, 3);
+    let mut x4 = first_term(locator, 4);
+    let mut p: usize = 0;
+    while p < PLACES {
+        flips[p] = zeros(sum(x0, sum(sum(x1, x2), sum(x3, x4))), wrong);
+        x1 = doubled(x1);
+        x2 = times_a2(x2);
+        x3 = times_a3(x3);
+        x4 = times_a4(x4);
+        p += 1;
+    }
+}
+
+// The same of degree 8.
+fn search_8(locator: &[u64; BANK], wrong: u64, flips: &mut [u64; PLACES]) {
+    let x0 = get(locator, 0);
+    let mut x1 = first_term(locator, 1);
+    let mut x2 = first_term(locator, 2);
+    let mut x3 = first_term(locator, 3);
+    let mut x4 = first_term(locator, 4);
+    let mut x5 = first_term(locator, 5);
+    let mut x6 = first_term(locator, 6);
+    let mut x7 = first_term(locator, 7);
+    let mut x8 = first_term(locator, 8);
+    let mut p: usize = 0;
+    while p < PLACES {
+        let low = sum(sum(x1, x2), sum(x3, x4));
+        let high = sum(sum(x5, x6), sum(x7, x8));
+        flips[p] = zeros(sum(x0, sum(low, high)), wrong);
+        x1 = doubled(x1);
+        x2 = times_a2(x2);
+        x3 = times_a3(x3);
+        x4 = times_a4(x4);
+        x5 = times_a5(x5);
+        x6 = times_a6(x6);
+        x7 = times_a7(x7);
+        x8 = times_a8(x8);
+        p += 1;
+    }
+}
+
+// Writes the places to be inverted in the wrong inner words: bit k of number p, the highest first, is 1 where word k is to be inverted in place p.
+pub fn propose(residues: &[u64; RESIDUES], wrong: u64, flips: &mut [u64; PLACES]) {
+    let mut bank = [0u64; BANK];
+    syndromes(residues, &mut bank);
+    let mut locator = [0u64; BANK];
+    locators(&bank, &mut locator);
+    let d = degree(&locator);
+    if d <= 2 {
+        search_2(&locator, wrong, flips);
+        return;
+    }
+    if d <= 4 {
+        search_4(&locator, wrong, flips);
+        return;
+    }
+    search_8(&locator, wrong, flips);
+}

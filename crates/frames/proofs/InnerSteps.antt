@@ -28,12 +28,12 @@ use Rattle.words.proofs.Places.Tests.{tests-agree, every-at, every-true, below-
 use Rattle.words.proofs.Codes.ShiftedBits.{bitOf-sum}
 use Rattle.frames.specs.Frames.{innerData, innerWord, parityPlace, withParity}
 use Rattle.frames.specs.Received.{innerCodes}
-use Rattle.frames.specs.SideBySide.{placeAt, ones, masks, stepped, swept, parities, byteOf64, parityBytes, orTo, differing}
+use Rattle.frames.specs.SideBySide.{placeAt, ones, masks, stepped, swept, parities, byteOf64, parityBytes}
 use Rattle.frames.specs.Symbols.{Placed}
 use Rattle.frames.specs.Passes.{wrongWords}
 use Rattle.frames.proofs.Placing.{Placing, placing-next, placing-end}
 use Rattle.frames.proofs.FrameBits.{bytes-same, places-code, code-places, parity-cases}
-use Rattle.frames.proofs.SideBySide.{orTo-bit, orTo-lt, place-bit, place-lt, swept-lt, parities-bits}
+use Rattle.frames.proofs.SideBySide.{parities-bits}
 
 -- ---- eight bytes as a number
 
@@ -177,26 +177,6 @@ module _ (cells : List ℕ) where
     pub storing-end : 704 ≤ m → Placed 15616 (parityBytes cells) before after
     storing-end h = placing-end so-far (omega (arith, parity-bytes-length))
 
--- ---- the parity places of a block
-
--- the bits in which the first i parity places differ from the cells
-unfoldable pub differingTo : List ℕ → List ℕ → ℕ → ℕ
-differingTo cells block i = orTo i (λ j. xor (at cells j) (placeAt block (1952 + j)))
-
-module _ (cells block : List ℕ) where
-  pub differing-none : 0 ≡ differingTo cells block 0
-  unfolding differingTo orTo
-  differing-none = refl
-
-  module _ (i x : ℕ) (so-far : x ≡ differingTo cells block i) where
-    pub differing-next : (y : ℕ) → y ≡ placeAt block (1952 + i) → bitOr x (bitXor (getD cells i 0) y) ≡ differingTo cells block (i + 1)
-    unfolding differingTo orTo xor
-    differing-next y e = rw (add-one, so-far, e)
-
-    pub differing-end : i ≤ 88 → 88 ≤ i → x ≡ differing cells block
-    unfolding differingTo differing
-    differing-end l h = let e : i ≡ 88 = omega arith in rw e at so-far
-
 -- ---- the frame with its parity places
 
 byte-bit : (x j i : ℕ) → i < 8 → bitOf 8 (byteOf64 x j) i ≡ bitOf 64 x (8 * j + i)
@@ -227,45 +207,6 @@ module _ (before after : List ℕ) where
       sym (bytes-same 16320 (withParity (bitAt before)) after (stored .long ∙ long) below (stored-bit (rw e at stored)))
 
 -- ---- code words
-
-sum-none : (x y : ℕ) → xor x y ≡ 0 → x ≡ y
-sum-none x y z = sym (xor-zero-r x) ∙ ap (xor x) (sym z) ∙ xor-cancel x y
-
-module _ (block : List ℕ) where
-  abbrev b : ℕ → ℕ
-  b = bitAt block
-
-  place-parity : (i k : ℕ) → k < 64 → bitOf 64 (placeAt block (1952 + i)) k ≡ b (parityPlace i k)
-  unfolding parityPlace
-  place-parity i k m = place-bit block (1952 + i) k m ∙ ap b (omega arith)
-
-  -- the bits in which parity place i differs from what the register holds
-  abbrev difference : ℕ → ℕ
-  difference i = xor (at (parities block) i) (placeAt block (1952 + i))
-
-  difference-bit : (k : ℕ) → k < 64 → (i : ℕ) → i < 88 → bitOf 64 (difference i) k ≡ xor (at (innerParity (innerData b k)) i) (b (parityPlace i k))
-  difference-bit k m i l = bitOf-sum 64 k _ _ ∙ ap₂ xor (parities-bits block k m i l) (place-parity i k m)
-
-  -- inner word k is a code word just where no parity place differs in bit k
-  same-code : (k : ℕ) → k < 64 → every 88 (λ i. eqb (bitOf 64 (difference i) k) 0) ≡ isInner (innerWord b k)
-  same-code k m =
-      tests-agree _ _
-      (λ t. places-code b (bitAt-lt block) k (λ i l. sum-none _ _ (sym (difference-bit k m i l) ∙ eqb-true _ 0 (every-at 88 _ t i l))))
-      (λ t. every-true 88 _ (λ i l. eq-eqb _ 0 (difference-bit k m i l ∙ rw (code-places b k t i l) (xor-self _))))
-
-  differing-lt : differing (parities block) block < 2 ^ 64
-  unfolding differing parities
-  differing-lt = orTo-lt 64 88 _ (λ i l. xor-lt 64 _ _ (swept-lt block 1952 i) (place-lt block (1952 + i)))
-
-  -- so the bits that differ are those of the words that are wrong
-  differing-wrong : differing (parities block) block ≡ wrongWords b
-  unfolding differing wrongWords
-  differing-wrong =
-      sym (numberOf-bits 64 _ differing-lt)
-      ∙ numberOf-same 64 (bitOf 64 (differing (parities block) block)) _ (λ k m. orTo-bit 64 k 88 _ ∙ ap (λ (t : Bool). cond t 0 1) (same-code k m))
-
-  pub words-wrong : (cells : List ℕ) (x : ℕ) → cells ≡ parities block → x ≡ differing cells block → x ≡ wrongWords (bitAt block)
-  words-wrong cells x e h = h ∙ ap (λ (c : List ℕ). differing c block) e ∙ differing-wrong
 
 -- 0 where a test holds, else 1
 pub wrong-lt : (t : Bool) → cond t 0 1 < 2

@@ -6,6 +6,7 @@ pub mod FrameBits
 pub mod SideBySide
 pub mod InnerResidues
 pub mod ResidueSteps
+pub mod ResidueCodes
 pub mod InnerSteps
 pub mod InnerPass
 pub mod ReportCounts

@@ -1,14 +1,21 @@
 -- What the functions on residues compute. Assumes nothing.
 use mathlib.Core.Path.{_≡_, refl, sym, ap, ap₂, _∙_}
 use mathlib.Core.List.{List, [], _∷_}
-use Prim.Native.Nat.{ℕ, _+_, _*_, _≤_, _<_}
+use Prim.Native.Nat.{ℕ, _+_, _-_, _*_, _/_, _%_, _≤_, _<_}
+use native.Mathlib.Decide.{decLt}
 use native.Mathlib.Nat.{add-zero}
+use native.Mathlib.Numerals.{add-one}
 use native.Mathlib.Omega.{arith}
+use lib.Bits.{bitOr}
+use lib.ListN.{length, getD, set, replicate, length-replicate}
 use Rattle.fields.specs.Lists.{tabulate}
 use Rattle.words.specs.Places.{at}
 use Rattle.words.specs.InnerCode.{factors}
-use Rattle.frames.specs.SideBySide.{placeAt}
-use Rattle.frames.specs.InnerResidues.{residueOf, advanced, advancedBy, begun}
+use Rattle.words.proofs.Places.Filling.{Filled, filled-start, filled-end}
+use Rattle.frames.specs.Symbols.{Placed}
+use Rattle.frames.specs.SideBySide.{placeAt, orTo}
+use Rattle.frames.specs.InnerResidues.{residueOf, residuesOf, advanced, advancedBy, begun}
+use Rattle.frames.proofs.Placing.{Placing, placing-next, placing-end}
 use Rattle.frames.proofs.InnerResidues.{residue-more, begun-residue}
 
 -- ---- places
@@ -56,3 +63,52 @@ residue-turn j i b es et =
 
 pub residue-end : (j i n : ℕ) (b : List ℕ) {s : List ℕ} → s ≡ residueOf j b (5 + 11 * i) → i ≤ n → n ≤ i → s ≡ residueOf j b (5 + 11 * n)
 residue-end j i n b e l h = let q : i ≡ n = omega arith in rw q at e
+
+-- ---- the residues by all factors
+
+-- number c of all of them
+unfoldable pub residueAt : List ℕ → ℕ → ℕ → ℕ
+residueAt b n c = at (residueOf (c / 11) b n) (c % 11)
+
+pub put-next : (xs : List ℕ) (i k : ℕ) (before after : List ℕ) → Placing i xs k before after → k < 11 → length xs ≡ 11 → i + 11 ≤ length before →
+    Placing i xs (k + 1) before (set after (i + k) (getD xs k 0))
+put-next xs i k before after p h long room = placing-next p (omega arith) (omega arith) refl
+
+pub put-end : (xs : List ℕ) (i k : ℕ) (before after : List ℕ) → Placing i xs k before after → 11 ≤ k → length xs ≡ 11 → Placed i xs before after
+put-end xs i k before after p h long = placing-end p (omega arith)
+
+pub residues-start : (b : List ℕ) (n : ℕ) → Filled 88 (residueAt b n) (11 * 0) (replicate 88 0)
+residues-start b n = filled-start (length-replicate {A = ℕ} 88 0)
+
+pub residues-next : (b : List ℕ) (n j : ℕ) (s xs before after : List ℕ) → Filled 88 (residueAt b n) (11 * j) before → j < 8 → s ≡ residueOf j b n → xs ≡ s → length xs ≡ 11 →
+    Placed (11 * j) xs before after → Filled 88 (residueAt b n) (11 * (j + 1)) after
+unfolding residueAt
+residues-next b n j s xs before after f h es ex long p =
+    record { long = p .long ∙ f .long; within = omega arith; done = λ c l. go c l (decLt c (11 * j)) }
+  where
+    go : (c : ℕ) → c < 11 * (j + 1) → Dec (c < 11 * j) → getD after c 0 ≡ residueAt b n c
+    go c l (yes m) = p .below c m ∙ f .done c m
+    go c l (no m) =
+        let q : c / 11 ≡ j = omega arith in
+        let r : c % 11 ≡ c - 11 * j = omega arith in
+        let e : c ≡ 11 * j + (c - 11 * j) = omega arith in
+        ap (at after) e ∙ p .inside (c - 11 * j) (omega arith) ∙ rw (q, r) (ap (λ (x : List ℕ). at x (c - 11 * j)) (ex ∙ es))
+
+pub residues-end : (b : List ℕ) (n j : ℕ) (out : List ℕ) → Filled 88 (residueAt b n) (11 * j) out → 8 ≤ j → out ≡ residuesOf b n
+unfolding residueAt residuesOf
+residues-end b n j out f h = filled-end f (omega arith)
+
+-- ---- bits that are 1 in some number
+
+module _ (xs : List ℕ) where
+  pub wrong-none : 0 ≡ orTo 0 (at xs)
+  unfolding orTo
+  wrong-none = refl
+
+  module _ (i x : ℕ) (so-far : x ≡ orTo i (at xs)) where
+    pub wrong-next : bitOr x (getD xs i 0) ≡ orTo (i + 1) (at xs)
+    unfolding orTo
+    wrong-next = rw (add-one, so-far)
+
+    pub wrong-end : i ≤ 88 → 88 ≤ i → x ≡ orTo 88 (at xs)
+    wrong-end l h = let e : i ≡ 88 = omega arith in rw e at so-far

@@ -3,7 +3,7 @@ use mathlib.Core.List.{List, _∷_}
 use Prim.Native.Nat.{ℕ, zero, suc, _+_, _-_, _*_, _/_, _%_, _^_}
 use lib.Bits.{bitAnd, bitOr}
 use Rattle.fields.specs.Lists.{tabulate}
-use Rattle.fields.specs.Elements.{xor, scale}
+use Rattle.fields.specs.Elements.{scale}
 use Rattle.words.specs.Places.{at, bitOf, numberOf, bitAt}
 use Rattle.words.specs.OuterCode.{shiftedIn, divided}
 use Rattle.words.specs.InnerCode.{divisor}
@@ -41,7 +41,3 @@ parityBytes cells = tabulate 704 (λ m. byteOf64 (at cells (m / 8)) (m % 8))
 unfoldable pub orTo : ℕ → (ℕ → ℕ) → ℕ
 orTo zero f = 0
 orTo (suc n) f = bitOr (orTo n f) (f n)
-
--- the parity places of the block that differ from the cells
-unfoldable pub differing : List ℕ → List ℕ → ℕ
-differing cells block = orTo 88 (λ i. xor (at cells i) (placeAt block (1952 + i)))

@@ -2,6 +2,7 @@
 // divisions by the divisor. It gives the parity bits, and tells which inner words of a block are no code words; those are corrected one by one.
 use crate::Frame;
 use crate::bits;
+use crate::residues;
 use words::bch;
 ghost use mathlib.Core.Path.{_≡_};
 ghost use mathlib.Core.Bool.{true, cond};
@@ -13,7 +14,7 @@ ghost use Rattle.frames.specs.Frames.{innerWord, withParity};
 ghost use Rattle.frames.specs.Correction.{innerRestored};
 ghost use Rattle.frames.specs.Received.{innerCodes};
 ghost use Rattle.frames.specs.Symbols.{Placed};
-ghost use Rattle.frames.specs.SideBySide.{placeAt, ones, masks, stepped, parities, byteOf64, parityBytes, differing};
+ghost use Rattle.frames.specs.SideBySide.{placeAt, ones, masks, stepped, parities, byteOf64, parityBytes};
 ghost use Rattle.frames.specs.Passes.{wrongWords, wordByte, wordBytes, WordPut, InnerPassed};
 
 const PARITY_BYTES: usize = Frame::BYTES - Frame::DATA_BYTES;
@@ -113,27 +114,13 @@ pub fn encode(out: &mut [u8])
     store(&cells, out);
 }
 
-// The bits in which the parity places differ from what the register holds, of all 88 places together.
-fn differing(cells: &[u64], block: &[u8]) -> u64
-    requires { ⌜ (length (now cells) ≡ 88) × (length (now block) ≡ 16320) ⌝ }
-    ensures { λ r. ⌜ r ≡ differing (now (cells .entry)) (now (block .entry)) ⌝ }
-{
-    let mut x: u64 = 0;
-    let mut i: usize = 0;
-    while i < words::Inner::PARITY {
-        x = x | (cells[i] ^ place(block, Frame::DATA_PLACES + i));
-        i += 1;
-    }
-    x
-}
-
 // The inner words of the block that are no code words: bit k, the highest first, is 1 for word k.
 pub fn wrong_words(block: &[u8]) -> u64
     requires { ⌜ length (now block) ≡ 16320 ⌝ }
     ensures { λ r. ⌜ r ≡ wrongWords (bitAt (now (block .entry))) ⌝ }
 {
-    let cells = parities(block);
-    differing(&cells, block)
+    let residues = residues::residues(block, residues::WORD_BLOCKS);
+    residues::wrong(&residues)
 }
 
 // Each inner word of the block is a code word.

@@ -1,13 +1,23 @@
 // The residues of the 64 inner words of a frame modulo the eight factors of the divisor, side by side: a number holds one coefficient of 64 residues. An
 // inner word is a code word just where all eight of its residues are zero, and the residues give its parity bits.
 use crate::inner_words::place;
+use words::Inner;
 ghost use mathlib.Core.Path.{_≡_};
 ghost use Prim.Native.Nat.{_+_, _*_, _≤_, _<_};
 ghost use lib.ListN.{length};
 ghost use Rattle.words.specs.Places.{at};
 ghost use Rattle.words.specs.InnerCode.{factors};
-ghost use Rattle.frames.specs.SideBySide.{placeAt};
-ghost use Rattle.frames.specs.InnerResidues.{cells, advanced, advancedBy, begun, residueOf};
+ghost use Rattle.frames.specs.Symbols.{Placed};
+ghost use Rattle.frames.specs.SideBySide.{placeAt, orTo};
+ghost use Rattle.frames.specs.InnerResidues.{cells, advanced, advancedBy, begun, residueOf, residuesOf};
+
+// Factors of the divisor, and the degree of each.
+const FACTORS: usize = 8;
+
+const DEGREE: usize = 11;
+
+// Blocks of eleven places that come after the first five in an inner word.
+pub const WORD_BLOCKS: usize = 185;
 
 // The eleven coefficients of 64 residues, the lowest power first.
 pub struct Lanes {
@@ -375,8 +385,67 @@ pub fn residue(j: usize, bytes: &[u8], blocks: usize) -> Lanes
     let mut s = first_five(bytes);
     let mut i: usize = 0;
     while i < blocks {
-        s = eleven(j, bytes, 5 + 11 * i, s);
+        s = eleven(j, bytes, 5 + DEGREE * i, s);
         i += 1;
     }
     s
+}
+
+fn numbers(s: Lanes) -> [u64; DEGREE]
+    ensures { λ r. ⌜ r ≡ cells s ⌝ }
+{
+    [
+        s.r0,
+        s.r1,
+        s.r2,
+        s.r3,
+        s.r4,
+        s.r5,
+        s.r6,
+        s.r7,
+        s.r8,
+        s.r9,
+        s.r10,
+    ]
+}
+
+// Stores the eleven numbers from place i on.
+fn put(numbers: &[u64], i: usize, out: &mut [u64])
+    requires { ⌜ (length (now numbers) ≡ 11) × (i + 11 ≤ length (now out)) ⌝ }
+    ensures { λ _. ⌜ Placed i (now (numbers .entry)) (now (out .entry)) (now (out .exit)) ⌝ }
+{
+    let mut k: usize = 0;
+    while k < DEGREE {
+        out[i + k] = numbers[k];
+        k += 1;
+    }
+}
+
+// The residues of the first 5 + 11 * blocks places modulo all eight factors, one after the other.
+pub fn residues(bytes: &[u8], blocks: usize) -> [u64; Inner::PARITY]
+    requires { ⌜ (blocks ≤ 185) × (40 + 88 * blocks ≤ length (now bytes)) ⌝ }
+    ensures { λ r. ⌜ r ≡ residuesOf (now (bytes .entry)) (5 + 11 * blocks) ⌝ }
+{
+    let mut out = [0u64; Inner::PARITY];
+    let mut j: usize = 0;
+    while j < FACTORS {
+        let numbers = numbers(residue(j, bytes, blocks));
+        put(&numbers, DEGREE * j, &mut out);
+        j += 1;
+    }
+    out
+}
+
+// The bits that are 1 in some of the residues of inner words of 2,040 places: those of the words that are no code words.
+pub fn wrong(residues: &[u64]) -> u64
+    requires { ⌜ length (now residues) ≡ 88 ⌝ }
+    ensures { λ r. ⌜ r ≡ orTo 88 (at (now (residues .entry))) ⌝ }
+{
+    let mut x: u64 = 0;
+    let mut i: usize = 0;
+    while i < Inner::PARITY {
+        x = x | residues[i];
+        i += 1;
+    }
+    x
 }

@@ -34,7 +34,7 @@ use Rattle.frames.proofs.Placing.{Placing, placing-start, placing-next,
 use Rattle.frames.proofs.FrameBits.{inner-word-length}
 use Rattle.frames.proofs.SideBySide.{place-bit, bit-product, bit-or, all-ones}
 use Rattle.frames.proofs.InnerSteps.{wrong-lt, wrong-not, wrong-bit}
-use Rattle.frames.proofs.InnerPass.{restored-some, restored-code}
+use Rattle.frames.proofs.InnerPass.{restored-some, restored-code, none-passed}
 
 -- ---- one place of every inner word, written
 
@@ -286,3 +286,10 @@ pub nearer-passed : (before mid after : List ℕ) → Nearer before mid → Inne
 unfolding innerPass
 nearer-passed before mid after n p =
     record { long = p .long ∙ n .long; bits = λ i b. p .bits i b ∙ ap (λ (w : List ℕ). at w (i / 64)) (n .word (i % 64) (omega arith)) }
+
+pub nearer-self : (before : List ℕ) → Nearer before before
+nearer-self before = record { long = refl; word = λ k l. refl }
+
+-- a proposal that leaves no wrong word is the pass
+pub nearer-done : (before after : List ℕ) (x : ℕ) → Nearer before after → x ≡ wrongWords (bitAt after) → x ≡ 0 → InnerPassed before after
+nearer-done before after x n told e = nearer-passed before after after n (none-passed after x told e)

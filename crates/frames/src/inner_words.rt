@@ -1,7 +1,9 @@
 // The 64 inner words of a frame, side by side: eight bytes are one place of them all, the bits of one number, so one register of 88 numbers holds 64
-// divisions by the divisor. It gives the parity bits, and tells which inner words of a block are no code words; those are corrected one by one.
+// divisions by the divisor. It gives the parity bits. Residues tell which inner words of a block are no code words; many of
+// those are corrected at once, few one by one.
 use crate::Frame;
 use crate::bits;
+use crate::proposals;
 use crate::residues;
 use words::bch;
 ghost use mathlib.Core.Path.{_≡_};
@@ -214,17 +216,22 @@ fn correct_each(wrong: u64, block: &mut [u8])
     }
 }
 
-// The inner pass: each inner word of the block becomes the code word within eight places; where there is none it is left as received. True only if all
-// inner words are code words then.
-pub fn correct(block: &mut [u8]) -> bool
-    requires { ⌜ length (now block) ≡ 16320 ⌝ }
+// The inner pass over a copy of the received block: each inner word becomes the code word within eight places; where there is none it is left as received.
+// True only if all inner words are code words then.
+pub fn correct(received: &[u8], block: &mut [u8]) -> bool
+    requires { ⌜ (length (now received) ≡ 16320) × (length (now block) ≡ 16320) × (now block ≡ now received) ⌝ }
     ensures passed { λ _. ⌜ InnerPassed (now (block .entry)) (now (block .exit)) ⌝ }
     ensures codes { λ r. ⌜ (r ≡ true → innerCodes (bitAt (now (block .exit))) ≡ true) ⌝ }
 {
-    let wrong = wrong_words(block);
+    let residues = residues::residues(block, residues::WORD_BLOCKS);
+    let wrong = residues::wrong(&residues);
     if wrong == 0 {
         return true;
     }
-    correct_each(wrong, block);
+    let left = proposals::correct(received, &residues, wrong, block);
+    if left == 0 {
+        return true;
+    }
+    correct_each(left, block);
     false
 }

@@ -3,6 +3,7 @@
 use crate::Frame;
 use crate::comparison;
 use crate::inner_words;
+use crate::side_by_side;
 ghost use mathlib.Core.Path.{_≡_};
 ghost use Prim.Native.Nat.{_+_, _*_, _≤_, _<_};
 ghost use lib.ListN.{length};
@@ -80,4 +81,47 @@ pub fn take(received: &[u8], wrong: u64, flips: &[u64], block: &mut [u8]) -> u64
     let back = wrong_now | beyond_radius(&counts);
     flip_places(flips, back, block);
     wrong & back
+}
+
+// More wrong inner words than this are worth a proposal; a proposal for one takes as long as for all.
+const FEW: usize = 10;
+
+// The number has more bits than that.
+fn has_many(x: u64) -> bool {
+    let mut y = x;
+    let mut i: usize = 0;
+    while i < FEW {
+        if y == 0 {
+            return false;
+        }
+        y = y & (y - 1);
+        i += 1;
+    }
+    y != 0
+}
+
+// A proposal to write into: its length is all that is promised.
+fn blank() -> [u64; words::Inner::PLACES]
+    ensures { λ r. ⌜ length r ≡ 2040 ⌝ }
+{
+    [0; words::Inner::PLACES]
+}
+
+// Where many inner words of the block are wrong, a proposal is made and taken; the wrong words that are left are the answer.
+pub fn correct(
+    received: &[u8],
+    residues: &[u64; words::Inner::PARITY],
+    wrong: u64,
+    block: &mut [u8],
+) -> u64
+    requires { ⌜ (length (now received) ≡ 16320) × (length (now block) ≡ 16320) ⌝ }
+    requires { ⌜ (now block ≡ now received) × (wrong ≡ wrongWords (bitAt (now block))) ⌝ }
+    ensures { λ r. ⌜ (r ≡ wrongWords (bitAt (now (block .exit)))) × Nearer (now (block .entry)) (now (block .exit)) ⌝ }
+{
+    if !has_many(wrong) {
+        return wrong;
+    }
+    let mut flips = blank();
+    side_by_side::propose(residues, wrong, &mut flips);
+    take(received, wrong, &flips, block)
 }

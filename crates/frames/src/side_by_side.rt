@@ -8,7 +8,9 @@
 // What comes out is a proposal, and nothing is promised of it but its size: how wrong places are found is free, and module `proposals` takes a word only
 // after a test.
 use crate::residues::Lanes;
+ghost use mathlib.Core.Path.{_≡_};
 ghost use Prim.Native.Nat.{_<_};
+ghost use lib.ListN.{length};
 
 // Bits of an element.
 const BITS: usize = 11;
@@ -388,7 +390,9 @@ fn zeros(x: Lanes, mask: u64) -> u64 {
 }
 
 // The wrong places, by polynomials of degree 2 at most: from one place to the next the term of degree i is multiplied by a^i.
-fn search_2(locator: &[u64; BANK], wrong: u64, flips: &mut [u64; PLACES]) {
+fn search_2(locator: &[u64; BANK], wrong: u64, flips: &mut [u64])
+    requires { ⌜ length (now flips) ≡ 2040 ⌝ }
+{
     let x0 = get(locator, 0);
     let mut x1 = first_term(locator, 1);
     let mut x2 = first_term(locator, 2);
@@ -401,54 +405,83 @@ fn search_2(locator: &[u64; BANK], wrong: u64, flips: &mut [u64; PLACES]) {
     }
 }
 
+// Four terms of a polynomial at a place.
+struct Terms {
+    x1: Lanes,
+    x2: Lanes,
+    x3: Lanes,
+    x4: Lanes,
+}
+
+fn total(t: Terms) -> Lanes {
+    sum(sum(t.x1, t.x2), sum(t.x3, t.x4))
+}
+
+// The terms of degree 1 to 4, and of degree 5 to 8, at the next place.
+fn next_low(t: Terms) -> Terms {
+    Terms {
+        x1: doubled(t.x1),
+        x2: times_a2(t.x2),
+        x3: times_a3(t.x3),
+        x4: times_a4(t.x4),
+    }
+}
+
+fn next_high(t: Terms) -> Terms {
+    Terms {
+        x1: times_a5(t.x1),
+        x2: times_a6(t.x2),
+        x3: times_a7(t.x3),
+        x4: times_a8(t.x4),
+    }
+}
+
+// The terms of degree i + 1 to i + 4 at place 0.
+fn first_terms(locator: &[u64; BANK], i: usize) -> Terms
+    requires { ⌜ i < 5 ⌝ }
+{
+    Terms {
+        x1: first_term(locator, i + 1),
+        x2: first_term(locator, i + 2),
+        x3: first_term(locator, i + 3),
+        x4: first_term(locator, i + 4),
+    }
+}
+
 // The same of degree 4 at most.
-fn search_4(locator: &[u64; BANK], wrong: u64, flips: &mut [u64; PLACES]) {
+fn search_4(locator: &[u64; BANK], wrong: u64, flips: &mut [u64])
+    requires { ⌜ length (now flips) ≡ 2040 ⌝ }
+{
     let x0 = get(locator, 0);
-    let mut x1 = first_term(locator, 1);
-    let mut x2 = first_term(locator, 2);
-    let mut x3 = first_term(locator, 3);
-    let mut x4 = first_term(locator, 4);
+    let mut low = first_terms(locator, 0);
     let mut p: usize = 0;
     while p < PLACES {
-        flips[p] = zeros(sum(x0, sum(sum(x1, x2), sum(x3, x4))), wrong);
-        x1 = doubled(x1);
-        x2 = times_a2(x2);
-        x3 = times_a3(x3);
-        x4 = times_a4(x4);
+        flips[p] = zeros(sum(x0, total(low)), wrong);
+        low = next_low(low);
         p += 1;
     }
 }
 
 // The same of degree 8.
-fn search_8(locator: &[u64; BANK], wrong: u64, flips: &mut [u64; PLACES]) {
+fn search_8(locator: &[u64; BANK], wrong: u64, flips: &mut [u64])
+    requires { ⌜ length (now flips) ≡ 2040 ⌝ }
+{
     let x0 = get(locator, 0);
-    let mut x1 = first_term(locator, 1);
-    let mut x2 = first_term(locator, 2);
-    let mut x3 = first_term(locator, 3);
-    let mut x4 = first_term(locator, 4);
-    let mut x5 = first_term(locator, 5);
-    let mut x6 = first_term(locator, 6);
-    let mut x7 = first_term(locator, 7);
-    let mut x8 = first_term(locator, 8);
+    let mut low = first_terms(locator, 0);
+    let mut high = first_terms(locator, 4);
     let mut p: usize = 0;
     while p < PLACES {
-        let low = sum(sum(x1, x2), sum(x3, x4));
-        let high = sum(sum(x5, x6), sum(x7, x8));
-        flips[p] = zeros(sum(x0, sum(low, high)), wrong);
-        x1 = doubled(x1);
-        x2 = times_a2(x2);
-        x3 = times_a3(x3);
-        x4 = times_a4(x4);
-        x5 = times_a5(x5);
-        x6 = times_a6(x6);
-        x7 = times_a7(x7);
-        x8 = times_a8(x8);
+        flips[p] = zeros(sum(x0, sum(total(low), total(high))), wrong);
+        low = next_low(low);
+        high = next_high(high);
         p += 1;
     }
 }
 
 // Writes the places to be inverted in the wrong inner words: bit k of number p, the highest first, is 1 where word k is to be inverted in place p.
-pub fn propose(residues: &[u64; RESIDUES], wrong: u64, flips: &mut [u64; PLACES]) {
+pub fn propose(residues: &[u64; RESIDUES], wrong: u64, flips: &mut [u64])
+    requires { ⌜ length (now flips) ≡ 2040 ⌝ }
+{
     let mut bank = [0u64; BANK];
     syndromes(residues, &mut bank);
     let mut locator = [0u64; BANK];

@@ -1,38 +1,60 @@
 -- `frames::inner_words::correct` meets its contract. Assumes nothing.
-use mathlib.Core.Path.{ap}
-use mathlib.Core.Bool.{Bool, cond}
-use Prim.Native.Nat.{ℕ}
-use native.Mathlib.Omega.{arith}
 use borrow.Author.Needs.{needs}
+use Rattle.frames.proofs.ResidueCodes.{words-wrong}
 use Rattle.frames.proofs.InnerPass.{none-codes, none-passed}
+use Rattle.frames.proofs.TakenProposals.{nearer-passed, nearer-done}
+use native.Mathlib.Omega.{arith}
+use Prim.Native.Nat.{ℕ}
+use mathlib.Core.Bool.{Bool, cond}
+use mathlib.Core.Path.{ap}
 use Rattle.frames.proofs.inner_words.correct.Statement.{statement}
 use Rattle.frames.proofs.inner_words.correct.Tie as tie
 
-wrong-words-requires : tie.Need-wrong-words-requires
-wrong-words-requires c κs = search needs
+residues-requires : tie.Need-residues-requires
+residues-requires c κs = search needs
+
+slice-aggregate-wrong : tie.Need-slice-aggregate-wrong
+slice-aggregate-wrong c = search needs
+
+wrong-requires : tie.Need-wrong-requires
+wrong-requires c κs = search needs
 
 same-length : tie.Need-same-length
 same-length c = search needs
 
 returns : tie.Need-returns
-returns c = (search (needs, none-passed), λ t. search (needs, none-codes))
+returns c = (search (needs, words-wrong, none-passed), λ t. search (needs, words-wrong, none-codes))
 
-correct-each-requires : tie.Need-correct-each-requires
-correct-each-requires c κs = search needs
+correct-requires : tie.Need-correct-requires
+correct-requires c κs = search (needs, words-wrong)
 
 same-length-2 : tie.Need-same-length-2
 same-length-2 c = search needs
 
 returns-2 : tie.Need-returns-2
-returns-2 c = (search needs, λ t. absurd (omega (arith, ap {B = ℕ} (λ (x : Bool). cond x 1 0) t)))
+returns-2 c = (search (needs, nearer-done), λ t. search (needs, none-codes))
+
+correct-each-requires : tie.Need-correct-each-requires
+correct-each-requires c κs = search needs
+
+same-length-3 : tie.Need-same-length-3
+same-length-3 c = search needs
+
+returns-3 : tie.Need-returns-3
+returns-3 c = (search (needs, nearer-passed), λ t. absurd (omega (arith, ap {B = ℕ} (λ (x : Bool). cond x 1 0) t)))
 
 pub correct-spec : {M : Type 1} → statement M
 correct-spec =
     tie.close
     (tie.spec
-    wrong-words-requires
+    residues-requires
+    slice-aggregate-wrong
+    wrong-requires
     same-length
     returns
-    correct-each-requires
+    correct-requires
     same-length-2
-    returns-2)
+    returns-2
+    correct-each-requires
+    same-length-3
+    returns-3)

@@ -1,11 +1,13 @@
 -- `frames::side_by_side::search_2` meets its contract. Assumes nothing.
 use borrow.Author.Needs.{needs}
+use lib.ListN.{length}
+use mathlib.Core.Path.{_≡_}
 use Prim.Native.Nat.{_-_, _≤_}
 use Rattle.frames.proofs.side_by_side.search_2.Statement.{statement}
 use Rattle.frames.proofs.side_by_side.search_2.Tie as tie
 
 abbrev Inv-loop : tie.InvT-loop
-Inv-loop locator wrong flips₀ x0 x1₀ x2₀ p₀ flips x1 x2 p = p ≤ 2040
+Inv-loop locator wrong flips₀ x0 x1₀ x2₀ p₀ flips x1 x2 p = (p ≤ 2040) × (length flips ≡ 2040)
 
 abbrev μ-loop : tie.MeasureT-loop
 μ-loop locator wrong flips₀ x0 x1₀ x2₀ p₀ flips x1 x2 p = 2040 - p
@@ -34,8 +36,8 @@ zeros-requires c κs = search needs
 mul-flips : tie.Need-mul-flips Inv-loop μ-loop
 mul-flips c = search needs
 
-element-write-flips : tie.Need-element-write-flips Inv-loop μ-loop
-element-write-flips c = search needs
+slice-write-flips : tie.Need-slice-write-flips Inv-loop μ-loop
+slice-write-flips c = search needs
 
 doubled-requires : tie.Need-doubled-requires Inv-loop μ-loop
 doubled-requires c κs = search needs
@@ -51,6 +53,9 @@ loop-less c = search needs
 
 loop-again : tie.Need-loop-again Inv-loop μ-loop
 loop-again c = search needs
+
+same-length : tie.Need-same-length Inv-loop μ-loop
+same-length c = search needs
 
 returns : tie.Need-returns Inv-loop μ-loop
 returns c = search needs
@@ -69,10 +74,11 @@ search-2-spec =
     sum-requires-2
     zeros-requires
     mul-flips
-    element-write-flips
+    slice-write-flips
     doubled-requires
     times-a2-requires
     add-p
     loop-less
     loop-again
+    same-length
     returns)

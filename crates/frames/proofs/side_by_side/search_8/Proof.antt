@@ -1,46 +1,34 @@
 -- `frames::side_by_side::search_8` meets its contract. Assumes nothing.
 use borrow.Author.Needs.{needs}
+use lib.ListN.{length}
+use mathlib.Core.Path.{_≡_}
 use Prim.Native.Nat.{_-_, _≤_}
 use Rattle.frames.proofs.side_by_side.search_8.Statement.{statement}
 use Rattle.frames.proofs.side_by_side.search_8.Tie as tie
 
 abbrev Inv-loop : tie.InvT-loop
-Inv-loop locator wrong flips₀ x0 x1₀ x2₀ x3₀ x4₀ x5₀ x6₀ x7₀ x8₀ p₀ flips x1 x2 x3 x4 x5 x6 x7 x8 p =
-    ?
+Inv-loop locator wrong flips₀ x0 low₀ high₀ p₀ flips low high p = (p ≤ 2040) × (length flips ≡ 2040)
 
 abbrev μ-loop : tie.MeasureT-loop
-μ-loop locator wrong flips₀ x0 x1₀ x2₀ x3₀ x4₀ x5₀ x6₀ x7₀ x8₀ p₀ flips x1 x2 x3 x4 x5 x6 x7 x8 p =
-    ?
+μ-loop locator wrong flips₀ x0 low₀ high₀ p₀ flips low high p = 2040 - p
 
 get-requires : tie.Need-get-requires Inv-loop μ-loop
 get-requires c κs = search needs
 
-first-term-requires : tie.Need-first-term-requires Inv-loop μ-loop
-first-term-requires c κs = search needs
+first-terms-requires : tie.Need-first-terms-requires Inv-loop μ-loop
+first-terms-requires c κs = search needs
 
-first-term-requires-2 : tie.Need-first-term-requires-2 Inv-loop μ-loop
-first-term-requires-2 c κs = search needs
-
-first-term-requires-3 : tie.Need-first-term-requires-3 Inv-loop μ-loop
-first-term-requires-3 c κs = search needs
-
-first-term-requires-4 : tie.Need-first-term-requires-4 Inv-loop μ-loop
-first-term-requires-4 c κs = search needs
-
-first-term-requires-5 : tie.Need-first-term-requires-5 Inv-loop μ-loop
-first-term-requires-5 c κs = search needs
-
-first-term-requires-6 : tie.Need-first-term-requires-6 Inv-loop μ-loop
-first-term-requires-6 c κs = search needs
-
-first-term-requires-7 : tie.Need-first-term-requires-7 Inv-loop μ-loop
-first-term-requires-7 c κs = search needs
-
-first-term-requires-8 : tie.Need-first-term-requires-8 Inv-loop μ-loop
-first-term-requires-8 c κs = search needs
+first-terms-requires-2 : tie.Need-first-terms-requires-2 Inv-loop μ-loop
+first-terms-requires-2 c κs = search needs
 
 loop-holds : tie.Need-loop-holds Inv-loop μ-loop
 loop-holds c = search needs
+
+total-requires : tie.Need-total-requires Inv-loop μ-loop
+total-requires c κs = search needs
+
+total-requires-2 : tie.Need-total-requires-2 Inv-loop μ-loop
+total-requires-2 c κs = search needs
 
 sum-requires : tie.Need-sum-requires Inv-loop μ-loop
 sum-requires c κs = search needs
@@ -48,56 +36,20 @@ sum-requires c κs = search needs
 sum-requires-2 : tie.Need-sum-requires-2 Inv-loop μ-loop
 sum-requires-2 c κs = search needs
 
-sum-requires-3 : tie.Need-sum-requires-3 Inv-loop μ-loop
-sum-requires-3 c κs = search needs
-
-sum-requires-4 : tie.Need-sum-requires-4 Inv-loop μ-loop
-sum-requires-4 c κs = search needs
-
-sum-requires-5 : tie.Need-sum-requires-5 Inv-loop μ-loop
-sum-requires-5 c κs = search needs
-
-sum-requires-6 : tie.Need-sum-requires-6 Inv-loop μ-loop
-sum-requires-6 c κs = search needs
-
-sum-requires-7 : tie.Need-sum-requires-7 Inv-loop μ-loop
-sum-requires-7 c κs = search needs
-
-sum-requires-8 : tie.Need-sum-requires-8 Inv-loop μ-loop
-sum-requires-8 c κs = search needs
-
 zeros-requires : tie.Need-zeros-requires Inv-loop μ-loop
 zeros-requires c κs = search needs
 
 mul-flips : tie.Need-mul-flips Inv-loop μ-loop
 mul-flips c = search needs
 
-element-write-flips : tie.Need-element-write-flips Inv-loop μ-loop
-element-write-flips c = search needs
+slice-write-flips : tie.Need-slice-write-flips Inv-loop μ-loop
+slice-write-flips c = search needs
 
-doubled-requires : tie.Need-doubled-requires Inv-loop μ-loop
-doubled-requires c κs = search needs
+next-low-requires : tie.Need-next-low-requires Inv-loop μ-loop
+next-low-requires c κs = search needs
 
-times-a2-requires : tie.Need-times-a2-requires Inv-loop μ-loop
-times-a2-requires c κs = search needs
-
-times-a3-requires : tie.Need-times-a3-requires Inv-loop μ-loop
-times-a3-requires c κs = search needs
-
-times-a4-requires : tie.Need-times-a4-requires Inv-loop μ-loop
-times-a4-requires c κs = search needs
-
-times-a5-requires : tie.Need-times-a5-requires Inv-loop μ-loop
-times-a5-requires c κs = search needs
-
-times-a6-requires : tie.Need-times-a6-requires Inv-loop μ-loop
-times-a6-requires c κs = search needs
-
-times-a7-requires : tie.Need-times-a7-requires Inv-loop μ-loop
-times-a7-requires c κs = search needs
-
-times-a8-requires : tie.Need-times-a8-requires Inv-loop μ-loop
-times-a8-requires c κs = search needs
+next-high-requires : tie.Need-next-high-requires Inv-loop μ-loop
+next-high-requires c κs = search needs
 
 add-p : tie.Need-add-p Inv-loop μ-loop
 add-p c = search needs
@@ -106,7 +58,10 @@ loop-less : tie.Need-loop-less Inv-loop μ-loop
 loop-less c = search needs
 
 loop-again : tie.Need-loop-again Inv-loop μ-loop
-loop-again c = search needs
+loop-again c = (search needs, search (needs, c .before .before .before .before .before .before .before .before .loop .inv .1))
+
+same-length : tie.Need-same-length Inv-loop μ-loop
+same-length c = search needs
 
 returns : tie.Need-returns Inv-loop μ-loop
 returns c = search needs
@@ -118,35 +73,20 @@ search-8-spec =
     Inv-loop
     μ-loop
     get-requires
-    first-term-requires
-    first-term-requires-2
-    first-term-requires-3
-    first-term-requires-4
-    first-term-requires-5
-    first-term-requires-6
-    first-term-requires-7
-    first-term-requires-8
+    first-terms-requires
+    first-terms-requires-2
     loop-holds
+    total-requires
+    total-requires-2
     sum-requires
     sum-requires-2
-    sum-requires-3
-    sum-requires-4
-    sum-requires-5
-    sum-requires-6
-    sum-requires-7
-    sum-requires-8
     zeros-requires
     mul-flips
-    element-write-flips
-    doubled-requires
-    times-a2-requires
-    times-a3-requires
-    times-a4-requires
-    times-a5-requires
-    times-a6-requires
-    times-a7-requires
-    times-a8-requires
+    slice-write-flips
+    next-low-requires
+    next-high-requires
     add-p
     loop-less
     loop-again
+    same-length
     returns)

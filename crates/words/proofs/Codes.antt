@@ -5,6 +5,8 @@ pub mod BinaryRegister
 pub mod Lent
 pub mod Division
 pub mod OuterWords
+pub mod Packing
+pub mod UnitParities
 pub mod Squares
 pub mod LeastPolynomials
 pub mod InnerWords

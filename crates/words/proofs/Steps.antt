@@ -1,6 +1,7 @@
 -- What each loop and each way through a function keeps.
 pub mod Loops
 pub mod Digits
+pub mod Joining
 pub mod Shifting
 pub mod Limbs
 pub mod LimbProducts

@@ -8,6 +8,7 @@ pub mod Codes
 -- what the functions below the entries give
 pub mod ByTables
 pub mod Division
+pub mod SixSymbols
 pub mod Limbs
 pub mod Decoder
 pub mod DecoderSteps

@@ -20,6 +20,7 @@ ghost use Rattle.words.specs.Answers.{outerChecked, outerEncoded, innerC
 pub mod bch;
 mod decoder;
 pub mod division;
+pub mod packed;
 pub mod reed_solomon;
 
 // The outer code. Lengths are counted in symbols.

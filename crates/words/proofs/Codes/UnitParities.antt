@@ -1,0 +1,154 @@
+-- The parities of single bits are right by one test that is computed over the whole table: those of the last symbol by a step from the empty register, and
+-- each other one by a step from that of the same bit a symbol later. Assumes nothing.
+use mathlib.Core.Path.{_≡_, refl, sym, ap, ap₂, _∙_}
+use mathlib.Core.Bool.{Bool, true, _&&_, and-eq-true-iff}
+use mathlib.Core.List.{List, [], _∷_}
+use Prim.Native.Nat.{ℕ, zero, suc, _+_, _-_, _*_, _/_, _%_, _^_, _≤_, _<_}
+use native.Mathlib.Nat.{mod-eq-of-lt}
+use native.Mathlib.Omega.{arith}
+use borrow.Author.Tests.{eqb-true}
+use lib.Dec.{eqb, lit<}
+use lib.ListN.{length}
+use lib.Pow.{pow-add, pow-lt, pow-mono, shr-shr}
+use Rattle.fields.specs.Elements.{xor, scale, doubled, timesFrom, times, power, timesA}
+use Rattle.fields.specs.Lists.{tabulate}
+use Rattle.fields.proofs.Instances.{field-a}
+use Rattle.fields.proofs.Lists.{tabulate-at, tabulate-is, tabulate-same}
+use Rattle.fields.proofs.Xor.{xor-zero-l, additive-zero}
+use Rattle.words.specs.Places.{at, every, horner}
+use Rattle.words.specs.OuterCode.{withRoot, withRoots, generator, shiftedIn, divided}
+use Rattle.words.specs.SixSymbols.{joined, joinedFrom, symbolOf, six, sixParity, unitParities}
+use Rattle.words.proofs.Places.Tests.{every-at}
+use Rattle.words.proofs.Codes.Lent.{divided-lt}
+use Rattle.words.proofs.Codes.Packing.{symbol-at, divided-same, divided-late, parity-joined, no-cells}
+use Rattle.words.proofs.Codes.OuterWords.{generator-lt}
+
+-- the coefficients of the generator, written out so that a test computes them once
+abbrev pub coefficients : List ℕ
+coefficients = 1 ∷ 568 ∷ 550 ∷ 748 ∷ 724 ∷ 650 ∷ 1005 ∷ 744 ∷ 27 ∷ 204 ∷ 617 ∷ 218 ∷ 595 ∷ 461 ∷ 746 ∷ 960 ∷ 888 ∷ []
+
+coefficients-are : coefficients ≡ generator
+unfolding generator withRoots withRoot tabulate xor scale doubled times timesFrom power
+coefficients-are = refl
+
+-- a step of the division
+abbrev stepBy : List ℕ → List ℕ → ℕ → List ℕ
+stepBy g = shiftedIn timesA 16 (at g)
+
+abbrev step : List ℕ → ℕ → List ℕ
+step = stepBy generator
+
+step-same : (p q : List ℕ) (s : ℕ) → ((i : ℕ) → i < 17 → at p i ≡ at q i) → step p s ≡ step q s
+unfolding shiftedIn
+step-same p q s h =
+    tabulate-same 16 _ _ (λ i l. ap₂ (λ (x y : ℕ). xor x (timesA (xor y s) (at generator (suc i)))) (h (suc i) (omega arith)) (h 0 (lit< tt)))
+
+-- a single symbol
+parity-one : (x : ℕ) → x < 1024 → sixParity x ≡ step [] x
+unfolding joined horner divided
+parity-one x h =
+    ap sixParity (sym (xor-zero-l x)) ∙ parity-joined (λ i. x) (λ i. h) 1 (omega arith)
+    ∙ step-same (tabulate 16 (λ i. 0)) [] x (λ i l. no-cells 16 i)
+
+-- symbols that stand a symbol further ahead
+parity-ahead : (x : ℕ) → x < 2 ^ 50 → sixParity (x * 1024) ≡ step (sixParity x) 0
+unfolding sixParity symbolOf divided
+parity-ahead x h =
+    let last : x * 1024 / 2 ^ (10 * (5 - 5)) % 1024 ≡ 0 = omega arith in
+    let none : x / 2 ^ (10 * (5 - 0)) % 1024 ≡ 0 = omega arith in
+    ap₂ step
+    (divided-same timesA 16 (at generator) (symbolOf (x * 1024)) (λ j. symbolOf x (1 + j)) 5 moved
+    ∙ sym (divided-late timesA 16 (at generator) (λ y. additive-zero (λ x. timesA x y) (λ u v. field-a .sum-times u v y)) (symbolOf x) 1 (first none) 5))
+    last
+  where
+    moved : (j : ℕ) → j < 5 → x * 1024 / 2 ^ (10 * (5 - j)) % 1024 ≡ x / 2 ^ (10 * (5 - (1 + j))) % 1024
+    moved j l =
+        let e : 10 * (5 - j) ≡ 10 + 10 * (5 - (1 + j)) = omega arith in
+        let q : x * 1024 / 2 ^ 10 ≡ x = omega arith in
+        rw (e, ← shr-shr, q)
+
+    first : x / 2 ^ (10 * (5 - 0)) % 1024 ≡ 0 → (i : ℕ) → i < 1 → x / 2 ^ (10 * (5 - i)) % 1024 ≡ 0
+    first none i l = let e : i ≡ 0 = omega arith in rw e none
+
+parity-lt : (x i : ℕ) → at (sixParity x) i < 1024
+unfolding sixParity symbolOf
+parity-lt x = divided-lt 10 1033 field-a 16 (at generator) (symbolOf x) generator-lt (λ i. omega arith) 6
+
+six-symbol : (x k i : ℕ) → i < 6 → symbolOf (six (sixParity x) k) i ≡ at (sixParity x) (k + i)
+unfolding symbolOf joinedFrom
+six-symbol x k i h =
+    let e : 10 * (5 - i) ≡ 10 * (6 - suc i) = omega arith in
+    rw e (symbol-at (λ j. at (sixParity x) (k + j)) (λ j. parity-lt x (k + j)) 6 i h)
+
+module _ (g us : List ℕ) where
+  -- the cells of the parity of bit i, as they stand in the table; and whether its three numbers are those of a register
+  abbrev pub cellsAt : ℕ → List ℕ
+  cellsAt i = tabulate 18 (λ j. symbolOf (at us (60 * (j / 6) + i)) (j % 6))
+
+  abbrev pub holds : ℕ → List ℕ → Bool
+  holds i r = every 3 (λ k. eqb (at us (60 * k + i)) (six r (6 * k)))
+
+  abbrev pub begun : Bool
+  begun = every 10 (λ i. holds i (stepBy g [] (2 ^ i)))
+
+  abbrev pub continued : Bool
+  continued = every 50 (λ i. holds (10 + i) (stepBy g (cellsAt i) 0))
+
+  -- the whole test
+  abbrev tested : Bool
+  tested = begun && continued
+
+  module _ (e : g ≡ generator) (b : begun ≡ true) (c : continued ≡ true) where
+    abbrev Unit : ℕ → Type 0
+    Unit i = (k : ℕ) → k < 3 → at us (60 * k + i) ≡ six (sixParity (2 ^ i)) (6 * k)
+
+    unit-first : (i : ℕ) → i < 10 → Unit i
+    unit-first i h k l =
+        eqb-true _ _ (every-at 3 (λ k. eqb (at us (60 * k + i)) (six (stepBy g [] (2 ^ i)) (6 * k))) (every-at 10 (λ i. holds i (stepBy g [] (2 ^ i))) b i h) k l)
+        ∙ ap (λ (r : List ℕ). six r (6 * k)) (rw e (sym (parity-one (2 ^ i) (pow-lt {i = i} {j = 10} h))))
+
+    cell-same : (i : ℕ) → Unit i → (j : ℕ) → j < 17 → at (cellsAt i) j ≡ at (sixParity (2 ^ i)) j
+    cell-same i u j h =
+        let z : 6 * (j / 6) + j % 6 ≡ j = omega arith in
+        tabulate-at 18 _ j 0 (omega arith) ∙ ap (λ (x : ℕ). symbolOf x (j % 6)) (u (j / 6) (omega arith))
+        ∙ six-symbol (2 ^ i) (6 * (j / 6)) (j % 6) (omega arith) ∙ ap (at (sixParity (2 ^ i))) z
+
+    unit-next : (i : ℕ) → i < 50 → Unit i → Unit (10 + i)
+    unit-next i h u k l =
+        let r = stepBy g (cellsAt i) 0 in
+        let small : 2 ^ i < 2 ^ 50 = pow-lt {i = i} {j = 50} h in
+        let p : 2 ^ (10 + i) ≡ 2 ^ i * 1024 = pow-add 2 10 i ∙ omega arith in
+        eqb-true _ _ (every-at 3 (λ k. eqb (at us (60 * k + (10 + i))) (six r (6 * k))) (every-at 50 (λ i. holds (10 + i) (stepBy g (cellsAt i) 0)) c i h) k l)
+        ∙ ap (λ (r : List ℕ). six r (6 * k)) (rw e (step-same (cellsAt i) (sixParity (2 ^ i)) 0 (cell-same i u)) ∙ sym (ap sixParity p ∙ parity-ahead (2 ^ i) small))
+
+    unit-at : (q i : ℕ) → i < 10 → 10 * q + i < 60 → Unit (10 * q + i)
+    unit-at zero i h l = let z : 10 * 0 + i ≡ i = omega arith in rw z (unit-first i h)
+    unit-at (suc q) i h l =
+        let z : 10 * suc q + i ≡ 10 + (10 * q + i) = omega arith in
+        rw z (unit-next (10 * q + i) (omega arith) (unit-at q i h (omega arith)))
+
+    units-are : length us ≡ 180 → us ≡ unitParities
+    unfolding unitParities
+    units-are long = tabulate-is 180 _ us 0 long entry
+      where
+        entry : (n : ℕ) → n < 180 → at us n ≡ six (sixParity (2 ^ (n % 60))) (6 * (n / 60))
+        entry n h =
+            let i = n % 60 in
+            let z : 10 * (i / 10) + i % 10 ≡ i = omega arith in
+            let whole : 60 * (n / 60) + i ≡ n = omega arith in
+            let u : Unit i = rw z at (unit-at (i / 10) (i % 10) (omega arith) (omega arith)) in
+            ap (at us) (sym whole) ∙ u (n / 60) (omega arith)
+
+-- the test of a table that is computed first, and once
+abbrev pub right : List ℕ → Bool
+right [] = tested coefficients []
+right (u ∷ us) = tested coefficients (u ∷ us)
+
+are-right : (us : List ℕ) → length us ≡ 180 → tested coefficients us ≡ true → us ≡ unitParities
+are-right us long t =
+    let both = and-eq-true-iff (begun coefficients us) (continued coefficients us) .0 t in
+    units-are coefficients us coefficients-are (both .0) (both .1) long
+
+pub units-right : (us : List ℕ) → length us ≡ 180 → right us ≡ true → us ≡ unitParities
+units-right [] long t = are-right [] long t
+units-right (u ∷ us) long t = are-right (u ∷ us) long t

@@ -1,0 +1,219 @@
+-- Division six symbols at a step: the table is stored, symbols are joined, and the register moves on. Assumes nothing.
+use mathlib.Core.Path.{_≡_, refl, sym, ap, ap₂, _∙_}
+use mathlib.Core.Bool.{true}
+use mathlib.Core.List.{List}
+use Prim.Native.Nat.{ℕ, zero, suc, _+_, _-_, _*_, _/_, _%_, _^_, _≤_, _<_}
+use native.Mathlib.Decide.{ℕ-discrete}
+use native.Mathlib.Nat.{mod-eq-of-lt, mod-lt, not-suc-le-zero, zero-add}
+use native.Mathlib.Numerals.{add-one}
+use native.Mathlib.Omega.{arith}
+use lib.Bits as Bits
+use lib.Dec.{lit<}
+use lib.ListN.{length, getD, set, length-set}
+use lib.Pow.{pow-add, pow-mono, pow-pos}
+use lib.Seq.{getD-set-same, getD-set-other}
+use Rattle.fields.specs.Elements.{xor, timesA}
+use Rattle.fields.specs.Lists.{tabulate}
+use Rattle.fields.proofs.Lists.{tabulate-at, tabulate-is, tabulate-length}
+use Rattle.fields.proofs.Xor.{xor-lt, xor-comm, xor-shifted, additive-zero}
+use Rattle.words.specs.Places.{at, allBelow, horner}
+use Rattle.words.specs.OuterCode.{generator, divided, outerParity}
+use Rattle.words.specs.SixSymbols.{joined, joinedFrom, six, Packs, sixParity, parityEntry, parities, unitParities, Stored}
+use Rattle.words.proofs.Places.Tests.{below-at}
+use Rattle.words.proofs.Codes.Packing.{shift-sum, parity-sum, joined-same, joined-lt, parity-joined, high-lt, packs-more, entry-is, six-digit}
+use Rattle.words.proofs.Steps.Loops.{dividedUpTo}
+
+module _ (w : List ℕ) (i : ℕ) where
+  pub joined-none : 0 ≡ joinedFrom w i 0
+  unfolding joinedFrom joined horner
+  joined-none = refl
+
+  module _ (small : allBelow 1024 w ≡ true) where
+    symbol-lt : (k : ℕ) → at w (i + k) < 1024
+    symbol-lt k = below-at 1024 w (lit< tt) small (i + k)
+
+    pub joined-small : (x j n : ℕ) → x ≡ joinedFrom w i j → j ≤ n → n ≤ 6 → x < 2 ^ 60
+    unfolding joinedFrom
+    joined-small x j n e l h =
+        let le : 2 ^ (10 * j) ≤ 2 ^ 60 = pow-mono {i = 10 * j} {j = 60} (omega arith) in
+        omega (arith, joined-lt (λ k. at w (i + k)) symbol-lt j)
+
+    pub joined-next : (x j n s y : ℕ) → x ≡ joinedFrom w i j → j < n → n ≤ 6 → s ≡ getD w (i + j) 0 → y ≡ xor (x * 2 ^ 10 % 2 ^ 64) s →
+        y ≡ joinedFrom w i (j + 1)
+    unfolding joinedFrom joined horner
+    joined-next x j n s y so-far l h es e =
+        let le : 2 ^ (10 * j) ≤ 2 ^ 50 = pow-mono {i = 10 * j} {j = 50} (omega arith) in
+        let fits : x * 2 ^ 10 % 2 ^ 64 ≡ x * 2 ^ 10 = mod-eq-of-lt (omega (arith, joined-lt (λ k. at w (i + k)) symbol-lt j)) in
+        e ∙ ap₂ xor (fits ∙ ap (λ (z : ℕ). z * 1024) so-far) es ∙ sym (ap (joined (λ k. at w (i + k))) (add-one j))
+
+  pub joined-end : (x j n : ℕ) → x ≡ joinedFrom w i j → j ≤ n → n ≤ j → x ≡ joinedFrom w i n
+  joined-end x j n so-far lo hi = let e : j ≡ n = omega arith in rw e at so-far
+
+pub digit-masked : (x : ℕ) → Bits.bitAnd x 63 ≡ x % 64
+digit-masked x = Bits.and-mask x 6
+
+pub sum-six : (h x f : ℕ) → f ≡ xor h x → h < 2 ^ 60 → x < 2 ^ 60 → f < 2 ^ 60
+sum-six h x f e hh hx = rw e (xor-lt 60 h x hh hx)
+
+pub parities-long : (t : List ℕ) → t ≡ parities → length t ≡ 1920
+unfolding parities
+parities-long t e = rw e (tabulate-length 1920 parityEntry)
+
+pub digit-row : (x d v : ℕ) → d < 10 → v ≡ x / 2 ^ (6 * d) % 64 → 64 * d + v < 640
+digit-row x d v h e =
+    let small : x / 2 ^ (6 * d) % 64 < 64 = mod-lt (x / 2 ^ (6 * d)) (lit< tt) in
+    omega arith
+
+-- the parity of the first digits
+module _ (x h m l : ℕ) where
+  pub parity-none : h ≡ 0 → m ≡ 0 → l ≡ 0 → Packs h m l (sixParity (x % 2 ^ (6 * 0)))
+  parity-none eh em el =
+      let none : x % 2 ^ (6 * 0) ≡ 0 = omega arith in
+      let z : (k : ℕ) → six (sixParity (x % 2 ^ (6 * 0))) k ≡ 0 = λ k. rw none (additive-zero (λ y. six (sixParity y) k) (parity-sum k)) in
+      record { high-six = eh ∙ sym (z 0); middle-six = em ∙ sym (z 6); low-six = el ∙ sym (z 12) }
+
+  module _ (d : ℕ) (so-far : Packs h m l (sixParity (x % 2 ^ (6 * d)))) where
+    pub parity-next : (table : List ℕ) (v a b c : ℕ) → table ≡ parities → d < 10 → v ≡ x / 2 ^ (6 * d) % 64 →
+        a ≡ xor h (getD table (64 * d + v) 0) → b ≡ xor m (getD table (64 * d + v + 640) 0) → c ≡ xor l (getD table (64 * d + v + 1280) 0) →
+        Packs a b c (sixParity (x % 2 ^ (6 * (d + 1))))
+    parity-next table v a b c et hd ev ea eb ec =
+        let n = 64 * d + v in
+        let n0 : 640 * 0 + n ≡ n = omega arith in
+        let n1 : 640 * 1 + n ≡ n + 640 = omega arith in
+        let n2 : 640 * 2 + n ≡ n + 1280 = omega arith in
+        record {
+          high-six = ea ∙ ap₂ xor (so-far .high-six) (rw (et, n0)) ∙ sym (six-digit x d hd 0 v (lit< tt) ev);
+          middle-six = eb ∙ ap₂ xor (so-far .middle-six) (rw (et, n1)) ∙ sym (six-digit x d hd 1 v (lit< tt) ev);
+          low-six = ec ∙ ap₂ xor (so-far .low-six) (rw (et, n2)) ∙ sym (six-digit x d hd 2 v (lit< tt) ev);
+        }
+
+    pub parity-end : d ≤ 10 → 10 ≤ d → x < 2 ^ 60 → Packs h m l (sixParity x)
+    parity-end lo hi lt =
+        let e : d ≡ 10 = omega arith in
+        let whole : x % 2 ^ (6 * d) ≡ x = rw e (mod-eq-of-lt lt) in
+        rw whole at so-far
+
+-- entries of a row: that of no bit, and that of a digit with one more bit above the others
+module _ (r : ℕ) where
+  abbrev place : ℕ
+  place = 6 * (r % 10)
+
+  row-entry : (v : ℕ) → v < 64 → parityEntry (64 * r + v) ≡ six (sixParity (v * 2 ^ place)) (6 * (r / 10))
+  row-entry v h =
+      let e : 640 * (r / 10) + (64 * (r % 10) + v) ≡ 64 * r + v = omega arith in
+      rw (← e) (entry-is (r / 10) (r % 10) v (mod-lt r (lit< tt)) h)
+
+  pub entry-none : 0 ≡ parityEntry (64 * r)
+  entry-none =
+      let z : 64 * r + 0 ≡ 64 * r = omega arith in
+      let n : 0 * 2 ^ place ≡ 0 = omega arith in
+      sym (rw z at (row-entry 0 (lit< tt)) ∙ ap (λ (x : ℕ). six (sixParity x) (6 * (r / 10))) n ∙ additive-zero (λ x. six (sixParity x) (6 * (r / 10))) (parity-sum (6 * (r / 10))))
+
+  module _ (b : ℕ) (hb : b < 6) where
+    pub bit-few : 2 ^ b ≤ 32
+    bit-few = pow-mono {i = b} {j = 5} (omega arith)
+
+    pub bit-width : 1 * 2 ^ b % 2 ^ 64 ≡ 2 ^ b
+    bit-width = let e : 1 * 2 ^ b ≡ 2 ^ b = omega arith in rw e (mod-eq-of-lt (omega (arith, bit-few)))
+
+    entry-bit : (v : ℕ) → v < 2 ^ b → parityEntry (64 * r + 2 ^ b + v) ≡ xor (parityEntry (64 * r + v)) (parityEntry (64 * r + 2 ^ b))
+    entry-bit v h =
+        let k = 6 * (r / 10) in
+        let one : 1 * 2 ^ b ≡ 2 ^ b = omega arith in
+        let both : 64 * r + 2 ^ b + v ≡ 64 * r + (2 ^ b + v) = omega arith in
+        let sum : 2 ^ b + v ≡ xor v (2 ^ b) = sym (xor-comm v (2 ^ b) ∙ rw one at (xor-shifted 1 b v h)) in
+        ap parityEntry both ∙ row-entry (2 ^ b + v) (omega (arith, bit-few)) ∙ ap (λ (x : ℕ). six (sixParity (x * 2 ^ place)) k) sum
+        ∙ ap (λ (x : ℕ). six (sixParity x) k) (shift-sum place v (2 ^ b)) ∙ parity-sum k (v * 2 ^ place) (2 ^ b * 2 ^ place)
+        ∙ sym (ap₂ xor (row-entry v (omega (arith, bit-few))) (row-entry (2 ^ b) (omega (arith, bit-few))))
+
+    module _ (t : List ℕ) where
+      pub bit-start : Stored (64 * r + 2 ^ b) t → Stored (64 * r + 1 * 2 ^ b % 2 ^ 64 + 0) t
+      bit-start s = let e : 64 * r + 1 * 2 ^ b % 2 ^ 64 + 0 ≡ 64 * r + 2 ^ b = omega (arith, bit-width) in rw e s
+
+      pub bit-end : (n v : ℕ) → n ≡ 2 ^ b → v ≤ n → n ≤ v → Stored (64 * r + n + v) t → Stored (64 * r + 2 ^ (b + 1)) t
+      bit-end n v e lo hi s =
+          let q : 64 * r + n + v ≡ 64 * r + 2 ^ (b + 1) = rw pow-add (omega arith) in
+          rw q at s
+
+pub stored-next : (n : ℕ) (t : List ℕ) → Stored n t → n < 1920 → (u : ℕ) → u ≡ parityEntry n → Stored (n + 1) (set t n u)
+stored-next n t so-far l u e = record { long = length-set t n u ∙ so-far .long; entry = λ i b. go i b (ℕ-discrete i n) }
+  where
+    go : (i : ℕ) → i < n + 1 → Dec (i ≡ n) → getD (set t n u) i 0 ≡ parityEntry i
+    go i b (yes q) = rw q (getD-set-same t n u 0 (omega (arith, so-far .long)) ∙ e)
+    go i b (no q) = getD-set-other t n i u 0 q ∙ so-far .entry i (omega arith)
+
+pub bit-next : (r b n v unit u : ℕ) (t : List ℕ) → r < 30 → b < 6 → n ≡ 2 ^ b → v < n → unit ≡ parityEntry (64 * r + 2 ^ b) → u ≡ xor (getD t (64 * r + v) 0) unit →
+    Stored (64 * r + n + v) t → Stored (64 * r + n + (v + 1)) (set t (64 * r + n + v) u)
+bit-next r b n v unit u t hr hb en l eunit eu s =
+    let few = bit-few r b hb in
+    let q : 64 * r + n + v + 1 ≡ 64 * r + n + (v + 1) = omega arith in
+    let old : getD t (64 * r + v) 0 ≡ parityEntry (64 * r + v) = s .entry (64 * r + v) (omega arith) in
+    let here : 64 * r + 2 ^ b + v ≡ 64 * r + n + v = omega arith in
+    let new : u ≡ parityEntry (64 * r + n + v) = eu ∙ ap₂ xor old eunit ∙ sym (entry-bit r b hb v (rw en at l)) ∙ ap parityEntry here in
+    rw q at (stored-next (64 * r + n + v) t s (omega arith) u new)
+
+-- a row, and the table
+pub row-start : (r : ℕ) (t : List ℕ) → r < 30 → Stored (64 * r) t → Stored (64 * r + 2 ^ 0) (set t (64 * r) 0)
+row-start r t h s = stored-next (64 * r) t s (omega arith) 0 (entry-none r)
+
+pub unit-entry : (us : List ℕ) (r b : ℕ) → us ≡ unitParities → r < 30 → b < 6 → getD us (6 * r + b) 0 ≡ parityEntry (64 * r + 2 ^ b)
+unfolding unitParities
+unit-entry us r b e hr hb =
+    let n = 6 * r + b in
+    let bit : n % 60 ≡ b + 6 * (r % 10) = omega arith in
+    let part : n / 60 ≡ r / 10 = omega arith in
+    rw (e, tabulate-at 180 (λ (n : ℕ). six (sixParity (2 ^ (n % 60))) (6 * (n / 60))) n 0 (omega arith), bit, part, pow-add)
+    (sym (row-entry r (2 ^ b) (omega (arith, bit-few r b hb))))
+
+pub unit-within : (us : List ℕ) (r b : ℕ) → us ≡ unitParities → r < 30 → b < 6 → 6 * r + b < length us
+unfolding unitParities
+unit-within us r b e hr hb = rw (e, tabulate-length 180 (λ (n : ℕ). six (sixParity (2 ^ (n % 60))) (6 * (n / 60)))) (omega arith)
+
+pub row-end : (r b : ℕ) (t : List ℕ) → b ≤ 6 → 6 ≤ b → Stored (64 * r + 2 ^ b) t → Stored (64 * (r + 1)) t
+row-end r b t lo hi s =
+    let e : b ≡ 6 = omega arith in
+    let q : 64 * r + 2 ^ b ≡ 64 * (r + 1) = rw e (omega arith) in
+    rw q at s
+
+pub stored-none : (t : List ℕ) → length t ≡ 1920 → Stored (64 * 0) t
+stored-none t e = record { long = e; entry = λ i h. absurd (not-suc-le-zero h) }
+
+pub stored-end : (r : ℕ) (t : List ℕ) → 30 ≤ r → Stored (64 * r) t → t ≡ parities
+unfolding parities
+stored-end r t h s = tabulate-is 1920 parityEntry t 0 (s .long) (λ i l. s .entry i (omega arith))
+
+-- six symbols more
+module _ (h x f a b c : ℕ) (ef : f ≡ xor h x) (p : Packs a b c (sixParity f)) where
+  pub next-high : (m y : ℕ) → y ≡ xor m a → y ≡ xor m (six (sixParity (xor h x)) 0)
+  next-high m y e = rw (← ef) (e ∙ ap (xor m) (p .high-six))
+
+  pub next-middle : (l y : ℕ) → y ≡ xor l b → y ≡ xor l (six (sixParity (xor h x)) 6)
+  next-middle l y e = rw (← ef) (e ∙ ap (xor l) (p .middle-six))
+
+  pub next-low : c ≡ six (sixParity (xor h x)) 12
+  next-low = rw (← ef) (p .low-six)
+
+-- the register after the first i symbols
+module _ (d : List ℕ) (h m l i : ℕ) where
+  pub packs-first : allBelow 1024 d ≡ true → (x : ℕ) → x ≡ joinedFrom d 0 i → i ≡ length d % 6 → Packs h m l (sixParity x) → Packs h m l (dividedUpTo d i)
+  unfolding dividedUpTo joinedFrom
+  packs-first small x ex ei p =
+      let same : joined (λ j. at d (0 + j)) i ≡ joined (at d) i = joined-same (λ j. at d (0 + j)) (at d) i (λ j b. ap (at d) (zero-add j)) in
+      let e : sixParity x ≡ divided timesA 16 (at generator) (at d) i = ap sixParity (ex ∙ same) ∙ parity-joined (at d) (below-at 1024 d (lit< tt) small) i (omega arith) in
+      rw e at p
+
+  module _ (so-far : Packs h m l (dividedUpTo d i)) where
+    pub register-high : allBelow 1024 d ≡ true → h < 2 ^ 60
+    unfolding dividedUpTo
+    register-high small = rw (so-far .high-six) (high-lt (at d) (below-at 1024 d (lit< tt) small) i)
+
+    pub packs-next : allBelow 1024 d ≡ true → (x a b c : ℕ) → x ≡ joinedFrom d i 6 → a ≡ xor m (six (sixParity (xor h x)) 0) → b ≡ xor l (six (sixParity (xor h x)) 6) →
+        c ≡ six (sixParity (xor h x)) 12 → Packs a b c (dividedUpTo d (i + 6))
+    unfolding dividedUpTo joinedFrom
+    packs-next small x a b c ex ea eb ec =
+        let p = packs-more (at d) (below-at 1024 d (lit< tt) small) i h m l _ _ _ so-far x ex (record { high-six = refl; middle-six = refl; low-six = refl }) in
+        record { high-six = ea ∙ p .high-six; middle-six = eb ∙ p .middle-six; low-six = ec ∙ p .low-six }
+
+    pub packs-end : i ≤ length d → length d ≤ i → Packs h m l (outerParity d)
+    unfolding dividedUpTo outerParity
+    packs-end lo hi = let e : i ≡ length d = omega arith in rw e at so-far

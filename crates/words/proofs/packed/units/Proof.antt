@@ -1,0 +1,17 @@
+-- `words::packed::units` meets its contract: the table passes the test. Assumes nothing.
+use mathlib.Core.Path.{refl}
+use Rattle.fields.specs.Elements.{xor, scale, doubled, timesFrom, times}
+use Rattle.fields.specs.Lists.{tabulate}
+use Rattle.words.specs.Places.{every, horner}
+use Rattle.words.specs.OuterCode.{shiftedIn}
+use Rattle.words.specs.SixSymbols.{joined, joinedFrom, symbolOf}
+use Rattle.words.proofs.Codes.UnitParities.{units-right}
+use Rattle.words.proofs.packed.units.Statement.{statement}
+use Rattle.words.proofs.packed.units.Tie as tie
+
+returns : tie.Need-returns
+unfolding every horner tabulate xor scale doubled times timesFrom joinedFrom joined symbolOf shiftedIn
+returns c = units-right _ refl refl
+
+pub units-spec : {M : Type 1} → statement M
+units-spec = tie.close (tie.spec returns)

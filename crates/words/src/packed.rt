@@ -9,12 +9,19 @@ ghost use lib.ListN.{length};
 ghost use Rattle.fields.specs.Elements.{xor};
 ghost use Rattle.words.specs.Places.{at, allBelow};
 ghost use Rattle.words.specs.OuterCode.{isOuter, outerParity};
-ghost use Rattle.words.specs.SixSymbols.{joinedFrom, six, Packs, sixParity, parityEntry, parities, unitParities, Stored};
+ghost use Rattle.words.specs.SixSymbols.{joinedFrom, symbolOf, six, Packs, numberAt, unpacked, endsPacked, sixParity, parityEntry, parities, unitParities, Stored};
 
 // So many symbols are taken at a step.
 const SYMBOLS: usize = 6;
 
 const SYMBOL_BITS: usize = 10;
+
+const SYMBOL_MASK: u64 = 1023;
+
+// The last number of a register has so many symbols, and so many zero bits after them.
+const LAST_SYMBOLS: usize = Outer::PARITY - 2 * SYMBOLS;
+
+const LAST_ZEROS: usize = SYMBOL_BITS * (SYMBOLS - LAST_SYMBOLS);
 
 // Six symbols have so many digits of six bits, and a digit has so many values: a row of the table for each digit.
 const DIGITS: usize = 10;
@@ -304,10 +311,10 @@ fn join(word: &[u16], i: usize, n: usize) -> u64
 }
 
 // The division register: its cells 0 to 5, 6 to 11, and 12 to 15 with two zeros after them.
-pub struct Packed {
-    pub high: u64,
-    pub middle: u64,
-    pub low: u64,
+struct Packed {
+    high: u64,
+    middle: u64,
+    low: u64,
 }
 
 impl Packed {
@@ -338,7 +345,7 @@ impl Packed {
         requires { ⌜ (now table ≡ parities) × (self .high < 2 ^ 60) × (x < 2 ^ 60) ⌝ }
         ensures { λ r. ⌜ (r .high ≡ xor (self .middle) (six (sixParity (xor (self .high) x)) 0)) × (r .middle ≡ xor (self .low) (six (sixParity (xor (self .high) x)) 6)) × (r .low ≡ six (sixParity (xor (self .high) x)) 12) ⌝ }
     {
-        let p = parity(table, plus(self.high, x));
+        let p = six_parity(table, plus(self.high, x));
         Packed {
             high: plus(self.middle, p.high),
             middle: plus(self.low, p.middle),
@@ -356,7 +363,7 @@ fn digit(x: u64, d: usize) -> usize
 }
 
 // The parity of six symbols, as they stand in x.
-fn parity(table: &[u64], x: u64) -> Packed
+fn six_parity(table: &[u64], x: u64) -> Packed
     requires { ⌜ (now table ≡ parities) × (x < 2 ^ 60) ⌝ }
     ensures { λ r. ⌜ Packs (r .high) (r .middle) (r .low) (sixParity x) ⌝ }
 {
@@ -371,15 +378,80 @@ fn parity(table: &[u64], x: u64) -> Packed
 
 // The register after all symbols of data: the parity symbols. The first symbols, so many that sixes remain, stand in a number with zeros before them: zeros
 // leave the register empty.
-pub fn divide(table: &[u64], data: &[u16]) -> Packed
+fn divide(table: &[u64], data: &[u16]) -> Packed
     requires { ⌜ (now table ≡ parities) × (allBelow 1024 (now «data») ≡ true) ⌝ }
     ensures { λ r. ⌜ Packs (r .high) (r .middle) (r .low) (outerParity (now («data» .entry))) ⌝ }
 {
     let mut i = data.len() % SYMBOLS;
-    let mut p = parity(table, join(data, 0, i));
+    let mut p = six_parity(table, join(data, 0, i));
     while i < data.len() {
         p = p.next(table, join(data, i, SYMBOLS));
         i += SYMBOLS;
     }
     p
+}
+
+// Symbol i of six.
+fn symbol(x: u64, i: usize) -> u16
+    requires { ⌜ i < 6 ⌝ }
+    ensures { λ r. ⌜ r ≡ symbolOf x i ⌝ }
+{
+    ((x >> (SYMBOL_BITS * (SYMBOLS - 1 - i))) & SYMBOL_MASK) as u16
+}
+
+fn number(p: Packed, k: usize) -> u64
+    ensures { λ r. ⌜ r ≡ numberAt (p .high) (p .middle) (p .low) k ⌝ }
+{
+    if k == 0 {
+        return p.high;
+    }
+    if k == 1 {
+        return p.middle;
+    }
+    p.low
+}
+
+// The cells of the register.
+fn unpacked(p: Packed) -> [u16; Outer::PARITY]
+    ensures { λ r. ⌜ r ≡ unpacked (p .high) (p .middle) (p .low) ⌝ }
+{
+    let mut cells = [0u16; Outer::PARITY];
+    let mut i: usize = 0;
+    while i < Outer::PARITY {
+        cells[i] = symbol(number(p, i / SYMBOLS), i % SYMBOLS);
+        i += 1;
+    }
+    cells
+}
+
+// The parity symbols of data.
+pub fn parity(table: &[u64], data: &[u16]) -> [u16; Outer::PARITY]
+    requires { ⌜ (now table ≡ parities) × (allBelow 1024 (now «data») ≡ true) ⌝ }
+    ensures { λ r. ⌜ r ≡ outerParity (now («data» .entry)) ⌝ }
+{
+    unpacked(divide(table, data))
+}
+
+// The sixteen symbols of the word from place `from` on are the cells of the register.
+fn ends_with(word: &[u16], from: usize, p: Packed) -> bool
+    requires { ⌜ (from + 16 ≡ length (now word)) × (allBelow 1024 (now word) ≡ true) ⌝ }
+    ensures { λ r. ⌜ r ≡ endsPacked (now (word .entry)) from (p .high) (p .middle) (p .low) ⌝ }
+{
+    if join(word, from, SYMBOLS) != p.high {
+        return false;
+    }
+    if join(word, from + SYMBOLS, SYMBOLS) != p.middle {
+        return false;
+    }
+    join(word, from + 2 * SYMBOLS, LAST_SYMBOLS) << LAST_ZEROS == p.low
+}
+
+// Whether a word is a code word: its last sixteen symbols are the parity of the others.
+pub fn is_code_word(table: &[u64], word: &[u16]) -> bool
+    requires { ⌜ now table ≡ parities ⌝ }
+    requires { ⌜ (16 ≤ length (now word)) × (length (now word) ≤ 1023) × (allBelow 1024 (now word) ≡ true) ⌝ }
+    ensures { λ r. ⌜ r ≡ isOuter (now (word .entry)) ⌝ }
+{
+    let from = word.len() - Outer::PARITY;
+    ends_with(word, from, divide(table, &word[0..from]))
 }

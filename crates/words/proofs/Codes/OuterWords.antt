@@ -76,7 +76,7 @@ module _ (d : List ℕ) (h : allBelow 1024 d ≡ true) where
   data-lt : (i : ℕ) → at d i < 1024
   data-lt = below-at 1024 d (lit< tt) h
 
-  parity-below : allBelow 1024 (outerParity d) ≡ true
+  pub parity-below : allBelow 1024 (outerParity d) ≡ true
   unfolding outerParity
   parity-below = below-all 1024 _ (λ i l. divided-lt 10 1033 field-a 16 (at generator) (at d) generator-lt data-lt (length d) i)
 

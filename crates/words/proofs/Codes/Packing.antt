@@ -1,12 +1,13 @@
 -- Symbols packed in numbers: packing respects sums, and a division takes six symbols at a step. Assumes nothing.
 use mathlib.Core.Path.{_≡_, refl, sym, ap, ap₂, _∙_}
-use mathlib.Core.Bool.{true}
+use mathlib.Core.Bool.{true, _&&_, and-eq-true-iff}
 use mathlib.Core.List.{List}
 use mathlib.Core.Logic.{_⊎_, inl, inr}
 use Prim.Native.Nat.{ℕ, zero, suc, _+_, _-_, _*_, _/_, _%_, _^_, _≤_, _<_}
 use native.Mathlib.Decide.{decLt}
 use native.Mathlib.Nat.{add-suc, add-zero, div-eq-of-lt, eq-or-lt-of-le, le-of-suc-le-suc, le-refl, mod-lt, not-suc-le-zero, zero-add, add-assoc}
 use native.Mathlib.Omega.{arith}
+use borrow.Author.Tests.{eq-eqb, eqb-true}
 use lib.Bits as Bits
 use lib.Dec.{eqb, lit<}
 use lib.ListN.{length, getD, List·getD-eq-default}
@@ -14,11 +15,13 @@ use lib.Pow.{pow-pos, pow-add, pow-mono, shr-shr, shl-lt, mod-pow-add}
 use Rattle.fields.specs.Elements.{xor, timesA}
 use Rattle.fields.specs.Lists.{tabulate}
 use Rattle.fields.proofs.Instances.{field-a}
-use Rattle.fields.proofs.Lists.{tabulate-at, tabulate-same, tabulate-length}
+use Rattle.fields.proofs.Lists.{tabulate-at, tabulate-is, tabulate-same, tabulate-length}
 use Rattle.fields.proofs.Xor.{xor-zero-l, xor-zero-r, xor-self, xor-assoc, xor-comm, xor-four, xor-lt, xor-high, xor-shifted, additive-zero}
-use Rattle.words.specs.Places.{at, horner}
+use Rattle.words.specs.Places.{at, allBelow, horner}
 use Rattle.words.specs.OuterCode.{generator, shiftedIn, divided}
-use Rattle.words.specs.SixSymbols.{joined, joinedFrom, symbolOf, six, Packs, sixParity, parityEntry, parities}
+use Rattle.words.specs.Division.{endsWith}
+use Rattle.words.specs.SixSymbols.{joined, joinedFrom, symbolOf, six, Packs, numberAt, unpacked, endsPacked, sixParity, parityEntry, parities}
+use Rattle.words.proofs.Places.Tests.{tests-agree, every-at, every-true, below-at}
 use Rattle.words.proofs.Codes.Horner.{Additive, horner-same, horner-sum, horner-zero}
 use Rattle.words.proofs.Codes.Lent.{divided-lt}
 use Rattle.words.proofs.Codes.Division.{divided-length}
@@ -263,3 +266,83 @@ module _ (x d : ℕ) (few : d < 10) where
   six-digit k v hk ev =
       ap (λ (y : ℕ). six (sixParity y) (6 * k)) digit-more ∙ parity-sum (6 * k) _ _ ∙ xor-comm _ _
       ∙ ap (xor (six (sixParity (x % 2 ^ (6 * d))) (6 * k))) (sym (rw ev (entry-at k d digit hk few (mod-lt (x / 2 ^ (6 * d)) (lit< tt)))))
+
+-- the symbols of numbers are the cells that they pack
+module _ (h m l : ℕ) (cells : List ℕ) (long : length cells ≡ 16) (small : (i : ℕ) → at cells i < 1024) (p : Packs h m l cells) where
+  number-six : (k : ℕ) → k < 3 → numberAt h m l k ≡ six cells (6 * k)
+  unfolding numberAt
+  number-six zero b = p .high-six
+  number-six (suc zero) b = p .middle-six
+  number-six (suc (suc zero)) b = p .low-six
+  number-six (suc (suc (suc k))) b = absurd (omega arith)
+
+  cell-at : (i : ℕ) → i < 18 → symbolOf (numberAt h m l (i / 6)) (i % 6) ≡ at cells i
+  unfolding symbolOf joinedFrom
+  cell-at i b =
+      let k = 6 * (i / 6) in
+      let e : 10 * (5 - i % 6) ≡ 10 * (6 - suc (i % 6)) = omega arith in
+      let whole : k + i % 6 ≡ i = omega arith in
+      ap₂ (λ (x y : ℕ). x / 2 ^ y % 1024) (number-six (i / 6) (omega arith)) e
+      ∙ symbol-at (λ j. at cells (k + j)) (λ j. small (k + j)) 6 (i % 6) (omega arith) ∙ ap (at cells) whole
+
+  pub unpacked-is : unpacked h m l ≡ cells
+  unfolding unpacked
+  unpacked-is = sym (tabulate-is 16 _ cells 0 long (λ i b. sym (cell-at i (omega arith))))
+
+  -- a word's last sixteen symbols are the cells just where they make the three numbers
+  module _ (w : List ℕ) (n : ℕ) (whole : length w ≡ n + 16) (symbols : (i : ℕ) → at w i < 1024) where
+    abbrev Same : Type 0
+    Same = (j : ℕ) → j < 16 → at w (n + j) ≡ at cells j
+
+    same-everywhere : Same → (j : ℕ) → Dec (j < 16) → at w (n + j) ≡ at cells j
+    same-everywhere s j (yes b) = s j b
+    same-everywhere s j (no b) = List·getD-eq-default w 0 {n = n + j} (omega arith) ∙ sym (List·getD-eq-default cells 0 {n = j} (omega arith))
+
+    numbers-same : Same → (i k : ℕ) → k < 3 → i ≡ n + 6 * k → joinedFrom w i 6 ≡ numberAt h m l k
+    unfolding joinedFrom
+    numbers-same s i k b e =
+        joined-same (λ j. at w (i + j)) (λ j. at cells (6 * k + j)) 6
+        (λ j l. let q : i + j ≡ n + (6 * k + j) = omega arith in rw q (same-everywhere s (6 * k + j) (decLt (6 * k + j) 16)))
+        ∙ sym (number-six k b)
+
+    symbols-same : ((k : ℕ) → k < 3 → joinedFrom w (n + 6 * k) 6 ≡ numberAt h m l k) → Same
+    unfolding joinedFrom symbolOf
+    symbols-same s j b =
+        let i = n + 6 * (j / 6) in
+        let e : 10 * (5 - j % 6) ≡ 10 * (6 - suc (j % 6)) = omega arith in
+        let here : i + j % 6 ≡ n + j = omega arith in
+        sym (ap (at w) here) ∙ sym (symbol-at (λ k. at w (i + k)) (λ k. symbols (i + k)) 6 (j % 6) (omega arith))
+        ∙ ap₂ (λ (x y : ℕ). x / 2 ^ y % 1024) (s (j / 6) (omega arith)) (sym e) ∙ cell-at j (omega arith)
+
+    packed-ends : endsPacked w n h m l ≡ true → endsWith w n cells ≡ true
+    unfolding endsPacked endsWith numberAt
+    packed-ends t =
+        let both = and-eq-true-iff (eqb (joinedFrom w n 6) h) (eqb (joinedFrom w (n + 6) 6) m && eqb (joinedFrom w (n + 12) 6) l) .0 t in
+        let rest = and-eq-true-iff (eqb (joinedFrom w (n + 6) 6) m) (eqb (joinedFrom w (n + 12) 6) l) .0 (both .1) in
+        every-true 16 _ (λ j b. eq-eqb _ _ (symbols-same (three (eqb-true _ _ (both .0)) (eqb-true _ _ (rest .0)) (eqb-true _ _ (rest .1))) j b))
+      where
+        three : joinedFrom w n 6 ≡ h → joinedFrom w (n + 6) 6 ≡ m → joinedFrom w (n + 12) 6 ≡ l → (k : ℕ) → k < 3 → joinedFrom w (n + 6 * k) 6 ≡ numberAt h m l k
+        three eh em el zero b = ap (λ (i : ℕ). joinedFrom w i 6) (add-zero n) ∙ eh
+        three eh em el (suc zero) b = em
+        three eh em el (suc (suc zero)) b = el
+        three eh em el (suc (suc (suc k))) b = absurd (omega arith)
+
+    ends-packed : endsWith w n cells ≡ true → endsPacked w n h m l ≡ true
+    unfolding endsPacked endsWith numberAt
+    ends-packed t =
+        let s : Same = λ j b. eqb-true _ _ (every-at 16 (λ j. eqb (at w (n + j)) (at cells j)) t j b) in
+        rw (eq-eqb (joinedFrom w n 6) h (numbers-same s n 0 (lit< tt) (sym (add-zero n))), eq-eqb (joinedFrom w (n + 6) 6) m (numbers-same s (n + 6) 1 (lit< tt) refl))
+        (eq-eqb (joinedFrom w (n + 12) 6) l (numbers-same s (n + 12) 2 (lit< tt) refl))
+
+    pub packed-agree : endsPacked w n h m l ≡ endsWith w n cells
+    packed-agree = tests-agree _ _ packed-ends ends-packed
+
+-- the last four symbols of a word, and two zeros after them
+pub joined-last : (w : List ℕ) (i : ℕ) → allBelow 1024 w ≡ true → length w ≡ i + 4 → joinedFrom w i 6 ≡ joinedFrom w i 4 * 2 ^ 20 % 2 ^ 64
+unfolding joinedFrom joined horner
+joined-last w i small long =
+    let x = joined (λ j. at w (i + j)) 4 in
+    let none : (j : ℕ) → 4 ≤ j → at w (i + j) ≡ 0 = λ j h. List·getD-eq-default w 0 {n = i + j} (omega arith) in
+    let lt : x < 2 ^ 40 = joined-lt (λ j. at w (i + j)) (λ j. below-at 1024 w (lit< tt) small (i + j)) 4 in
+    ap₂ (λ (y z : ℕ). xor (xor (x * 1024) y * 1024) z) (none 4 (omega arith)) (none 5 (omega arith)) ∙ xor-zero-r _ ∙ ap (λ (y : ℕ). y * 1024) (xor-zero-r (x * 1024))
+    ∙ omega arith

@@ -1,15 +1,16 @@
 -- Division six symbols at a step: the table is stored, symbols are joined, and the register moves on. Assumes nothing.
 use mathlib.Core.Path.{_≡_, refl, sym, ap, ap₂, _∙_}
-use mathlib.Core.Bool.{true}
+use mathlib.Core.Bool.{Bool, true, false}
 use mathlib.Core.List.{List}
 use Prim.Native.Nat.{ℕ, zero, suc, _+_, _-_, _*_, _/_, _%_, _^_, _≤_, _<_}
 use native.Mathlib.Decide.{ℕ-discrete}
 use native.Mathlib.Nat.{mod-eq-of-lt, mod-lt, not-suc-le-zero, zero-add}
 use native.Mathlib.Numerals.{add-one}
 use native.Mathlib.Omega.{arith}
+use borrow.Author.Tests.{eq-eqb, ne-eqb}
 use lib.Bits as Bits
-use lib.Dec.{lit<}
-use lib.ListN.{length, getD, set, length-set}
+use lib.Dec.{eqb, lit<}
+use lib.ListN.{length, getD, set, take, length-set}
 use lib.Pow.{pow-add, pow-mono, pow-pos}
 use lib.Seq.{getD-set-same, getD-set-other}
 use Rattle.fields.specs.Elements.{xor, timesA}
@@ -17,10 +18,12 @@ use Rattle.fields.specs.Lists.{tabulate}
 use Rattle.fields.proofs.Lists.{tabulate-at, tabulate-is, tabulate-length}
 use Rattle.fields.proofs.Xor.{xor-lt, xor-comm, xor-shifted, additive-zero}
 use Rattle.words.specs.Places.{at, allBelow, horner}
-use Rattle.words.specs.OuterCode.{generator, divided, outerParity}
-use Rattle.words.specs.SixSymbols.{joined, joinedFrom, six, Packs, sixParity, parityEntry, parities, unitParities, Stored}
-use Rattle.words.proofs.Places.Tests.{below-at}
-use Rattle.words.proofs.Codes.Packing.{shift-sum, parity-sum, joined-same, joined-lt, parity-joined, high-lt, packs-more, entry-is, six-digit}
+use Rattle.words.specs.OuterCode.{isOuter, generator, divided, outerParity}
+use Rattle.words.specs.SixSymbols.{joined, joinedFrom, symbolOf, six, Packs, numberAt, unpacked, endsPacked, sixParity, parityEntry, parities, unitParities, Stored}
+use Rattle.words.proofs.Places.Tests.{below-at, below-take}
+use Rattle.words.proofs.Places.Filling.{Filled, filled-next, filled-end}
+use Rattle.words.proofs.Codes.OuterWords.{outer-length, parity-below, outer-ends}
+use Rattle.words.proofs.Codes.Packing.{shift-sum, parity-sum, joined-same, joined-lt, parity-joined, high-lt, packs-more, entry-is, six-digit, unpacked-is, packed-agree, joined-last}
 use Rattle.words.proofs.Steps.Loops.{dividedUpTo}
 
 module _ (w : List ℕ) (i : ℕ) where
@@ -217,3 +220,72 @@ module _ (d : List ℕ) (h m l i : ℕ) where
     pub packs-end : i ≤ length d → length d ≤ i → Packs h m l (outerParity d)
     unfolding dividedUpTo outerParity
     packs-end lo hi = let e : i ≡ length d = omega arith in rw e at so-far
+
+-- a symbol of six, and the numbers of a register
+pub symbol-masked : (x i : ℕ) → i < 6 → Bits.bitAnd (x / 2 ^ (10 * (6 - 1 - i))) 1023 ≡ symbolOf x i
+unfolding symbolOf
+symbol-masked x i h =
+    let e : 10 * (6 - 1 - i) ≡ 10 * (5 - i) = omega arith in
+    rw e (Bits.and-mask (x / 2 ^ (10 * (5 - i))) 10)
+
+pub symbol-fits : (x : ℕ) → Bits.bitAnd x 1023 < 65536
+symbol-fits x = omega (arith, Bits.mask-lt x 10)
+
+module _ (h m l k : ℕ) where
+  pub number-first : k ≡ 0 → h ≡ numberAt h m l k
+  unfolding numberAt
+  number-first e = rw e
+
+  pub number-second : k ≡ 1 → m ≡ numberAt h m l k
+  unfolding numberAt
+  number-second e = rw e
+
+pub number-third : (h m l k : ℕ) → (k ≡ 0 → ⊥) → (k ≡ 1 → ⊥) → l ≡ numberAt h m l k
+unfolding numberAt
+number-third h m l zero a b = absurd (a refl)
+number-third h m l (suc zero) a b = absurd (b refl)
+number-third h m l (suc (suc k)) a b = refl
+
+-- cell i of a register
+unfoldable pub cellOf : ℕ → ℕ → ℕ → ℕ → ℕ
+cellOf h m l i = symbolOf (numberAt h m l (i / 6)) (i % 6)
+
+module _ (h m l i : ℕ) (cells : List ℕ) (so-far : Filled 16 (cellOf h m l) i cells) where
+  pub cells-next : (x v : ℕ) → i < 16 → x ≡ numberAt h m l (i / 6) → v ≡ symbolOf x (i % 6) → Filled 16 (cellOf h m l) (i + 1) (set cells i v)
+  unfolding cellOf
+  cells-next x v b ex ev = filled-next so-far b (rw ex at ev)
+
+  pub cells-end : 16 ≤ i → cells ≡ unpacked h m l
+  unfolding cellOf unpacked
+  cells-end b = filled-end so-far b
+
+module _ (d : List ℕ) (small : allBelow 1024 d ≡ true) (h m l : ℕ) (p : Packs h m l (outerParity d)) where
+  pub parity-unpacked : (r : List ℕ) → r ≡ unpacked h m l → r ≡ outerParity d
+  parity-unpacked r e = e ∙ unpacked-is h m l (outerParity d) (outer-length d) (below-at 1024 (outerParity d) (lit< tt) (parity-below d small)) p
+
+-- the tests of a word's end
+module _ (w : List ℕ) (i h m l : ℕ) where
+  pub ends-not-high : (x : ℕ) → x ≡ joinedFrom w i 6 → (x ≡ h → ⊥) → false ≡ endsPacked w i h m l
+  unfolding endsPacked
+  ends-not-high x e n = sym (rw (← e, ne-eqb x h n))
+
+  module _ (x : ℕ) (ex : x ≡ joinedFrom w i 6) (eh : x ≡ h) where
+    pub ends-not-middle : (y : ℕ) → y ≡ joinedFrom w (i + 6) 6 → (y ≡ m → ⊥) → false ≡ endsPacked w i h m l
+    unfolding endsPacked
+    ends-not-middle y ey n = sym (rw (← ex, ← ey, eq-eqb x h eh, ne-eqb y m n))
+
+    pub ends-low : (y z : ℕ) → y ≡ joinedFrom w (i + 6) 6 → y ≡ m → i + 16 ≡ length w → allBelow 1024 w ≡ true → z ≡ joinedFrom w (i + 12) 4 →
+        eqb (z * 2 ^ 20 % 2 ^ 64) l ≡ endsPacked w i h m l
+    unfolding endsPacked
+    ends-low y z ey em long small ez = sym (rw (← ex, ← ey, eq-eqb x h eh, eq-eqb y m em, joined-last w (i + 12) small (omega arith), ← ez))
+
+-- a code word by division: the part from place 0 on, all but sixteen symbols, is divided, and these are compared
+pub outer-packed : (w : List ℕ) (h m l : ℕ) (r : Bool) → 16 ≤ length w → length w ≤ 1023 → allBelow 1024 w ≡ true →
+    Packs h m l (outerParity (take (length w - 16 - 0) w)) → r ≡ endsPacked w (length w - 16) h m l → r ≡ isOuter w
+outer-packed w h m l r long short small p test =
+    let n : length w - 16 - 0 ≡ length w - 16 = omega arith in
+    let front : List ℕ = take (length w - 16) w in
+    let below : allBelow 1024 (outerParity front) ≡ true = parity-below front (below-take 1024 (length w - 16) w small) in
+    test
+    ∙ packed-agree h m l (outerParity front) (outer-length front) (below-at 1024 (outerParity front) (lit< tt) below) (rw n at p) w (length w - 16) (omega arith) (below-at 1024 w (lit< tt) small)
+    ∙ outer-ends w (length w - 16) (omega arith) (omega arith) small

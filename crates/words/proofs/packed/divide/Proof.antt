@@ -18,8 +18,8 @@ abbrev μ-loop : tie.MeasureT-loop
 join-requires : tie.Need-join-requires Inv-loop μ-loop
 join-requires c κs = search needs
 
-parity-requires : tie.Need-parity-requires Inv-loop μ-loop
-parity-requires c κs = search needs
+six-parity-requires : tie.Need-six-parity-requires Inv-loop μ-loop
+six-parity-requires c κs = search needs
 
 loop-holds : tie.Need-loop-holds Inv-loop μ-loop
 loop-holds c = search (needs, packs-first)
@@ -49,7 +49,7 @@ divide-spec =
     Inv-loop
     μ-loop
     join-requires
-    parity-requires
+    six-parity-requires
     loop-holds
     join-requires-2
     next-requires

@@ -7,8 +7,8 @@ use Rattle.words.proofs.packed.Packed.next.Tie as tie
 plus-requires : tie.Need-plus-requires
 plus-requires c κs = search needs
 
-parity-requires : tie.Need-parity-requires
-parity-requires c κs = search (needs, sum-six)
+six-parity-requires : tie.Need-six-parity-requires
+six-parity-requires c κs = search (needs, sum-six)
 
 plus-requires-2 : tie.Need-plus-requires-2
 plus-requires-2 c κs = search needs
@@ -21,4 +21,4 @@ returns c = search (needs, next-high, next-middle, next-low)
 
 pub next-spec : {M : Type 1} → statement M
 next-spec =
-    tie.close (tie.spec plus-requires parity-requires plus-requires-2 plus-requires-3 returns)
+    tie.close (tie.spec plus-requires six-parity-requires plus-requires-2 plus-requires-3 returns)

@@ -3,7 +3,7 @@
 use crate::Frame;
 use crate::bits;
 use words::Correction;
-use words::division;
+use words::packed;
 use words::reed_solomon;
 ghost use mathlib.Core.Path.{_≡_};
 ghost use mathlib.Core.Bool.{true, false};
@@ -11,7 +11,7 @@ ghost use Prim.Native.Nat.{_+_, _*_, _≤_, _<_};
 ghost use lib.ListN.{length};
 ghost use Rattle.words.specs.Places.{at, allBelow, bitAt};
 ghost use Rattle.words.specs.OuterCode.{isOuter};
-ghost use Rattle.words.specs.Division.{multiples};
+ghost use Rattle.words.specs.SixSymbols.{parities};
 ghost use Rattle.frames.specs.Frames.{dataIn, outerData, outerWord, outerWords, rowPlace};
 ghost use Rattle.frames.specs.Correction.{receivedSymbol, isPadded};
 ghost use Rattle.frames.specs.Received.{receivedRow};
@@ -79,16 +79,15 @@ fn write(symbols: &[u16], i: usize, row: &mut [u16])
 }
 
 // Writes outer word w of the payload into the row.
-fn write_word(low: &[u16], high: &[u16], payload: &[u8], w: usize, row: &mut [u16])
-    requires { ⌜ (now low ≡ multiples 1) × (now high ≡ multiples 32) ⌝ }
+fn write_word(table: &[u64], payload: &[u8], w: usize, row: &mut [u16])
+    requires { ⌜ now table ≡ parities ⌝ }
     requires { ⌜ (w < 16) × (length (now row) ≡ 12496) ⌝ }
     ensures { λ _. ⌜ Placed (781 * w) (outerWord (now (payload .entry)) w) (now (row .entry)) (now (row .exit)) ⌝ }
 {
     write_data(payload, w, row);
     let from = Frame::WORD_SYMBOLS * w;
     let end = from + data_in(w);
-    let register = division::divide(low, high, &row[from..end]);
-    let cells = register.cells;
+    let cells = packed::parity(table, &row[from..end]);
     write(&cells, end, row);
 }
 
@@ -97,11 +96,10 @@ pub fn encode(payload: &[u8], row: &mut [u16])
     requires { ⌜ length (now row) ≡ 12496 ⌝ }
     ensures { λ _. ⌜ InRow (outerWords (now (payload .entry))) (now (row .exit)) ⌝ }
 {
-    let low = division::low_multiples();
-    let high = division::high_multiples();
+    let table = packed::table();
     let mut w: usize = 0;
     while w < Frame::WORDS {
-        write_word(&low, &high, payload, w, row);
+        write_word(&table, payload, w, row);
         w += 1;
     }
 }
@@ -171,13 +169,12 @@ pub fn are_code_words(row: &[u16]) -> bool
     requires { ⌜ (length (now row) ≡ 12496) × (allBelow 1024 (now row) ≡ true) ⌝ }
     ensures { λ r. ⌜ r ≡ rowCodes (now (row .entry)) ⌝ }
 {
-    let low = division::low_multiples();
-    let high = division::high_multiples();
+    let table = packed::table();
     let mut v: usize = 0;
     while v < Frame::WORDS {
         let from = Frame::WORD_SYMBOLS * v;
         let end = from + data_in(v) + words::Outer::PARITY;
-        if !division::is_code_word(&low, &high, &row[from..end]) {
+        if !packed::is_code_word(&table, &row[from..end]) {
             return false;
         }
         v += 1;
@@ -224,14 +221,14 @@ fn blank_word() -> [u16; Frame::WORD_SYMBOLS]
 }
 
 // The same, of any outer word: a code word is left as it is, and the answer is whether it is permitted.
-fn correct_word(low: &[u16], high: &[u16], w: usize, row: &mut [u16]) -> bool
-    requires { ⌜ (now low ≡ multiples 1) × (now high ≡ multiples 32) ⌝ }
+fn correct_word(table: &[u64], w: usize, row: &mut [u16]) -> bool
+    requires { ⌜ now table ≡ parities ⌝ }
     requires { ⌜ (w < 16) × (length (now row) ≡ 12496) × (allBelow 1024 (rowWord (now row) w) ≡ true) ⌝ }
     ensures { λ r. ⌜ WordRestored w (now (row .entry)) (now (row .exit)) r ⌝ }
 {
     let from = Frame::WORD_SYMBOLS * w;
     let end = from + data_in(w) + words::Outer::PARITY;
-    if division::is_code_word(low, high, &row[from..end]) {
+    if packed::is_code_word(table, &row[from..end]) {
         return is_padded(w, &row[from..end]);
     }
     let mut word = blank_word();
@@ -243,11 +240,10 @@ pub fn correct(row: &mut [u16]) -> bool
     requires { ⌜ (length (now row) ≡ 12496) × (allBelow 1024 (now row) ≡ true) ⌝ }
     ensures { λ r. ⌜ (length (now (row .exit)) ≡ 12496) × (provided r (rowWords (now (row .exit))) ≡ rowRestored (now (row .entry))) ⌝ }
 {
-    let low = division::low_multiples();
-    let high = division::high_multiples();
+    let table = packed::table();
     let mut w: usize = 0;
     while w < Frame::WORDS {
-        if !correct_word(&low, &high, w, row) {
+        if !correct_word(&table, w, row) {
             return false;
         }
         w += 1;

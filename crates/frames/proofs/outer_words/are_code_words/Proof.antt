@@ -3,22 +3,19 @@ use mathlib.Core.Path.{_≡_}
 use mathlib.Core.Bool.{true}
 use Prim.Native.Nat.{_-_, _≤_}
 use borrow.Author.Needs.{needs}
-use Rattle.words.specs.Division.{multiples}
+use Rattle.words.specs.SixSymbols.{parities}
 use Rattle.frames.proofs.RowWords.{codesUpTo, codes-none, part-least, part-most, part-below, word-below, codes-not, codes-next, codes-all}
 use Rattle.frames.proofs.outer_words.are_code_words.Statement.{statement}
 use Rattle.frames.proofs.outer_words.are_code_words.Tie as tie
 
 abbrev Inv-loop : tie.InvT-loop
-Inv-loop row low high v₀ v = (v ≤ 16) × (low ≡ multiples 1) × (high ≡ multiples 32) × (codesUpTo row v ≡ true)
+Inv-loop row table v₀ v = (v ≤ 16) × (table ≡ parities) × (codesUpTo row v ≡ true)
 
 abbrev μ-loop : tie.MeasureT-loop
-μ-loop row low high v₀ v = 16 - v
+μ-loop row table v₀ v = 16 - v
 
-low-multiples-requires : tie.Need-low-multiples-requires Inv-loop μ-loop
-low-multiples-requires c κs = search needs
-
-high-multiples-requires : tie.Need-high-multiples-requires Inv-loop μ-loop
-high-multiples-requires c κs = search needs
+table-requires : tie.Need-table-requires Inv-loop μ-loop
+table-requires c κs = search needs
 
 loop-holds : tie.Need-loop-holds Inv-loop μ-loop
 loop-holds c = search (needs, codes-none)
@@ -37,9 +34,6 @@ add-end-2 c = search needs
 
 slice-aggregate-is-code-word : tie.Need-slice-aggregate-is-code-word Inv-loop μ-loop
 slice-aggregate-is-code-word c = search needs
-
-slice-aggregate-is-code-word-2 : tie.Need-slice-aggregate-is-code-word-2 Inv-loop μ-loop
-slice-aggregate-is-code-word-2 c = search needs
 
 mul-is-code-word : tie.Need-mul-is-code-word Inv-loop μ-loop
 mul-is-code-word c = search needs
@@ -77,15 +71,13 @@ are-code-words-spec =
     (tie.spec
     Inv-loop
     μ-loop
-    low-multiples-requires
-    high-multiples-requires
+    table-requires
     loop-holds
     mul-from
     data-in-requires
     add-end
     add-end-2
     slice-aggregate-is-code-word
-    slice-aggregate-is-code-word-2
     mul-is-code-word
     sub-is-code-word
     part-is-code-word-start

@@ -2,31 +2,25 @@
 use mathlib.Core.Path.{_≡_}
 use Prim.Native.Nat.{_-_}
 use borrow.Author.Needs.{needs}
-use Rattle.words.specs.Division.{multiples}
+use Rattle.words.specs.SixSymbols.{parities}
 use Rattle.frames.proofs.OuterPass.{Restoring, restoring-start, restoring-below, restoring-next, restoring-not, restoring-end}
 use Rattle.frames.proofs.outer_words.correct.Statement.{statement}
 use Rattle.frames.proofs.outer_words.correct.Tie as tie
 
 abbrev Inv-loop : tie.InvT-loop
-Inv-loop row₀ low high w₀ row w = (low ≡ multiples 1) × (high ≡ multiples 32) × Restoring row₀ w row
+Inv-loop row₀ table w₀ row w = (table ≡ parities) × Restoring row₀ w row
 
 abbrev μ-loop : tie.MeasureT-loop
-μ-loop row₀ low high w₀ row w = 16 - w
+μ-loop row₀ table w₀ row w = 16 - w
 
-low-multiples-requires : tie.Need-low-multiples-requires Inv-loop μ-loop
-low-multiples-requires c κs = search needs
-
-high-multiples-requires : tie.Need-high-multiples-requires Inv-loop μ-loop
-high-multiples-requires c κs = search needs
+table-requires : tie.Need-table-requires Inv-loop μ-loop
+table-requires c κs = search needs
 
 loop-holds : tie.Need-loop-holds Inv-loop μ-loop
 loop-holds c = search (needs, restoring-start)
 
 slice-aggregate-correct-word : tie.Need-slice-aggregate-correct-word Inv-loop μ-loop
 slice-aggregate-correct-word c = search needs
-
-slice-aggregate-correct-word-2 : tie.Need-slice-aggregate-correct-word-2 Inv-loop μ-loop
-slice-aggregate-correct-word-2 c = search needs
 
 correct-word-requires : tie.Need-correct-word-requires Inv-loop μ-loop
 correct-word-requires c κs = search (needs, restoring-below)
@@ -58,11 +52,9 @@ correct-spec =
     (tie.spec
     Inv-loop
     μ-loop
-    low-multiples-requires
-    high-multiples-requires
+    table-requires
     loop-holds
     slice-aggregate-correct-word
-    slice-aggregate-correct-word-2
     correct-word-requires
     same-length
     returns

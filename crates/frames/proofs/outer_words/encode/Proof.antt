@@ -2,31 +2,25 @@
 use mathlib.Core.Path.{_≡_}
 use Prim.Native.Nat.{_-_}
 use borrow.Author.Needs.{needs}
-use Rattle.words.specs.Division.{multiples}
+use Rattle.words.specs.SixSymbols.{parities}
 use Rattle.frames.proofs.RowWords.{Written, written-none, written-next, written-all}
 use Rattle.frames.proofs.outer_words.encode.Statement.{statement}
 use Rattle.frames.proofs.outer_words.encode.Tie as tie
 
 abbrev Inv-loop : tie.InvT-loop
-Inv-loop payload row₀ low high w₀ row w = (low ≡ multiples 1) × (high ≡ multiples 32) × Written payload w row
+Inv-loop payload row₀ table w₀ row w = (table ≡ parities) × Written payload w row
 
 abbrev μ-loop : tie.MeasureT-loop
-μ-loop payload row₀ low high w₀ row w = 16 - w
+μ-loop payload row₀ table w₀ row w = 16 - w
 
-low-multiples-requires : tie.Need-low-multiples-requires Inv-loop μ-loop
-low-multiples-requires c κs = search needs
-
-high-multiples-requires : tie.Need-high-multiples-requires Inv-loop μ-loop
-high-multiples-requires c κs = search needs
+table-requires : tie.Need-table-requires Inv-loop μ-loop
+table-requires c κs = search needs
 
 loop-holds : tie.Need-loop-holds Inv-loop μ-loop
 loop-holds c = search (needs, written-none)
 
 slice-aggregate-write-word : tie.Need-slice-aggregate-write-word Inv-loop μ-loop
 slice-aggregate-write-word c = search needs
-
-slice-aggregate-write-word-2 : tie.Need-slice-aggregate-write-word-2 Inv-loop μ-loop
-slice-aggregate-write-word-2 c = search needs
 
 write-word-requires : tie.Need-write-word-requires Inv-loop μ-loop
 write-word-requires c κs = search needs
@@ -52,11 +46,9 @@ encode-spec =
     (tie.spec
     Inv-loop
     μ-loop
-    low-multiples-requires
-    high-multiples-requires
+    table-requires
     loop-holds
     slice-aggregate-write-word
-    slice-aggregate-write-word-2
     write-word-requires
     add-w
     loop-less

@@ -16,20 +16,20 @@ data-in-requires c κs = search needs
 add-end : tie.Need-add-end
 add-end c = search needs
 
-mul-divide : tie.Need-mul-divide
-mul-divide c = search needs
+mul-parity : tie.Need-mul-parity
+mul-parity c = search needs
 
-sub-divide : tie.Need-sub-divide
-sub-divide c = search needs
+sub-parity : tie.Need-sub-parity
+sub-parity c = search needs
 
-part-divide-start : tie.Need-part-divide-start
-part-divide-start c = search needs
+part-parity-start : tie.Need-part-parity-start
+part-parity-start c = search needs
 
-part-divide-end : tie.Need-part-divide-end
-part-divide-end c = search needs
+part-parity-end : tie.Need-part-parity-end
+part-parity-end c = search needs
 
-divide-requires : tie.Need-divide-requires
-divide-requires c κs = search (needs, data-part-below)
+parity-requires : tie.Need-parity-requires
+parity-requires c κs = search (needs, data-part-below)
 
 slice-aggregate-write : tie.Need-slice-aggregate-write
 slice-aggregate-write c = search needs
@@ -51,11 +51,11 @@ write-word-spec =
     mul-from
     data-in-requires
     add-end
-    mul-divide
-    sub-divide
-    part-divide-start
-    part-divide-end
-    divide-requires
+    mul-parity
+    sub-parity
+    part-parity-start
+    part-parity-end
+    parity-requires
     slice-aggregate-write
     write-requires
     same-length

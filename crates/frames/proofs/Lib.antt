@@ -1,6 +1,7 @@
 -- Laws of this crate that belong to no one function, in the order in which they rest on each other.
 pub mod Placing
 pub mod Windows
+pub mod Groups
 pub mod Differences
 pub mod FrameBits
 pub mod SideBySide

@@ -42,6 +42,24 @@ placing-end {i} {k} {xs} {before} {after} p h =
     let e : k ≡ length xs = omega (arith, p .within) in
     record { long = p .long; inside = λ j b. p .inside j (omega arith); below = p .below; above = λ j b. p .above j (omega arith) }
 
+-- n places at once
+pub placing-more : {i k n : ℕ} {xs ys before mid after : List ℕ} → Placing i xs k before mid → Placed (i + k) ys mid after → length ys ≡ n →
+    k + n ≤ length xs → ((j : ℕ) → j < n → at ys j ≡ at xs (k + j)) → Placing i xs (k + n) before after
+placing-more {i} {k} {n} {xs} {ys} {before} {mid} {after} p q e room same =
+    record {
+      long = q .long ∙ p .long;
+      within = room;
+      inside = λ j b. stored j b (decLt j k);
+      below = λ j b. q .below j (omega arith) ∙ p .below j b;
+      above = λ j b. q .above j (omega arith) ∙ p .above j (omega arith);
+    }
+  where
+    stored : (j : ℕ) → j < k + n → Dec (j < k) → at after (i + j) ≡ at xs j
+    stored j b (yes l) = q .below (i + j) (omega arith) ∙ p .inside j l
+    stored j b (no l) =
+        let f : i + j ≡ i + k + (j - k) = omega arith in
+        ap (at after) f ∙ q .inside (j - k) (omega arith) ∙ same (j - k) (omega arith) ∙ ap (at xs) (omega arith)
+
 -- place i of two lists, the first of length n
 pub append-at : (xs ys : List ℕ) (n i : ℕ) {v : ℕ} → length xs ≡ n → (i < n → at xs i ≡ v) → (n ≤ i → at ys (i - n) ≡ v) → at (xs ++ ys) i ≡ v
 append-at xs ys n i {v} e first past = go (decLt i n)

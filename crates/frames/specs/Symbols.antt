@@ -13,6 +13,13 @@ use Rattle.frames.specs.Frames.{dataIn, rowPlace}
 unfoldable pub byteAt : ℕ → ℕ → ℕ → ℕ
 byteAt x y i = numberOf 8 (λ j. bitOf 20 (1024 * x + y % 1024) (i + j))
 
+-- the number that n of the bits b make, from bit i on; and m such numbers, one after the other
+unfoldable pub numberAt : ℕ → (ℕ → ℕ) → ℕ → ℕ
+numberAt n b i = numberOf n (λ j. b (i + j))
+
+unfoldable pub partsOf : ℕ → ℕ → (ℕ → ℕ) → ℕ → List ℕ
+partsOf n m b i = tabulate m (λ s. numberAt n b (i + n * s))
+
 -- the list xs stands in a buffer from place i on, and the other places are as they were
 pub record Placed (i : ℕ) (xs before after : List ℕ) : Type 0 where
   pub long : length after ≡ length before

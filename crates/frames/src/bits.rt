@@ -1,9 +1,11 @@
-// A bit of bytes, ten bits of bytes as a symbol, and eight bits of symbols as a byte; the first bit is the highest.
+// A bit of bytes, ten bits of bytes as a symbol, and eight bits of symbols as a byte; the first bit is the highest. Four symbols have as many bits as five
+// bytes, 40, and are read and written together.
 ghost use mathlib.Core.Path.{_≡_};
-ghost use Prim.Native.Nat.{_+_, _<_};
-ghost use Rattle.words.specs.Places.{at, bitAt};
+ghost use Prim.Native.Nat.{_+_, _*_, _/_, _≤_, _<_};
+ghost use lib.ListN.{length};
+ghost use Rattle.words.specs.Places.{at, bitOf, bitAt};
 ghost use Rattle.frames.specs.Frames.{symbolAt};
-ghost use Rattle.frames.specs.Symbols.{byteAt};
+ghost use Rattle.frames.specs.Symbols.{Placed, byteAt, numberAt, partsOf};
 
 // The ten low bits, and the eight low bits.
 const TEN_BITS: u32 = 1023;
@@ -40,4 +42,57 @@ pub fn byte_of(x: u16, y: u16, i: usize) -> u8
 {
     let twenty = ((x as u32) << 10) + (y as u32 & TEN_BITS);
     ((twenty >> (12 - i)) & EIGHT_BITS) as u8
+}
+
+// Symbols of a group, its bits, and the mask of these.
+pub const GROUP: usize = 4;
+
+const GROUP_BITS: usize = 40;
+
+const FORTY_BITS: u64 = 0xff_ffff_ffff;
+
+// Eight bytes from byte k on.
+fn eight_bytes(bytes: &[u8], k: usize) -> u64
+    requires { ⌜ k + 8 ≤ length (now bytes) ⌝ }
+    ensures { λ r. ⌜ r ≡ numberAt 64 (bitAt (now (bytes .entry))) (8 * k) ⌝ }
+{
+    ((bytes[k] as u64) << 56)
+        | ((bytes[k + 1] as u64) << 48)
+        | ((bytes[k + 2] as u64) << 40)
+        | ((bytes[k + 3] as u64) << 32)
+        | ((bytes[k + 4] as u64) << 24)
+        | ((bytes[k + 5] as u64) << 16)
+        | ((bytes[k + 6] as u64) << 8)
+        | (bytes[k + 7] as u64)
+}
+
+// The 40 bits of the bytes from bit i on. They lie in six bytes; eight are read at once.
+fn forty_bits(bytes: &[u8], i: usize) -> u64
+    requires { ⌜ i / 8 + 8 ≤ length (now bytes) ⌝ }
+    ensures { λ r. ⌜ r ≡ numberAt 40 (bitAt (now (bytes .entry))) i ⌝ }
+{
+    (eight_bytes(bytes, i / 8) >> (24 - i % 8)) & FORTY_BITS
+}
+
+// Writes the four symbols of 40 bits into the row from place t on.
+fn put_symbols(x: u64, row: &mut [u16], t: usize)
+    requires { ⌜ t + 4 ≤ length (now row) ⌝ }
+    ensures { λ _. ⌜ Placed t (partsOf 10 4 (bitOf 40 x) 0) (now (row .entry)) (now (row .exit)) ⌝ }
+{
+    row[t] = ((x >> 30) & 1023) as u16;
+    row[t + 1] = ((x >> 20) & 1023) as u16;
+    row[t + 2] = ((x >> 10) & 1023) as u16;
+    row[t + 3] = (x & 1023) as u16;
+}
+
+// Writes n groups of symbols, those that the bytes hold from bit i on, into the row from place t on.
+pub fn write_symbols(bytes: &[u8], i: usize, n: usize, row: &mut [u16], t: usize)
+    requires { ⌜ (length (now bytes) ≤ 16320) × (i / 8 + 5 * n + 3 ≤ length (now bytes)) × (t + 4 * n ≤ length (now row)) ⌝ }
+    ensures { λ _. ⌜ Placed t (partsOf 10 (4 * n) (bitAt (now (bytes .entry))) i) (now (row .entry)) (now (row .exit)) ⌝ }
+{
+    let mut q: usize = 0;
+    while q < n {
+        put_symbols(forty_bits(bytes, i + GROUP_BITS * q), row, t + GROUP * q);
+        q += 1;
+    }
 }

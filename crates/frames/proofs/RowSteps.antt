@@ -13,11 +13,12 @@ use Rattle.words.proofs.Places.Numbers.{bitOf-lt, bitOf-number, numberOf-lt, nu
 use Rattle.frames.specs.Frames.{symbolAt, dataIn, outerData, rowPlace}
 use Rattle.frames.specs.Correction.{receivedSymbol}
 use Rattle.frames.specs.Received.{receivedRow}
-use Rattle.frames.specs.Symbols.{Placed, Sent, byteAt, symbolBit, symbolByte, dataPlace, dataSymbol, payloadByte, payloadInRow}
+use Rattle.frames.specs.Symbols.{Placed, Sent, byteAt, numberAt, partsOf, symbolBit, symbolByte, dataPlace, dataSymbol, payloadByte, payloadInRow}
 use Rattle.frames.proofs.FrameBits.{dataIn-le, outer-data-length, outer-data-at, place-first, place-last}
 use Rattle.frames.proofs.Placing.{Placing, placing-next, placing-end}
 use Rattle.frames.proofs.ReceivedWords.{received-first, received-padding, received-last}
 use Rattle.frames.proofs.Windows.{byte-of-symbols}
+use Rattle.frames.proofs.Groups.{parts-length, parts-at}
 
 -- ---- the row of a payload
 
@@ -68,9 +69,18 @@ sent-end row {out} h l = record { long = h .long; bits = bit }
 
 -- ---- the row of a block
 
-pub symbol-before : (b : ℕ → ℕ) (t s : ℕ) → t < 12476 → s ≡ symbolAt b (10 * t) → s ≡ receivedSymbol b t
-unfolding symbolAt receivedSymbol
-symbol-before b t s l e = e ∙ numberOf-same 10 _ _ (λ j h. sym (received-first b (10 * t + j) (omega arith)))
+-- the symbols before the one with the padding bits stand in the block as in the row
+pub received-start : (block : List ℕ) {before row : List ℕ} → Placed 0 (partsOf 10 (4 * 3119) (bitAt block) 0) before row → length before ≡ 12496 →
+    Filled 12496 (receivedSymbol (bitAt block)) 12476 row
+unfolding symbolAt receivedSymbol numberAt
+received-start block {before} {row} p long = record { long = p .long ∙ long; within = omega arith; done = symbol }
+  where
+    symbol : (t : ℕ) → t < 12476 → at row t ≡ receivedSymbol (bitAt block) t
+    symbol t l =
+        let e : t ≡ 0 + t = omega arith in
+        let n = parts-length 10 (4 * 3119) (bitAt block) 0 in
+        ap (at row) e ∙ p .inside t (omega (arith, n)) ∙ parts-at 10 (4 * 3119) (bitAt block) 0 t l
+        ∙ numberOf-same 10 _ _ (λ j h. ap (bitAt block) (omega arith) ∙ sym (received-first (bitAt block) (10 * t + j) (omega arith)))
 
 pub symbol-after : (b : ℕ → ℕ) (t s : ℕ) → 12476 ≤ t → (t ≡ 12476 → ⊥) → s ≡ symbolAt b (10 * t - 2) → s ≡ receivedSymbol b t
 unfolding symbolAt receivedSymbol

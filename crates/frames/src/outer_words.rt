@@ -27,6 +27,9 @@ const PADDED: usize = LAST * Frame::WORD_SYMBOLS + Frame::LAST_DATA_SYMBOLS - 1;
 
 const UNPADDED: u16 = 1020;
 
+// The groups of symbols before it: their bits stand in the block as in the row.
+const GROUPS: usize = PADDED / bits::GROUP;
+
 // The padding bits, the low ones of their symbol.
 const PADDING_MASK: u16 = 3;
 
@@ -138,14 +141,11 @@ pub fn send(row: &[u16], out: &mut [u8])
     }
 }
 
-// Symbol t of the row of a block, in which the padding bits are zeros.
-fn received_symbol(block: &[u8], t: usize) -> u16
-    requires { ⌜ t < 12496 ⌝ }
+// Symbol t of the row of a block, from the symbol with the padding bits on, in which they are zeros.
+fn last_symbol(block: &[u8], t: usize) -> u16
+    requires { ⌜ (12476 ≤ t) × (t < 12496) ⌝ }
     ensures { λ r. ⌜ r ≡ receivedSymbol (bitAt (now (block .entry))) t ⌝ }
 {
-    if t < PADDED {
-        return bits::symbol(block, Frame::SYMBOL_BITS * t);
-    }
     if t == PADDED {
         return bits::symbol(block, Frame::SYMBOL_BITS * t) & UNPADDED;
     }
@@ -154,12 +154,13 @@ fn received_symbol(block: &[u8], t: usize) -> u16
 
 // Writes the row of a block.
 pub fn receive(block: &[u8], row: &mut [u16])
-    requires { ⌜ length (now row) ≡ 12496 ⌝ }
+    requires { ⌜ (length (now block) ≡ 16320) × (length (now row) ≡ 12496) ⌝ }
     ensures { λ _. ⌜ now (row .exit) ≡ receivedRow (bitAt (now (block .entry))) ⌝ }
 {
-    let mut t: usize = 0;
+    bits::write_symbols(block, 0, GROUPS, row, 0);
+    let mut t: usize = PADDED;
     while t < Frame::ROW {
-        row[t] = received_symbol(block, t);
+        row[t] = last_symbol(block, t);
         t += 1;
     }
 }

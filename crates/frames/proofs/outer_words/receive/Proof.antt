@@ -1,24 +1,27 @@
 -- `frames::outer_words::receive` meets its contract. Assumes nothing.
-use Prim.Native.Nat.{_-_}
+use Prim.Native.Nat.{_-_, _≤_}
 use borrow.Author.Needs.{needs}
 use Rattle.words.specs.Places.{bitAt}
-use Rattle.words.proofs.Places.Filling.{Filled, filled-start, filled-next}
+use Rattle.words.proofs.Places.Filling.{Filled, filled-next}
 use Rattle.frames.specs.Correction.{receivedSymbol}
-use Rattle.frames.proofs.RowSteps.{row-end}
+use Rattle.frames.proofs.RowSteps.{received-start, row-end}
 use Rattle.frames.proofs.outer_words.receive.Statement.{statement}
 use Rattle.frames.proofs.outer_words.receive.Tie as tie
 
 abbrev Inv-loop : tie.InvT-loop
-Inv-loop block row₀ t₀ row t = Filled 12496 (receivedSymbol (bitAt block)) t row
+Inv-loop block row₀ t₀ row t = (12476 ≤ t) × Filled 12496 (receivedSymbol (bitAt block)) t row
 
 abbrev μ-loop : tie.MeasureT-loop
 μ-loop block row₀ t₀ row t = 12496 - t
 
-loop-holds : tie.Need-loop-holds Inv-loop μ-loop
-loop-holds c = search (needs, filled-start)
+write-symbols-requires : tie.Need-write-symbols-requires Inv-loop μ-loop
+write-symbols-requires c κs = search needs
 
-received-symbol-requires : tie.Need-received-symbol-requires Inv-loop μ-loop
-received-symbol-requires c κs = search needs
+loop-holds : tie.Need-loop-holds Inv-loop μ-loop
+loop-holds c = search (needs, received-start)
+
+last-symbol-requires : tie.Need-last-symbol-requires Inv-loop μ-loop
+last-symbol-requires c κs = search needs
 
 mul-row : tie.Need-mul-row Inv-loop μ-loop
 mul-row c = search needs
@@ -47,8 +50,9 @@ receive-spec =
     (tie.spec
     Inv-loop
     μ-loop
+    write-symbols-requires
     loop-holds
-    received-symbol-requires
+    last-symbol-requires
     mul-row
     slice-write-row
     add-t

@@ -11,12 +11,14 @@ use lib.Pow.{pow-add, shl-exact, shl-lt}
 use mir.Facts.{fits-widen}
 use mir.Syntax.{w8, w16, w64}
 use mir.Val.{Fits}
-use Rattle.fields.proofs.Lists.{tabulate-at, tabulate-length, tabulate-same}
+use Rattle.fields.specs.Lists.{tabulate}
+use Rattle.fields.proofs.Lists.{tabulate-at, tabulate-append, tabulate-length, tabulate-same}
 use Rattle.words.specs.Places.{at, bitOf, numberOf, bitAt}
 use Rattle.words.proofs.Places.Numbers.{bitOf-number, numberOf-same, number-parts}
 use Rattle.words.proofs.Places.Bytes.{bitAt-lt, places-read, number-of-bits}
+use Rattle.frames.specs.Frames.{symbolAt}
 use Rattle.frames.specs.Symbols.{Placed, numberAt, partsOf}
-use Rattle.frames.proofs.Placing.{Placing, placing-start, placing-next, placing-end, placing-more}
+use Rattle.frames.proofs.Placing.{Placing, placing-start, placing-next, placing-end, placing-more, placed-append}
 
 -- ---- eight bytes as a number
 
@@ -155,3 +157,27 @@ symbols-next bytes = group-next 10 4 refl (bitAt bytes) (bitAt-lt bytes)
 pub groups-end : (n g : ℕ) (b : ℕ → ℕ) (i : ℕ) {t m q : ℕ} {before row : List ℕ} → Placing t (partsOf n (g * m) b i) (g * q) before row → m ≤ q →
     Placed t (partsOf n (g * m) b i) before row
 groups-end n g b i {t} {m} {q} p l = placing-end p (omega (arith, parts-length n (g * m) b i, mul-le-mul-left g l))
+
+-- ---- symbols one by one, and after groups
+
+pub each-next : (bytes : List ℕ) (i : ℕ) {t n s v : ℕ} {before row : List ℕ} → Placing t (partsOf 10 n (bitAt bytes) i) s before row → s < n →
+    t + n ≤ length before → v ≡ symbolAt (bitAt bytes) (i + 10 * s) → Placing t (partsOf 10 n (bitAt bytes) i) (s + 1) before (set row (t + s) v)
+unfolding symbolAt numberAt
+each-next bytes i {t} {n} {s} p l room e =
+    placing-next p (omega (arith, parts-length 10 n (bitAt bytes) i)) (omega (arith, parts-length 10 n (bitAt bytes) i))
+    (e ∙ sym (parts-at 10 n (bitAt bytes) i s l))
+
+pub each-end : (n m : ℕ) (b : ℕ → ℕ) (i : ℕ) {t s : ℕ} {before row : List ℕ} → Placing t (partsOf n m b i) s before row → m ≤ s →
+    Placed t (partsOf n m b i) before row
+each-end n m b i p l = placing-end p (omega (arith, parts-length n m b i))
+
+pub groups-and-each : (bytes : List ℕ) (i n : ℕ) {t : ℕ} {before mid after : List ℕ} → Placed t (partsOf 10 (4 * (n / 4)) (bitAt bytes) i) before mid →
+    Placed (t + 4 * (n / 4)) (partsOf 10 (n % 4) (bitAt bytes) (i + 40 * (n / 4))) mid after → Placed t (partsOf 10 n (bitAt bytes) i) before after
+unfolding partsOf
+groups-and-each bytes i n p q =
+    let k = 4 * (n / 4) in
+    let b = bitAt bytes in
+    let e : k + n % 4 ≡ n = omega arith in
+    let whole = tabulate-append k (n % 4) (λ s. numberAt 10 b (i + 10 * s)) (λ s. numberAt 10 b (i + 40 * (n / 4) + 10 * s)) (λ s. ap (numberAt 10 b) (omega arith))
+    in
+    rw (whole ∙ ap (λ (m : ℕ). tabulate m (λ s. numberAt 10 b (i + 10 * s))) e) at (placed-append (parts-length 10 k b i) p q)

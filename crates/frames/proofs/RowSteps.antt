@@ -14,25 +14,21 @@ use Rattle.frames.specs.Frames.{symbolAt, dataIn, outerData, rowPlace}
 use Rattle.frames.specs.Correction.{receivedSymbol}
 use Rattle.frames.specs.Received.{receivedRow}
 use Rattle.frames.specs.Symbols.{Placed, Sent, byteAt, numberAt, partsOf, symbolBit, symbolByte, dataPlace, dataSymbol, payloadByte, payloadInRow}
-use Rattle.frames.proofs.FrameBits.{dataIn-le, outer-data-length, outer-data-at, place-first, place-last}
-use Rattle.frames.proofs.Placing.{Placing, placing-next, placing-end}
+use Rattle.frames.proofs.FrameBits.{dataIn-is, place-first, place-last}
 use Rattle.frames.proofs.ReceivedWords.{received-first, received-padding, received-last}
 use Rattle.frames.proofs.Windows.{byte-of-symbols}
 use Rattle.frames.proofs.Groups.{parts-length, parts-at}
 
 -- ---- the row of a payload
 
-pub data-next : (payload : List ℕ) (w : ℕ) {s n v : ℕ} {before row : List ℕ} → Placing (781 * w) (outerData payload w) s before row → n ≡ dataIn w → s < n →
-    w < 16 → length before ≡ 12496 → v ≡ symbolAt (bitAt payload) (7650 * w + 10 * s) →
-    Placing (781 * w) (outerData payload w) (s + 1) before (set row (781 * w + s) v)
-unfolding symbolAt
-data-next payload w {s} p en l k long e =
-    placing-next p (omega (arith, outer-data-length payload w)) (omega (arith, outer-data-length payload w, dataIn-le w))
-    (e ∙ sym (outer-data-at payload w s (omega arith)))
+-- the groups of word w end within the payload, and its symbols within the row
+pub payload-room : (payload : List ℕ) (w n : ℕ) → length payload ≡ 15296 → w < 16 → n ≡ dataIn w → 7650 * w / 8 + 5 * (n / 4) + 3 ≤ length payload
+payload-room payload w n long h e = omega (arith, dataIn-is w h)
 
-pub data-end : (payload : List ℕ) (w : ℕ) {s n : ℕ} {before row : List ℕ} → Placing (781 * w) (outerData payload w) s before row → n ≡ dataIn w → n ≤ s →
+pub data-placed : (payload : List ℕ) (w n : ℕ) {before row : List ℕ} → n ≡ dataIn w → Placed (781 * w) (partsOf 10 n (bitAt payload) (7650 * w)) before row →
     Placed (781 * w) (outerData payload w) before row
-data-end payload w p en l = placing-end p (omega (arith, outer-data-length payload w))
+unfolding outerData symbolAt partsOf numberAt
+data-placed payload w n e p = rw e at p
 
 -- ---- the bytes that are sent of a row
 
@@ -70,7 +66,7 @@ sent-end row {out} h l = record { long = h .long; bits = bit }
 -- ---- the row of a block
 
 -- the symbols before the one with the padding bits stand in the block as in the row
-pub received-start : (block : List ℕ) {before row : List ℕ} → Placed 0 (partsOf 10 (4 * 3119) (bitAt block) 0) before row → length before ≡ 12496 →
+pub received-start : (block : List ℕ) {before row : List ℕ} → Placed 0 (partsOf 10 12476 (bitAt block) 0) before row → length before ≡ 12496 →
     Filled 12496 (receivedSymbol (bitAt block)) 12476 row
 unfolding symbolAt receivedSymbol numberAt
 received-start block {before} {row} p long = record { long = p .long ∙ long; within = omega arith; done = symbol }
@@ -78,8 +74,8 @@ received-start block {before} {row} p long = record { long = p .long ∙ long; w
     symbol : (t : ℕ) → t < 12476 → at row t ≡ receivedSymbol (bitAt block) t
     symbol t l =
         let e : t ≡ 0 + t = omega arith in
-        let n = parts-length 10 (4 * 3119) (bitAt block) 0 in
-        ap (at row) e ∙ p .inside t (omega (arith, n)) ∙ parts-at 10 (4 * 3119) (bitAt block) 0 t l
+        let n = parts-length 10 12476 (bitAt block) 0 in
+        ap (at row) e ∙ p .inside t (omega (arith, n)) ∙ parts-at 10 12476 (bitAt block) 0 t l
         ∙ numberOf-same 10 _ _ (λ j h. ap (bitAt block) (omega arith) ∙ sym (received-first (bitAt block) (10 * t + j) (omega arith)))
 
 pub symbol-after : (b : ℕ → ℕ) (t s : ℕ) → 12476 ≤ t → (t ≡ 12476 → ⊥) → s ≡ symbolAt b (10 * t - 2) → s ≡ receivedSymbol b t

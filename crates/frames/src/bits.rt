@@ -1,5 +1,6 @@
 // A bit of bytes, ten bits of bytes as a symbol, and eight bits of symbols as a byte; the first bit is the highest. Four symbols have as many bits as five
 // bytes, 40, and are read and written together.
+use crate::Frame;
 ghost use mathlib.Core.Path.{_≡_};
 ghost use Prim.Native.Nat.{_+_, _*_, _/_, _≤_, _<_};
 ghost use lib.ListN.{length};
@@ -45,7 +46,7 @@ pub fn byte_of(x: u16, y: u16, i: usize) -> u8
 }
 
 // Symbols of a group, its bits, and the mask of these.
-pub const GROUP: usize = 4;
+const GROUP: usize = 4;
 
 const GROUP_BITS: usize = 40;
 
@@ -86,7 +87,7 @@ fn put_symbols(x: u64, row: &mut [u16], t: usize)
 }
 
 // Writes n groups of symbols, those that the bytes hold from bit i on, into the row from place t on.
-pub fn write_symbols(bytes: &[u8], i: usize, n: usize, row: &mut [u16], t: usize)
+fn write_groups(bytes: &[u8], i: usize, n: usize, row: &mut [u16], t: usize)
     requires { ⌜ (length (now bytes) ≤ 16320) × (i / 8 + 5 * n + 3 ≤ length (now bytes)) × (t + 4 * n ≤ length (now row)) ⌝ }
     ensures { λ _. ⌜ Placed t (partsOf 10 (4 * n) (bitAt (now (bytes .entry))) i) (now (row .entry)) (now (row .exit)) ⌝ }
 {
@@ -95,4 +96,26 @@ pub fn write_symbols(bytes: &[u8], i: usize, n: usize, row: &mut [u16], t: usize
         put_symbols(forty_bits(bytes, i + GROUP_BITS * q), row, t + GROUP * q);
         q += 1;
     }
+}
+
+// The same for n symbols, one by one; past the end of the bytes a bit is 0.
+fn write_each(bytes: &[u8], i: usize, n: usize, row: &mut [u16], t: usize)
+    requires { ⌜ (i < 262144) × (n < 4) × (t + n ≤ length (now row)) ⌝ }
+    ensures { λ _. ⌜ Placed t (partsOf 10 n (bitAt (now (bytes .entry))) i) (now (row .entry)) (now (row .exit)) ⌝ }
+{
+    let mut s: usize = 0;
+    while s < n {
+        row[t + s] = symbol(bytes, i + Frame::SYMBOL_BITS * s);
+        s += 1;
+    }
+}
+
+// Writes n symbols, those that the bytes hold from bit i on, into the row from place t on. Past the end of the bytes a bit is 0.
+pub fn write_symbols(bytes: &[u8], i: usize, n: usize, row: &mut [u16], t: usize)
+    requires { ⌜ (length (now bytes) ≤ 16320) × (i / 8 + 5 * (n / 4) + 3 ≤ length (now bytes)) × (t + n ≤ length (now row)) ⌝ }
+    ensures { λ _. ⌜ Placed t (partsOf 10 n (bitAt (now (bytes .entry))) i) (now (row .entry)) (now (row .exit)) ⌝ }
+{
+    let groups = n / GROUP;
+    write_groups(bytes, i, groups, row, t);
+    write_each(bytes, i + GROUP_BITS * groups, n % GROUP, row, t + GROUP * groups);
 }

@@ -27,9 +27,6 @@ const PADDED: usize = LAST * Frame::WORD_SYMBOLS + Frame::LAST_DATA_SYMBOLS - 1;
 
 const UNPADDED: u16 = 1020;
 
-// The groups of symbols before it: their bits stand in the block as in the row.
-const GROUPS: usize = PADDED / bits::GROUP;
-
 // The padding bits, the low ones of their symbol.
 const PADDING_MASK: u16 = 3;
 
@@ -55,18 +52,10 @@ fn data_in(w: usize) -> usize
 
 // Writes the data symbols of outer word w into the row.
 fn write_data(payload: &[u8], w: usize, row: &mut [u16])
-    requires { ⌜ (w < 16) × (length (now row) ≡ 12496) ⌝ }
+    requires { ⌜ (w < 16) × (length (now payload) ≡ 15296) × (length (now row) ≡ 12496) ⌝ }
     ensures { λ _. ⌜ Placed (781 * w) (outerData (now (payload .entry)) w) (now (row .entry)) (now (row .exit)) ⌝ }
 {
-    let n = data_in(w);
-    let mut s: usize = 0;
-    while s < n {
-        row[Frame::WORD_SYMBOLS * w + s] = bits::symbol(
-            payload,
-            WORD_BITS * w + Frame::SYMBOL_BITS * s,
-        );
-        s += 1;
-    }
+    bits::write_symbols(payload, WORD_BITS * w, data_in(w), row, Frame::WORD_SYMBOLS * w);
 }
 
 // Writes the symbols into the row from place i on.
@@ -84,7 +73,7 @@ fn write(symbols: &[u16], i: usize, row: &mut [u16])
 // Writes outer word w of the payload into the row.
 fn write_word(table: &[u64], payload: &[u8], w: usize, row: &mut [u16])
     requires { ⌜ now table ≡ parities ⌝ }
-    requires { ⌜ (w < 16) × (length (now row) ≡ 12496) ⌝ }
+    requires { ⌜ (w < 16) × (length (now payload) ≡ 15296) × (length (now row) ≡ 12496) ⌝ }
     ensures { λ _. ⌜ Placed (781 * w) (outerWord (now (payload .entry)) w) (now (row .entry)) (now (row .exit)) ⌝ }
 {
     write_data(payload, w, row);
@@ -96,7 +85,7 @@ fn write_word(table: &[u64], payload: &[u8], w: usize, row: &mut [u16])
 
 // Writes the outer words of the payload into the row.
 pub fn encode(payload: &[u8], row: &mut [u16])
-    requires { ⌜ length (now row) ≡ 12496 ⌝ }
+    requires { ⌜ (length (now payload) ≡ 15296) × (length (now row) ≡ 12496) ⌝ }
     ensures { λ _. ⌜ InRow (outerWords (now (payload .entry))) (now (row .exit)) ⌝ }
 {
     let table = packed::table();
@@ -157,7 +146,7 @@ pub fn receive(block: &[u8], row: &mut [u16])
     requires { ⌜ (length (now block) ≡ 16320) × (length (now row) ≡ 12496) ⌝ }
     ensures { λ _. ⌜ now (row .exit) ≡ receivedRow (bitAt (now (block .entry))) ⌝ }
 {
-    bits::write_symbols(block, 0, GROUPS, row, 0);
+    bits::write_symbols(block, 0, PADDED, row, 0);
     let mut t: usize = PADDED;
     while t < Frame::ROW {
         row[t] = last_symbol(block, t);

@@ -1,70 +1,42 @@
 -- `frames::bits::write_symbols` meets its contract. Assumes nothing.
-use Prim.Native.Nat.{_-_, _*_, _≤_}
 use borrow.Author.Needs.{needs}
-use Rattle.words.specs.Places.{bitAt}
-use Rattle.frames.specs.Symbols.{partsOf}
-use Rattle.frames.proofs.Placing.{Placing, placing-start}
-use Rattle.frames.proofs.Groups.{symbols-next, groups-end}
+use Rattle.frames.proofs.Groups.{groups-and-each}
 use Rattle.frames.proofs.bits.write_symbols.Statement.{statement}
 use Rattle.frames.proofs.bits.write_symbols.Tie as tie
 
-abbrev Inv-loop : tie.InvT-loop
-Inv-loop bytes i n row₀ t q₀ row q = (q ≤ n) × Placing t (partsOf 10 (4 * n) (bitAt bytes) i) (4 * q) row₀ row
+write-groups-requires : tie.Need-write-groups-requires
+write-groups-requires c κs = search needs
 
-abbrev μ-loop : tie.MeasureT-loop
-μ-loop bytes i n row₀ t q₀ row q = n - q
+mul-write-each : tie.Need-mul-write-each
+mul-write-each c = search needs
 
-loop-holds : tie.Need-loop-holds Inv-loop μ-loop
-loop-holds c = search (needs, placing-start)
+add-write-each : tie.Need-add-write-each
+add-write-each c = search needs
 
-mul-forty-bits : tie.Need-mul-forty-bits Inv-loop μ-loop
-mul-forty-bits c = search needs
+mul-write-each-2 : tie.Need-mul-write-each-2
+mul-write-each-2 c = search needs
 
-add-forty-bits : tie.Need-add-forty-bits Inv-loop μ-loop
-add-forty-bits c = search needs
+add-write-each-2 : tie.Need-add-write-each-2
+add-write-each-2 c = search needs
 
-forty-bits-requires : tie.Need-forty-bits-requires Inv-loop μ-loop
-forty-bits-requires c κs = search needs
+write-each-requires : tie.Need-write-each-requires
+write-each-requires c κs = search needs
 
-mul-put-symbols : tie.Need-mul-put-symbols Inv-loop μ-loop
-mul-put-symbols c = search needs
-
-add-put-symbols : tie.Need-add-put-symbols Inv-loop μ-loop
-add-put-symbols c = search needs
-
-put-symbols-requires : tie.Need-put-symbols-requires Inv-loop μ-loop
-put-symbols-requires c κs = search needs
-
-add-q : tie.Need-add-q Inv-loop μ-loop
-add-q c = search needs
-
-loop-less : tie.Need-loop-less Inv-loop μ-loop
-loop-less c = search needs
-
-loop-again : tie.Need-loop-again Inv-loop μ-loop
-loop-again c = search (needs, symbols-next)
-
-same-length : tie.Need-same-length Inv-loop μ-loop
+same-length : tie.Need-same-length
 same-length c = search needs
 
-returns : tie.Need-returns Inv-loop μ-loop
-returns c = search (needs, groups-end)
+returns : tie.Need-returns
+returns c = search (needs, groups-and-each)
 
 pub write-symbols-spec : {M : Type 1} → statement M
 write-symbols-spec =
     tie.close
     (tie.spec
-    Inv-loop
-    μ-loop
-    loop-holds
-    mul-forty-bits
-    add-forty-bits
-    forty-bits-requires
-    mul-put-symbols
-    add-put-symbols
-    put-symbols-requires
-    add-q
-    loop-less
-    loop-again
+    write-groups-requires
+    mul-write-each
+    add-write-each
+    mul-write-each-2
+    add-write-each-2
+    write-each-requires
     same-length
     returns)

@@ -1,0 +1,70 @@
+-- `frames::bits::write_each` meets its contract. Assumes nothing.
+use Prim.Native.Nat.{_-_}
+use borrow.Author.Needs.{needs}
+use Rattle.words.specs.Places.{bitAt}
+use Rattle.frames.specs.Symbols.{partsOf}
+use Rattle.frames.proofs.Placing.{Placing, placing-start}
+use Rattle.frames.proofs.Groups.{each-next, each-end}
+use Rattle.frames.proofs.bits.write_each.Statement.{statement}
+use Rattle.frames.proofs.bits.write_each.Tie as tie
+
+abbrev Inv-loop : tie.InvT-loop
+Inv-loop bytes i n row₀ t s₀ row s = Placing t (partsOf 10 n (bitAt bytes) i) s row₀ row
+
+abbrev μ-loop : tie.MeasureT-loop
+μ-loop bytes i n row₀ t s₀ row s = n - s
+
+loop-holds : tie.Need-loop-holds Inv-loop μ-loop
+loop-holds c = search (needs, placing-start)
+
+mul-symbol : tie.Need-mul-symbol Inv-loop μ-loop
+mul-symbol c = search needs
+
+add-symbol : tie.Need-add-symbol Inv-loop μ-loop
+add-symbol c = search needs
+
+symbol-requires : tie.Need-symbol-requires Inv-loop μ-loop
+symbol-requires c κs = search needs
+
+add-row : tie.Need-add-row Inv-loop μ-loop
+add-row c = search needs
+
+mul-row : tie.Need-mul-row Inv-loop μ-loop
+mul-row c = search needs
+
+slice-write-row : tie.Need-slice-write-row Inv-loop μ-loop
+slice-write-row c = search needs
+
+add-s : tie.Need-add-s Inv-loop μ-loop
+add-s c = search needs
+
+loop-less : tie.Need-loop-less Inv-loop μ-loop
+loop-less c = search needs
+
+loop-again : tie.Need-loop-again Inv-loop μ-loop
+loop-again c = search (needs, each-next)
+
+same-length : tie.Need-same-length Inv-loop μ-loop
+same-length c = search needs
+
+returns : tie.Need-returns Inv-loop μ-loop
+returns c = search (needs, each-end)
+
+pub write-each-spec : {M : Type 1} → statement M
+write-each-spec =
+    tie.close
+    (tie.spec
+    Inv-loop
+    μ-loop
+    loop-holds
+    mul-symbol
+    add-symbol
+    symbol-requires
+    add-row
+    mul-row
+    slice-write-row
+    add-s
+    loop-less
+    loop-again
+    same-length
+    returns)

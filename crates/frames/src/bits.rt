@@ -6,7 +6,7 @@ ghost use Prim.Native.Nat.{_+_, _*_, _/_, _≤_, _<_};
 ghost use lib.ListN.{length};
 ghost use Rattle.words.specs.Places.{at, bitOf, bitAt};
 ghost use Rattle.frames.specs.Frames.{symbolAt};
-ghost use Rattle.frames.specs.Symbols.{Placed, byteAt, numberAt, partsOf};
+ghost use Rattle.frames.specs.Symbols.{Placed, byteAt, symbolBit, numberAt, partsOf};
 
 // The ten low bits, and the eight low bits.
 const TEN_BITS: u32 = 1023;
@@ -45,8 +45,10 @@ pub fn byte_of(x: u16, y: u16, i: usize) -> u8
     ((twenty >> (12 - i)) & EIGHT_BITS) as u8
 }
 
-// Symbols of a group, its bits, and the mask of these.
-const GROUP: usize = 4;
+// Symbols of a group, its bytes, its bits, and the mask of these.
+pub const GROUP: usize = 4;
+
+pub const GROUP_BYTES: usize = 5;
 
 const GROUP_BITS: usize = 40;
 
@@ -118,4 +120,39 @@ pub fn write_symbols(bytes: &[u8], i: usize, n: usize, row: &mut [u16], t: usize
     let groups = n / GROUP;
     write_groups(bytes, i, groups, row, t);
     write_each(bytes, i + GROUP_BITS * groups, n % GROUP, row, t + GROUP * groups);
+}
+
+// The 40 bits of four symbols from place t on.
+fn four_symbols(row: &[u16], t: usize) -> u64
+    requires { ⌜ t + 4 ≤ length (now row) ⌝ }
+    ensures { λ r. ⌜ r ≡ numberAt 40 (symbolBit (at (now (row .entry)))) (10 * t) ⌝ }
+{
+    (((row[t] & 1023) as u64) << 30)
+        | (((row[t + 1] & 1023) as u64) << 20)
+        | (((row[t + 2] & 1023) as u64) << 10)
+        | ((row[t + 3] & 1023) as u64)
+}
+
+// Writes the five bytes of 40 bits into the buffer from byte k on.
+fn put_bytes(x: u64, out: &mut [u8], k: usize)
+    requires { ⌜ k + 5 ≤ length (now out) ⌝ }
+    ensures { λ _. ⌜ Placed k (partsOf 8 5 (bitOf 40 x) 0) (now (out .entry)) (now (out .exit)) ⌝ }
+{
+    out[k] = ((x >> 32) & 255) as u8;
+    out[k + 1] = ((x >> 24) & 255) as u8;
+    out[k + 2] = ((x >> 16) & 255) as u8;
+    out[k + 3] = ((x >> 8) & 255) as u8;
+    out[k + 4] = (x & 255) as u8;
+}
+
+// Writes the bytes of n groups of symbols, those of the row from place t on, into the buffer from byte k on.
+pub fn write_bytes(row: &[u16], t: usize, n: usize, out: &mut [u8], k: usize)
+    requires { ⌜ (t + 4 * n ≤ length (now row)) × (k + 5 * n ≤ length (now out)) ⌝ }
+    ensures { λ _. ⌜ Placed k (partsOf 8 (5 * n) (symbolBit (at (now (row .entry)))) (10 * t)) (now (out .entry)) (now (out .exit)) ⌝ }
+{
+    let mut q: usize = 0;
+    while q < n {
+        put_bytes(four_symbols(row, t + GROUP * q), out, k + GROUP_BYTES * q);
+        q += 1;
+    }
 }

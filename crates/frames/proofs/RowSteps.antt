@@ -35,6 +35,19 @@ data-placed payload w n e p = rw e at p
 unfoldable pub sentByte : List ℕ → ℕ → ℕ
 sentByte row k = symbolByte (at row) (rowPlace (8 * k))
 
+-- the groups before the padding bits stand in the frame as in the row
+pub sent-start : (row : List ℕ) {before out : List ℕ} → Placed 0 (partsOf 8 (5 * 3119) (symbolBit (at row)) (10 * 0)) before out → length before ≡ 16320 →
+    Filled 16320 (sentByte row) (5 * 3119) out
+unfolding sentByte symbolByte numberAt
+sent-start row {before} {out} p long = record { long = p .long ∙ long; within = omega arith; done = byte }
+  where
+    byte : (k : ℕ) → k < 5 * 3119 → at out k ≡ sentByte row k
+    byte k l =
+        let e : k ≡ 0 + k = omega arith in
+        let n = parts-length 8 (5 * 3119) (symbolBit (at row)) (10 * 0) in
+        ap (at out) e ∙ p .inside k (omega (arith, n)) ∙ parts-at 8 (5 * 3119) (symbolBit (at row)) (10 * 0) k l
+        ∙ numberOf-same 8 _ _ (λ j h. ap (λ (i : ℕ). symbolBit (at row) (i + j)) (omega (arith, place-first (8 * k) (omega arith))))
+
 pub sent-next : (row : List ℕ) {out : List ℕ} {k p v : ℕ} → Filled 16320 (sentByte row) k out → k < 15616 → p ≡ rowPlace (8 * k) → v ≡ symbolByte (at row) p →
     Filled 16320 (sentByte row) (k + 1) (set out k v)
 unfolding sentByte

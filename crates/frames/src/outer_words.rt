@@ -27,6 +27,9 @@ const PADDED: usize = LAST * Frame::WORD_SYMBOLS + Frame::LAST_DATA_SYMBOLS - 1;
 
 const UNPADDED: u16 = 1020;
 
+// The groups of symbols before it, whose bytes stand in the frame as in the row.
+const GROUPS: usize = PADDED / bits::GROUP;
+
 // The padding bits, the low ones of their symbol.
 const PADDING_MASK: u16 = 3;
 
@@ -120,10 +123,11 @@ fn row_place(k: usize) -> usize
 
 // Writes what is sent of the row, the frame's data bytes.
 pub fn send(row: &[u16], out: &mut [u8])
-    requires { ⌜ length (now out) ≡ 16320 ⌝ }
+    requires { ⌜ (length (now row) ≡ 12496) × (length (now out) ≡ 16320) ⌝ }
     ensures { λ _. ⌜ Sent (now (row .entry)) (now (out .exit)) ⌝ }
 {
-    let mut k: usize = 0;
+    bits::write_bytes(row, 0, GROUPS, out, 0);
+    let mut k: usize = bits::GROUP_BYTES * GROUPS;
     while k < Frame::DATA_BYTES {
         out[k] = row_byte(row, row_place(k));
         k += 1;

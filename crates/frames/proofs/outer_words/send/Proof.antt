@@ -1,8 +1,8 @@
 -- `frames::outer_words::send` meets its contract. Assumes nothing.
 use Prim.Native.Nat.{_-_}
 use borrow.Author.Needs.{needs}
-use Rattle.words.proofs.Places.Filling.{Filled, filled-start}
-use Rattle.frames.proofs.RowSteps.{sentByte, sent-next, sent-end}
+use Rattle.words.proofs.Places.Filling.{Filled}
+use Rattle.frames.proofs.RowSteps.{sentByte, sent-start, sent-next, sent-end}
 use Rattle.frames.proofs.outer_words.send.Statement.{statement}
 use Rattle.frames.proofs.outer_words.send.Tie as tie
 
@@ -12,8 +12,14 @@ Inv-loop row out₀ k₀ out k = Filled 16320 (sentByte row) k out
 abbrev μ-loop : tie.MeasureT-loop
 μ-loop row out₀ k₀ out k = 15616 - k
 
+write-bytes-requires : tie.Need-write-bytes-requires Inv-loop μ-loop
+write-bytes-requires c κs = search needs
+
+mul-k : tie.Need-mul-k Inv-loop μ-loop
+mul-k c = search needs
+
 loop-holds : tie.Need-loop-holds Inv-loop μ-loop
-loop-holds c = search (needs, filled-start)
+loop-holds c = search (needs, sent-start)
 
 row-place-requires : tie.Need-row-place-requires Inv-loop μ-loop
 row-place-requires c κs = search needs
@@ -31,7 +37,7 @@ loop-less : tie.Need-loop-less Inv-loop μ-loop
 loop-less c = search needs
 
 loop-again : tie.Need-loop-again Inv-loop μ-loop
-loop-again c = search (needs, sent-next)
+loop-again c = sent-next _ (c .before .before .before .loop .inv) (c .before .before .loop-test .taken) (c .before .row-place .ensures) (c .row-byte .ensures)
 
 same-length : tie.Need-same-length Inv-loop μ-loop
 same-length c = search needs
@@ -45,6 +51,8 @@ send-spec =
     (tie.spec
     Inv-loop
     μ-loop
+    write-bytes-requires
+    mul-k
     loop-holds
     row-place-requires
     row-byte-requires

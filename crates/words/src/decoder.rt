@@ -63,12 +63,15 @@ fn plus_scaled(exp: &[u16], log: &[u16], u: Row, c: u16, v: Row) -> Row
     Row { cells }
 }
 
-// Cell j of u is made zero by the pivot v of that cell. A pivot that is missing is all zero and changes nothing.
+// Cell j of u is made zero by the pivot v of that cell. A pivot that is missing is all zero and changes nothing, and so does one of a cell that is zero.
 fn cleared(exp: &[u16], log: &[u16], u: Row, v: Row, j: usize) -> Row
     requires { ⌜ j < 8 ⌝ }
     ensures { λ r. ⌜ r .cells ≡ cleared (now (exp .entry)) (now (log .entry)) (u .cells) (v .cells) j ⌝ }
 {
     let c = fields::product(exp, log, u.cells[j], fields::inverse(exp, log, v.cells[j]));
+    if c == 0 {
+        return u;
+    }
     plus_scaled(exp, log, u, c, v)
 }
 

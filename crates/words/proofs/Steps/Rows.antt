@@ -1,5 +1,5 @@
 -- A step of each loop over the rows of the elimination. Assumes nothing.
-use mathlib.Core.Path.{_≡_, refl, _∙_}
+use mathlib.Core.Path.{_≡_, refl, sym, ap, _∙_}
 use mathlib.Core.Bool.{cond}
 use mathlib.Core.List.{List}
 use Prim.Native.Nat.{ℕ, _+_, _-_, _≤_, _<_, zero-le}
@@ -8,12 +8,14 @@ use native.Mathlib.Nat.{not-suc-le-zero}
 use native.Mathlib.Numerals.{add-one}
 use native.Mathlib.Omega.{arith}
 use borrow.Author.Tests.{eq-eqb, ne-eqb, lt-ltb, le-ltb}
+use lib.Bits.{and-zero-l}
 use lib.Dec.{eqb, ltb}
 use lib.ListN.{length, getD, set, replicate, length-set}
 use lib.Seq.{getD-set-same, getD-set-other}
 use Rattle.fields.specs.Elements.{xor}
-use Rattle.fields.specs.ByTables.{tableProduct, tableInverse}
+use Rattle.fields.specs.ByTables.{placeIn, productAt, tableProduct, tableInverse}
 use Rattle.fields.proofs.Lists.{tabulate-is}
+use Rattle.fields.proofs.Xor.{xor-zero-r}
 use Rattle.words.specs.declared.decoder.Row.{Row}
 use Rattle.words.specs.Places.{at}
 use Rattle.words.specs.DecoderSteps.{powerRow, plusScaled, cleared, noRow, cellsOf, reduced, FirstNonzero}
@@ -79,6 +81,17 @@ pub cleared-is : (es ls u v r : List ℕ) (j i c : ℕ) → i ≡ tableInverse e
     r ≡ plusScaled es ls u c v → r ≡ cleared es ls u v j
 unfolding cleared
 cleared-is es ls u v r j i c ei ec er = rw (← ei, ← ec) er
+
+-- a coefficient that is zero changes nothing
+zero-product : (es ls : List ℕ) (y : ℕ) → tableProduct es ls 0 y ≡ 0
+unfolding tableProduct productAt placeIn
+zero-product es ls y = rw (and-zero-l (length ls - 1))
+
+pub cleared-same : (es ls u v : List ℕ) (j i c : ℕ) → length u ≡ 17 → i ≡ tableInverse es ls (getD v j 0) → c ≡ tableProduct es ls (getD u j 0) i → c ≡ 0 →
+    u ≡ cleared es ls u v j
+unfolding cleared plusScaled
+cleared-same es ls u v j i c long ei ec z =
+    rw (← ei, ← ec, z) (tabulate-is 17 _ u 0 long (λ k l. sym (ap (xor (at u k)) (zero-product es ls (at v k)) ∙ xor-zero-r (at u k))))
 
 pub reduced-none : (es ls u : List ℕ) (pivots : List Row) → u ≡ reduced es ls u pivots 0
 unfolding reduced

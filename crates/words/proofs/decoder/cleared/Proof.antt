@@ -1,6 +1,6 @@
 -- `words::decoder::cleared` meets its contract. Assumes nothing.
 use borrow.Author.Needs.{needs}
-use Rattle.words.proofs.Steps.Rows.{cleared-is}
+use Rattle.words.proofs.Steps.Rows.{cleared-is, cleared-same}
 use Rattle.words.proofs.decoder.cleared.Statement.{statement}
 use Rattle.words.proofs.decoder.cleared.Tie as tie
 
@@ -22,11 +22,14 @@ inverse-requires c κs = search needs
 product-requires : tie.Need-product-requires
 product-requires c κs = search needs
 
+returns : tie.Need-returns
+returns c = search (needs, cleared-same)
+
 plus-scaled-requires : tie.Need-plus-scaled-requires
 plus-scaled-requires c κs = search needs
 
-returns : tie.Need-returns
-returns c = search (needs, cleared-is)
+returns-2 : tie.Need-returns-2
+returns-2 c = search (needs, cleared-is)
 
 pub cleared-spec : {M : Type 1} → statement M
 cleared-spec =
@@ -38,5 +41,6 @@ cleared-spec =
     element-copy-out-inverse
     inverse-requires
     product-requires
+    returns
     plus-scaled-requires
-    returns)
+    returns-2)

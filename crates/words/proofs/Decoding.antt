@@ -3,6 +3,7 @@
 pub mod Elimination
 pub mod RootPlaces
 pub mod Search
+pub mod LinearRoot
 pub mod Values
 pub mod Changes
 pub mod Completeness

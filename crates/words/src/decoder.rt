@@ -2,7 +2,7 @@
 //
 //     annihilator   a polynomial of degree at most 8 that annihilates the syndromes, by elimination: the locators of up to eight errors are its roots
 //     roots         the places of the word, never of the omitted front, whose locators are roots: from place to place each term of the polynomial is
-//                   divided by a power of a, which lowers its exponent, and a root that is found is divided out
+//                   divided by a power of a, which lowers its exponent, and a root that is found is divided out; the last by the table of exponents
 //     values        the value of the error at each of them, the last first: the locators before it are filtered out of the syndromes, which leaves a
 //                   multiple of the value; then the error's own syndromes are taken away
 //     test          if nothing is left of the syndromes, the word less these errors is a code word, near enough; else there is none
@@ -220,6 +220,56 @@ fn next_value(exp: &[u16], exponents: &mut [usize], steps: &[usize], count: usiz
     v
 }
 
+// How many coefficients, from the highest power down, are zero before one is not.
+fn leading_zeros(polynomial: [u16; COEFFICIENTS]) -> usize
+    ensures { λ r. ⌜ (r ≤ 9) × ((k : ℕ) → k < r → at polynomial k ≡ 0) ⌝ }
+{
+    let mut k: usize = 0;
+    while k < COEFFICIENTS {
+        if polynomial[k] != 0 {
+            return k;
+        }
+        k += 1;
+    }
+    COEFFICIENTS
+}
+
+// The same as `next_root` for c x + d: the exponent of the root d / c tells its place.
+fn linear_root(
+    exp: &[u16],
+    log: &[u16],
+    polynomial: [u16; COEFFICIENTS],
+    n: usize,
+    i: usize,
+) -> usize
+    requires { ⌜ Tables (now exp) (now log) ⌝ }
+    requires { ⌜ (n ≤ length (now exp)) × (n < 65536) × (i ≤ n) ⌝ }
+    requires { ⌜ ((k : ℕ) → at polynomial k < length (now log)) × ((k : ℕ) → k < 7 → at polynomial k ≡ 0) ⌝ }
+    ensures { λ r. ⌜ FirstRoot (now (exp .entry)) (now (log .entry)) polynomial n i r ⌝ }
+{
+    let c = polynomial[COEFFICIENTS - 2] as usize;
+    let d = polynomial[COEFFICIENTS - 1] as usize;
+    if c == 0 {
+        if d == 0 {
+            return i;
+        }
+        return n;
+    }
+    if d == 0 {
+        return n;
+    }
+    let e = less(
+        exp.len(),
+        reed_solomon::symbol(log, d) as usize,
+        reed_solomon::symbol(log, c) as usize,
+    );
+    if n <= e {
+        return n;
+    }
+    let r = n - 1 - e;
+    if r < i { n } else { r }
+}
+
 // The first place from i on whose locator is a root, or n. A single term has none.
 fn next_root(exp: &[u16], log: &[u16], polynomial: [u16; COEFFICIENTS], n: usize, i: usize) -> usize
     requires { ⌜ Tables (now exp) (now log) ⌝ }
@@ -227,6 +277,9 @@ fn next_root(exp: &[u16], log: &[u16], polynomial: [u16; COEFFICIENTS], n: usize
     requires { ⌜ ((k : ℕ) → at polynomial k < length (now log)) ⌝ }
     ensures { λ r. ⌜ FirstRoot (now (exp .entry)) (now (log .entry)) polynomial n i r ⌝ }
 {
+    if COEFFICIENTS - 2 <= leading_zeros(polynomial) {
+        return linear_root(exp, log, polynomial, n, i);
+    }
     let t = terms_at(exp, log, polynomial, locator(exp, n, i));
     let mut exponents = t.exponents;
     let steps = t.steps;

@@ -28,7 +28,7 @@ use Rattle.words.proofs.Decoding.RootPlaces.{locator-in, locators-disti
 
 -- ---- exponents modulo n
 
-less-lt : (n e d : ℕ) → e < n → d < n → lessModulo n e d < n
+pub less-lt : (n e d : ℕ) → e < n → d < n → lessModulo n e d < n
 unfolding lessModulo
 less-lt n e d he hd = go (decLt e d)
   where
@@ -105,7 +105,7 @@ module _ (es ls : List ℕ) (T : Tables es ls) where
   divide {d} {y} {z} id nd iy e = ap (tableProduct es ls (tableInverse es ls d)) e ∙ undo O K iy id nd
 
   -- a lowered exponent is that of a quotient
-  less-power : (e d : ℕ) → e < length es → d < length es → tableProduct es ls (tableInverse es ls (at es d)) (at es e) ≡ at es (lessModulo (length es) e d)
+  pub less-power : (e d : ℕ) → e < length es → d < length es → tableProduct es ls (tableInverse es ls (at es d)) (at es e) ≡ at es (lessModulo (length es) e d)
   unfolding tablePower
   less-power e d he hd =
       let f = lessModulo (length es) e d in

@@ -105,22 +105,26 @@ module _ (es ls u : List ℕ) (pivots : List Row) (row : List ℕ) (j : ℕ) (so
   pub reduced-end : j ≤ 8 → 8 ≤ j → row ≡ reduced es ls u pivots 8
   reduced-end l h = let e : j ≡ 8 = omega arith in rw e at so-far
 
--- the first j cells are zero
-pub record ZeroBelow (u : List ℕ) (j : ℕ) : Type 0 where
-  pub most : j ≤ 8
+-- the first j of n cells are zero
+pub record ZeroBelow (n : ℕ) (u : List ℕ) (j : ℕ) : Type 0 where
+  pub most : j ≤ n
   pub before : (i : ℕ) → i < j → at u i ≡ 0
 
-pub zero-none : {u : List ℕ} → ZeroBelow u 0
+pub zero-none : {n : ℕ} {u : List ℕ} → ZeroBelow n u 0
 zero-none = record { most = zero-le; before = λ i h. absurd (not-suc-le-zero h) }
 
-module _ {u : List ℕ} {j : ℕ} (so-far : ZeroBelow u j) where
-  pub zero-next : j < 8 → getD u j 0 ≡ 0 → ZeroBelow u (j + 1)
+module _ {n : ℕ} {u : List ℕ} {j : ℕ} (so-far : ZeroBelow n u j) where
+  pub zero-next : j < n → getD u j 0 ≡ 0 → ZeroBelow n u (j + 1)
   zero-next l z = record { most = omega arith; before = λ i h. go i h (ℕ-discrete i j) }
     where
       go : (i : ℕ) → i < j + 1 → Dec (i ≡ j) → at u i ≡ 0
       go i h (yes e) = rw e z
       go i h (no e) = so-far .before i (omega arith)
 
+  pub zero-end : n ≤ j → (i : ℕ) → i < n → at u i ≡ 0
+  zero-end l i h = so-far .before i (omega arith)
+
+module _ {u : List ℕ} {j : ℕ} (so-far : ZeroBelow 8 u j) where
   pub first-here : (getD u j 0 ≡ 0 → ⊥) → FirstNonzero u j
   first-here n = record { most = so-far .most; before = so-far .before; here = λ l. n }
 

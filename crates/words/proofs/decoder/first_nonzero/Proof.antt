@@ -6,7 +6,7 @@ use Rattle.words.proofs.decoder.first_nonzero.Statement.{statement}
 use Rattle.words.proofs.decoder.first_nonzero.Tie as tie
 
 abbrev Inv-loop : tie.InvT-loop
-Inv-loop u j₀ j = ZeroBelow (u .cells) j
+Inv-loop u j₀ j = ZeroBelow 8 (u .cells) j
 
 abbrev μ-loop : tie.MeasureT-loop
 μ-loop u j₀ j = 8 - j

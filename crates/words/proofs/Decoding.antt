@@ -7,6 +7,8 @@ pub mod LinearRoot
 pub mod Values
 pub mod Changes
 pub mod Completeness
+pub mod Uniqueness
+pub mod Flips
 pub mod Outer
 pub mod InnerSyndromes
 pub mod Inner

@@ -10,6 +10,7 @@ pub mod Rows
 pub mod Search
 pub mod RootsFound
 pub mod Errors
+pub mod Flips
 pub mod Inner
 pub mod Refusals
 pub mod Entries

@@ -2,7 +2,7 @@
 use mathlib.Core.Path.{_≡_}
 use mathlib.Core.Bool.{cond}
 use mathlib.Core.List.{List, [], _∷_}
-use Prim.Native.Nat.{ℕ, zero, suc, _+_, _-_, _≤_, _<_}
+use Prim.Native.Nat.{ℕ, zero, suc, _+_, _-_, _*_, _≤_, _<_}
 use lib.Dec.{eqb, ltb}
 use lib.ListN.{length, getD, set, replicate}
 use Rattle.fields.specs.Lists.{tabulate}
@@ -163,3 +163,27 @@ unfoldable pub resolved : List ℕ → List ℕ → ℕ → ℕ → Errors → E
 resolved es ls n k e =
     let v = errorValue es ls n (e .places .at) (e .left) k in
     record { places = e .places; values = set (e .values) k v; left = lessError es ls (locator es n (at (e .places .at) k)) v (e .left) }
+
+-- the places are the roots, among the locators of n places, of a polynomial that annihilates the syndromes t
+pub record Located (es ls t : List ℕ) (n : ℕ) (places : List ℕ) (count : ℕ) : Type 0 where
+  pub polynomial : List ℕ
+  pub long : length polynomial ≡ 9
+  pub annihilates : Annihilates es ls t polynomial
+  pub roots : Roots es ls polynomial n n places count
+
+-- ---- the same in words of bits
+
+-- the syndromes t, with those of the error a^e at the locator a^e taken away
+unfoldable pub lessPowers : List ℕ → ℕ → List ℕ → List ℕ
+lessPowers es e t = tabulate 16 (λ j. xor (at t j) (tablePower es (e * suc j)))
+
+-- the error at place k of those listed has its locator for a value, and is taken away
+unfoldable pub flipped : List ℕ → ℕ → ℕ → Errors → Errors
+flipped es n k e =
+    let x = n - suc (at (e .places .at) k) in
+    record { places = e .places; values = set (e .values) k (at es x); left = lessPowers es x (e .left) }
+
+-- the same for each of the first k places, of those listed for the syndromes t
+unfoldable pub flippedTo : List ℕ → ℕ → List ℕ → Places → ℕ → Errors
+flippedTo es n t p zero = record { places = p; values = replicate 8 0; left = t }
+flippedTo es n t p (suc k) = flipped es n k (flippedTo es n t p k)

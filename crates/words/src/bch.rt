@@ -332,7 +332,7 @@ pub fn errors(exp: &[u16], log: &[u16], word: &[u8]) -> Errors
     ensures { λ r. ⌜ InnerErrors (now (word .entry)) (r .places .at) (r .values) (r .places .count) (r .left) ⌝ }
 {
     let t = syndromes(exp, log, remainder(divisor(), word));
-    decoder::decode(exp, log, t, Inner::PLACES)
+    decoder::decode_bits(exp, log, t, Inner::PLACES)
 }
 
 // The errors leave nothing of the syndromes, and each has the value of a wrong place.

@@ -4,21 +4,21 @@
 //     roots         the places of the word, never of the omitted front, whose locators are roots: from place to place each term of the polynomial is
 //                   divided by a power of a, which lowers its exponent, and a root that is found is divided out; the last by the table of exponents
 //     values        the value of the error at each of them, the last first: the locators before it are filtered out of the syndromes, which leaves a
-//                   multiple of the value; then the error's own syndromes are taken away
+//                   multiple of the value; then the error's own syndromes are taken away. In a word of bits the values are known, and tried first
 //     test          if nothing is left of the syndromes, the word less these errors is a code word, near enough; else there is none
 //
 // The elimination stops at the number of errors, so that few errors are cheap. Any polynomial that annihilates will do: the values tell which of its
 // roots are errors.
 use crate::reed_solomon;
 ghost use mathlib.Core.Path.{_≡_};
-ghost use Prim.Native.Nat.{ℕ, _+_, _≤_, _<_};
+ghost use Prim.Native.Nat.{ℕ, _+_, _%_, _≤_, _<_};
 ghost use lib.ListN.{length};
 ghost use Rattle.fields.specs.Lists.{tabulate};
 ghost use Rattle.fields.specs.Elements.{xor};
 ghost use Rattle.fields.specs.ByTables.{tableProduct};
 ghost use Rattle.words.specs.Places.{at, differs};
 ghost use Rattle.words.specs.Decoder.{Tables, locator, Decoded, weightOf};
-ghost use Rattle.words.specs.DecoderSteps.{Annihilates, powerRow, plusScaled, cleared, reduced, FirstNonzero, kept, Roots, withTerm, termsTo, lessModulo, Exponents, powersTo, lowered, FirstRoot, quotientOf, filtered, errorValue, lessError, resolved};
+ghost use Rattle.words.specs.DecoderSteps.{Annihilates, powerRow, plusScaled, cleared, reduced, FirstNonzero, kept, Roots, withTerm, termsTo, lessModulo, Exponents, powersTo, lowered, FirstRoot, quotientOf, filtered, errorValue, lessError, resolved, Located, lessPowers, flipped, flippedTo};
 
 // Errors in up to so many places are found.
 pub const RADIUS: usize = 8;
@@ -464,14 +464,13 @@ fn resolved(exp: &[u16], log: &[u16], n: usize, e: Errors, k: usize) -> Errors
     }
 }
 
-// The errors in a word of n places that has the syndromes t.
-pub fn decode(exp: &[u16], log: &[u16], t: [u16; SYNDROMES], n: usize) -> Errors
+// The errors at the places found, in a word of n places that has the syndromes t.
+fn valued(exp: &[u16], log: &[u16], n: usize, t: [u16; SYNDROMES], places: Places) -> Errors
     requires { ⌜ Tables (now exp) (now log) ⌝ }
     requires { ⌜ (n ≤ length (now exp)) × (n < 65536) ⌝ }
+    requires { ⌜ Located (now exp) (now log) t n (places .at) (places .count) ⌝ }
     ensures { λ r. ⌜ Decoded (now (exp .entry)) (now (log .entry)) t n (r .places .at) (r .values) (r .places .count) (r .left) ⌝ }
 {
-    let polynomial = annihilator(exp, log, t);
-    let places = roots(exp, log, polynomial, n);
     let mut e = Errors {
         places,
         values: [0u16; RADIUS],
@@ -483,6 +482,105 @@ pub fn decode(exp: &[u16], log: &[u16], t: [u16; SYNDROMES], n: usize) -> Errors
         e = resolved(exp, log, n, e, k);
     }
     e
+}
+
+// e + d, counted modulo n.
+fn plus(n: usize, e: usize, d: usize) -> usize
+    requires { ⌜ (e < n) × (d < n) × (n ≤ 65536) ⌝ }
+    ensures { λ r. ⌜ r ≡ (e + d) % n ⌝ }
+{
+    if e + d < n { e + d } else { e + d - n }
+}
+
+// The syndromes t, with those of the error a^e at the locator a^e taken away.
+fn less_powers(exp: &[u16], e: usize, t: [u16; SYNDROMES]) -> [u16; SYNDROMES]
+    requires { ⌜ (e < length (now exp)) × (length (now exp) ≤ 65536) ⌝ }
+    ensures { λ r. ⌜ r ≡ lessPowers (now (exp .entry)) e t ⌝ }
+{
+    let mut s = [0u16; SYNDROMES];
+    let mut k = e;
+    let mut j: usize = 0;
+    while j < SYNDROMES {
+        s[j] = reed_solomon::sum(t[j], exp[k]);
+        k = plus(exp.len(), k, e);
+        j += 1;
+    }
+    s
+}
+
+// The error at place k of those listed is taken for one of value 1, in a word of bits whose syndromes start at a: it counts as its locator.
+fn flipped(exp: &[u16], n: usize, e: Errors, k: usize) -> Errors
+    requires { ⌜ (n ≤ length (now exp)) × (length (now exp) ≤ 65536) ⌝ }
+    requires { ⌜ (k < 8) × (at (e .places .at) k < n) ⌝ }
+    ensures { λ r. ⌜ r ≡ flipped (now (exp .entry)) n k e ⌝ }
+{
+    let places = e.places;
+    let t = e.left;
+    let x = n - 1 - places.at[k] as usize;
+    let left = less_powers(exp, x, t);
+    let mut values = e.values;
+    values[k] = exp[x];
+    Errors {
+        places,
+        values,
+        left,
+    }
+}
+
+// The same at each place listed.
+fn all_flipped(exp: &[u16], n: usize, t: [u16; SYNDROMES], places: Places) -> Errors
+    requires { ⌜ (n ≤ length (now exp)) × (length (now exp) ≤ 65536) ⌝ }
+    requires { ⌜ (places .count ≤ 8) × ((k : ℕ) → k < places .count → at (places .at) k < n) ⌝ }
+    ensures { λ r. ⌜ r ≡ flippedTo (now (exp .entry)) n t places (places .count) ⌝ }
+{
+    let mut e = Errors {
+        places,
+        values: [0u16; RADIUS],
+        left: t,
+    };
+    let mut k: usize = 0;
+    while k < places.count {
+        e = flipped(exp, n, e, k);
+        k += 1;
+    }
+    e
+}
+
+// The same as `valued`, and quick where the errors have the value 1 each: if these leave nothing, there are no others.
+fn bits_valued(exp: &[u16], log: &[u16], n: usize, t: [u16; SYNDROMES], places: Places) -> Errors
+    requires { ⌜ Tables (now exp) (now log) ⌝ }
+    requires { ⌜ (n ≤ length (now exp)) × (n < 65536) × (length (now exp) ≤ 65536) ⌝ }
+    requires { ⌜ Located (now exp) (now log) t n (places .at) (places .count) ⌝ }
+    ensures { λ r. ⌜ Decoded (now (exp .entry)) (now (log .entry)) t n (r .places .at) (r .values) (r .places .count) (r .left) ⌝ }
+{
+    let e = all_flipped(exp, n, t, places);
+    let left = e.left;
+    if reed_solomon::all_below(&left, 1) {
+        return e;
+    }
+    valued(exp, log, n, t, places)
+}
+
+// The errors in a word of n places that has the syndromes t.
+pub fn decode(exp: &[u16], log: &[u16], t: [u16; SYNDROMES], n: usize) -> Errors
+    requires { ⌜ Tables (now exp) (now log) ⌝ }
+    requires { ⌜ (n ≤ length (now exp)) × (n < 65536) ⌝ }
+    ensures { λ r. ⌜ Decoded (now (exp .entry)) (now (log .entry)) t n (r .places .at) (r .values) (r .places .count) (r .left) ⌝ }
+{
+    let polynomial = annihilator(exp, log, t);
+    let places = roots(exp, log, polynomial, n);
+    valued(exp, log, n, t, places)
+}
+
+// The same for a word of bits, whose syndromes start at a: quick where it has at most eight wrong.
+pub fn decode_bits(exp: &[u16], log: &[u16], t: [u16; SYNDROMES], n: usize) -> Errors
+    requires { ⌜ Tables (now exp) (now log) ⌝ }
+    requires { ⌜ (n ≤ length (now exp)) × (n < 65536) × (length (now exp) ≤ 65536) ⌝ }
+    ensures { λ r. ⌜ Decoded (now (exp .entry)) (now (log .entry)) t n (r .places .at) (r .values) (r .places .count) (r .left) ⌝ }
+{
+    let polynomial = annihilator(exp, log, t);
+    let places = roots(exp, log, polynomial, n);
+    bits_valued(exp, log, n, t, places)
 }
 
 // 1 for a value that is not zero.

@@ -16,7 +16,7 @@ use Rattle.words.specs.declared.decoder.Errors.{Errors}
 use Rattle.words.specs.declared.decoder.Places.{Places}
 use Rattle.words.specs.Places.{at}
 use Rattle.words.specs.Decoder.{Tables, locator, xorTo, timesPower, syndrome, errorAt, Correctable, Decoded}
-use Rattle.words.specs.DecoderSteps.{Annihilates, backwards, Roots, errorValue, lessError, resolved}
+use Rattle.words.specs.DecoderSteps.{backwards, Roots, errorValue, lessError, resolved, Located}
 use Rattle.words.proofs.Places.Filling.{zeros-at}
 use Rattle.words.proofs.Algebra.Field as F
 use Rattle.words.proofs.Algebra.Field.{Ops, Laws, all-map, upto, upto-lt}
@@ -106,7 +106,31 @@ module _ (es ls : List ℕ) (T : Tables es ls) where
   unfolding errorValue
   value-in n places left k = K .in-mul _ _
 
-  module _ (n : ℕ) (fits : n ≤ length es) (t v : List ℕ) (p : Places) (R : Roots es ls v n n (p .at) (p .count)) where
+  -- what the errors leave: all, if there are none; and with a value more
+  module _ (n : ℕ) (t : List ℕ) (p : Places) where
+    pub left-none : (j : ℕ) → j < 16 → at t j ≡ xor (at t j) (syndrome es ls n (errorAt (p .at) (replicate 8 0) (p .count)) j)
+    left-none j h =
+        let none : errorAt (p .at) (replicate 8 0) (p .count) ≡ (λ i. 0) = fun-ext (error-none (p .at) (replicate 8 0) (zeros-at 8) (p .count)) in
+        sym (ap (xor (at t j)) (ap (λ f. syndrome es ls n f j) none ∙ syndrome-none n j) ∙ F.add-zero O K _)
+
+    pub left-next : (values left : List ℕ) (k v : ℕ) → k < p .count → at (p .at) k < n → k < length values → at values k ≡ 0 →
+        ((j : ℕ) → j < 16 → at left j ≡ xor (at t j) (syndrome es ls n (errorAt (p .at) values (p .count)) j)) →
+        (j : ℕ) → j < 16 → at (lessError es ls (locator es n (at (p .at) k)) v left) j ≡ xor (at t j) (syndrome es ls n (errorAt (p .at) (set values k v) (p .count)) j)
+    left-next values left k v h below room unset so-far j l =
+        let place = at (p .at) k in
+        let x = locator es n place in
+        let before = errorAt (p .at) values (p .count) in
+        less-at es ls T n x v left j l ∙ ap (λ (s : ℕ). xor s (timesPower (tableProduct es ls) x v j)) (so-far j l) ∙ K .add-assoc (at t j) _ _
+        ∙ ap (xor (at t j)) (ap (xor (syndrome es ls n before j)) (sym (syndrome-one n place v j below)) ∙ sym (syndrome-add es ls n T before (oneError place v) j)
+        ∙ ap (λ f. syndrome es ls n f j) (sym (fun-ext (error-set (p .at) values (p .count) k v h room unset))))
+
+  module _ (n : ℕ) (fits : n ≤ length es) (t : List ℕ) (p : Places) (L : Located es ls t n (p .at) (p .count)) where
+    abbrev v : List ℕ
+    v = L .polynomial
+
+    R : Roots es ls v n n (p .at) (p .count)
+    R = L .roots
+
     -- the place before k is resolved
     resolving-one : (k : ℕ) (values left : List ℕ) → Resolving es ls t n p (record { places = p; values = values; left = left }) (suc k) →
         Resolving es ls t n p (resolved es ls n k (record { places = p; values = values; left = left })) k
@@ -118,11 +142,7 @@ module _ (es ls : List ℕ) (T : Tables es ls) where
           long = length-set values k v′ ∙ S .long;
           unset = λ l h. other l (λ q. omega arith) ∙ S .unset l (omega arith);
           elements = λ l. inside l (ℕ-discrete l k);
-          left-is = λ j h.
-              less-at es ls T n x v′ left j h ∙ ap (λ (s : ℕ). xor s (timesPower (tableProduct es ls) x v′ j)) (S .left-is j h) ∙ K .add-assoc (at t j) _ _
-              ∙ ap (xor (at t j)) (ap (xor (syndrome es ls n before j)) (sym (syndrome-one n place v′ j (R .below k (S .within))))
-              ∙ sym (syndrome-add es ls n T before (oneError place v′) j)
-              ∙ ap (λ f. syndrome es ls n f j) (sym (fun-ext (error-set (p .at) values (p .count) k v′ (S .within) room (S .unset k (le-refl (suc k)))))));
+          left-is = left-next n t p values left k v′ (S .within) (R .below k (S .within)) room (S .unset k (le-refl (suc k))) (S .left-is);
           remain = λ w C j h.
               ap (λ (u : ℕ). at (lessError es ls x u left) j) (right w C) ∙ less-sums es ls T n w left place (backwards (p .at) k) (S .remain w C) j h;
           found = λ w C l h b. value w C l h b (ℕ-discrete l k);
@@ -136,9 +156,6 @@ module _ (es ls : List ℕ) (T : Tables es ls) where
 
         v′ : ℕ
         v′ = errorValue es ls n (p .at) left k
-
-        before : ℕ → ℕ
-        before = errorAt (p .at) values (p .count)
 
         room : k < length values
         room = omega (arith, S .within, S .long, R .few)
@@ -169,41 +186,38 @@ module _ (es ls : List ℕ) (T : Tables es ls) where
         ap (λ (u : Places). record { places = u; values = e .values; left = e .left }) (sym (S .same)) in
         rw (er, ← s) (resolving-one (k - 1) (e .values) (e .left) (rw (← s, q) at S))
 
-    module _ (A : Annihilates es ls t v) (nine : length v ≡ 9) where
-      covered : (w : ℕ → ℕ) → Correctable es ls t n w → (f : ℕ → ℕ) → ((i : ℕ) → w i ≡ 0 → f i ≡ 0) →
-          sum O f (backwards (p .at) (p .count)) ≡ sum O f (upto n)
-      covered w C f h = ap (sum O f) (R .all (few-roots es ls T n v fits t A nine)) ∙ covers es ls T n v fits t A nine w C f h
+    covered : (w : ℕ → ℕ) → Correctable es ls t n w → (f : ℕ → ℕ) → ((i : ℕ) → w i ≡ 0 → f i ≡ 0) →
+        sum O f (backwards (p .at) (p .count)) ≡ sum O f (upto n)
+    covered w C f h = ap (sum O f) (R .all (few-roots es ls T n v fits t (L .annihilates) (L .long))) ∙ covers es ls T n v fits t (L .annihilates) (L .long) w C f h
 
-      pub resolving-start : Resolving es ls t n p (record { places = p; values = replicate 8 0; left = t }) (p .count)
-      resolving-start =
-          record {
-            same = refl;
-            within = le-refl (p .count);
-            long = length-replicate {A = ℕ} 8 0;
-            unset = λ l h. zeros-at 8 l;
-            elements = λ l. rw (zeros-at 8 l) (K .in-zero);
-            left-is = λ j h.
-                let none : errorAt (p .at) (replicate 8 0) (p .count) ≡ (λ i. 0) = fun-ext (error-none (p .at) (replicate 8 0) (zeros-at 8) (p .count)) in
-                sym (ap (xor (at t j)) (ap (λ f. syndrome es ls n f j) none ∙ syndrome-none n j) ∙ F.add-zero O K _);
-            remain = λ w C j h.
-                C .syndromes j h ∙ syndrome-is es ls T n w j ∙ powerSum-terms es ls (locator es n) w (upto n) j
-                ∙ sym (covered w C _ (λ i z. ap (λ (c : ℕ). timesPower (tableProduct es ls) (locator es n i) c j) z ∙ timesPower-zero es ls T _ j))
-                ∙ sym (powerSum-terms es ls (locator es n) w (backwards (p .at) (p .count)) j);
-            found = λ w C l h b. absurd (omega arith);
-          }
+    pub resolving-start : Resolving es ls t n p (record { places = p; values = replicate 8 0; left = t }) (p .count)
+    resolving-start =
+        record {
+          same = refl;
+          within = le-refl (p .count);
+          long = length-replicate {A = ℕ} 8 0;
+          unset = λ l h. zeros-at 8 l;
+          elements = λ l. rw (zeros-at 8 l) (K .in-zero);
+          left-is = left-none n t p;
+          remain = λ w C j h.
+              C .syndromes j h ∙ syndrome-is es ls T n w j ∙ powerSum-terms es ls (locator es n) w (upto n) j
+              ∙ sym (covered w C _ (λ i z. ap (λ (c : ℕ). timesPower (tableProduct es ls) (locator es n i) c j) z ∙ timesPower-zero es ls T _ j))
+              ∙ sym (powerSum-terms es ls (locator es n) w (backwards (p .at) (p .count)) j);
+          found = λ w C l h b. absurd (omega arith);
+        }
 
-      pub resolving-end : (e : Errors) (k : ℕ) → Resolving es ls t n p e k → k ≤ 0 → Decoded es ls t n (e .places .at) (e .values) (e .places .count) (e .left)
-      unfolding errorAt oneError
-      resolving-end e k S z =
-          rw (S .same) (record {
-            few = R .few;
-            below = R .below;
-            ascending = R .ascending;
-            elements = λ l h. S .elements l;
-            left-is = S .left-is;
-            complete = λ w C i h.
-                let f : ℕ → ℕ = λ q. oneError q (w q) i in
-                backwards-sum (p .at) _ f (p .count) (λ l b. ap (λ (v : ℕ). oneError (at (p .at) l) v i) (S .found w C l (omega arith) b))
-                ∙ covered w C f (λ q y. ap (λ (v : ℕ). oneError q v i) y ∙ one-none q i)
-                ∙ sum-at O K f i n h (λ q y. one-elsewhere q (w q) i (λ r. y (sym r))) ∙ one-here i (w i);
-          })
+    pub resolving-end : (e : Errors) (k : ℕ) → Resolving es ls t n p e k → k ≤ 0 → Decoded es ls t n (e .places .at) (e .values) (e .places .count) (e .left)
+    unfolding errorAt oneError
+    resolving-end e k S z =
+        rw (S .same) (record {
+          few = R .few;
+          below = R .below;
+          ascending = R .ascending;
+          elements = λ l h. S .elements l;
+          left-is = S .left-is;
+          complete = λ w C i h.
+              let f : ℕ → ℕ = λ q. oneError q (w q) i in
+              backwards-sum (p .at) _ f (p .count) (λ l b. ap (λ (v : ℕ). oneError (at (p .at) l) v i) (S .found w C l (omega arith) b))
+              ∙ covered w C f (λ q y. ap (λ (v : ℕ). oneError q v i) y ∙ one-none q i)
+              ∙ sum-at O K f i n h (λ q y. one-elsewhere q (w q) i (λ r. y (sym r))) ∙ one-here i (w i);
+        })

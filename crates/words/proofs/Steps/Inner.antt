@@ -165,6 +165,9 @@ module _ (es ls : List ℕ) (exp : es ≡ powersB) (log : ls ≡ exponentsB) whe
   pub places-fit : (n : ℕ) → n ≤ 2047 → n ≤ length es
   places-fit n h = rw (exp, powers-length 11 2053 field-b) h
 
+  pub powers-fit : (n : ℕ) → 2047 ≤ n → length es ≤ n
+  powers-fit n h = rw (exp, powers-length 11 2053 field-b) h
+
   pub errors-are : (w : List ℕ) (h l : ℕ) (t places values : List ℕ) (count : ℕ) (left : List ℕ) → Holds h l (remainder 88 divisor (bitAt w) 2040) → Syndromes es ls (oddValues es (number h l)) 8 t →
       Decoded es ls t 2040 places values count left → length left ≡ 16 → InnerErrors w places values count left
   errors-are w h l t places values count left r S D n =

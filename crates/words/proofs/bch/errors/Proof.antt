@@ -1,6 +1,6 @@
 -- `words::bch::errors` meets its contract. Assumes nothing.
 use borrow.Author.Needs.{needs}
-use Rattle.words.proofs.Steps.Inner.{tables-lent, places-fit, errors-are}
+use Rattle.words.proofs.Steps.Inner.{tables-lent, places-fit, powers-fit, errors-are}
 use Rattle.words.proofs.bch.errors.Statement.{statement}
 use Rattle.words.proofs.bch.errors.Tie as tie
 
@@ -13,8 +13,8 @@ remainder-requires c κs = search needs
 syndromes-requires : tie.Need-syndromes-requires
 syndromes-requires c κs = search needs
 
-decode-requires : tie.Need-decode-requires
-decode-requires c κs = search (needs, tables-lent, places-fit)
+decode-bits-requires : tie.Need-decode-bits-requires
+decode-bits-requires c κs = search (needs, tables-lent, places-fit, powers-fit)
 
 returns : tie.Need-returns
 returns c = search (needs, errors-are)
@@ -22,4 +22,4 @@ returns c = search (needs, errors-are)
 pub errors-spec : {M : Type 1} → statement M
 errors-spec =
     tie.close
-    (tie.spec divisor-requires remainder-requires syndromes-requires decode-requires returns)
+    (tie.spec divisor-requires remainder-requires syndromes-requires decode-bits-requires returns)

@@ -1,20 +1,14 @@
--- `words::decoder::decode` meets its contract. Assumes nothing.
+-- `words::decoder::valued` meets its contract. Assumes nothing.
 use borrow.Author.Needs.{needs}
 use Rattle.words.proofs.Decoding.Completeness.{Resolving, resolving-start, resolving-next, resolving-end}
-use Rattle.words.proofs.decoder.decode.Statement.{statement}
-use Rattle.words.proofs.decoder.decode.Tie as tie
+use Rattle.words.proofs.decoder.valued.Statement.{statement}
+use Rattle.words.proofs.decoder.valued.Tie as tie
 
 abbrev Inv-loop : tie.InvT-loop
 Inv-loop exp log n e₀ k₀ e k = Resolving exp log (e₀ .left) n (e₀ .places) e k
 
 abbrev μ-loop : tie.MeasureT-loop
 μ-loop exp log n e₀ k₀ e k = k
-
-annihilator-requires : tie.Need-annihilator-requires Inv-loop μ-loop
-annihilator-requires c κs = search needs
-
-roots-requires : tie.Need-roots-requires Inv-loop μ-loop
-roots-requires c κs = search needs
 
 loop-holds : tie.Need-loop-holds Inv-loop μ-loop
 loop-holds c = search (needs, resolving-start)
@@ -34,14 +28,12 @@ loop-again c = search (needs, resolving-next)
 returns : tie.Need-returns Inv-loop μ-loop
 returns c = search (needs, resolving-end)
 
-pub decode-spec : {M : Type 1} → statement M
-decode-spec =
+pub valued-spec : {M : Type 1} → statement M
+valued-spec =
     tie.close
     (tie.spec
     Inv-loop
     μ-loop
-    annihilator-requires
-    roots-requires
     loop-holds
     sub-k
     resolved-requires

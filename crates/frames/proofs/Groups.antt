@@ -1,6 +1,6 @@
 -- Groups of 40 bits, four symbols or five bytes: made into a number, and stored part by part. Assumes nothing.
 use mathlib.Core.Path.{_≡_, refl, sym, ap, ap₂, _∙_}
-use mathlib.Core.List.{List}
+use mathlib.Core.List.{List, [], _∷_}
 use Prim.Native.Nat.{ℕ, suc, _+_, _-_, _*_, _/_, _%_, _^_, _≤_, _<_}
 use native.Mathlib.Nat.{add-mul, add-zero, mul-add, mul-assoc, mul-le-mul-left, mul-zero}
 use native.Mathlib.Omega.{arith}
@@ -20,37 +20,38 @@ use Rattle.frames.specs.Frames.{symbolAt}
 use Rattle.frames.specs.Symbols.{Placed, symbolBit, numberAt, partsOf}
 use Rattle.frames.proofs.Placing.{Placing, placing-start, placing-next, placing-end, placing-more, placed-append}
 
--- ---- a number made of digits of n bits each, the first the highest
+-- ---- a number of w bits made of digits of n bits each, the first the highest
 
 -- one digit more, below
-digit-below : (n a w k : ℕ) → w < 2 ^ n → k + n ≤ 64 → bitOr (a * 2 ^ (k + n)) (w * 2 ^ k % 2 ^ 64) ≡ (a * 2 ^ n + w) * 2 ^ k
-digit-below n a w k h l =
+digit-below : (w n a x k : ℕ) → x < 2 ^ n → k + n ≤ w → bitOr (a * 2 ^ (k + n)) (x * 2 ^ k % 2 ^ w) ≡ (a * 2 ^ n + x) * 2 ^ k
+digit-below w n a x k h l =
     let e : n + k ≡ k + n = omega arith in
-    ap (bitOr (a * 2 ^ (k + n))) (shl-exact n k 64 h (omega arith)) ∙ or-shifted a (k + n) (w * 2 ^ k) (rw e at (shl-lt n k h))
-    ∙ sym (add-mul (a * 2 ^ n) w (2 ^ k) ∙ ap (λ (y : ℕ). y + w * 2 ^ k) (mul-assoc a (2 ^ n) (2 ^ k) ∙ ap (λ (y : ℕ). a * y) (sym (pow-add 2 n k) ∙ ap (λ (y : ℕ). 2 ^ y) e)))
+    ap (bitOr (a * 2 ^ (k + n))) (shl-exact n k w h (omega arith)) ∙ or-shifted a (k + n) (x * 2 ^ k) (rw e at (shl-lt n k h))
+    ∙ sym (add-mul (a * 2 ^ n) x (2 ^ k)
+    ∙ ap (λ (y : ℕ). y + x * 2 ^ k) (mul-assoc a (2 ^ n) (2 ^ k) ∙ ap (λ (y : ℕ). a * y) (sym (pow-add 2 n k) ∙ ap (λ (y : ℕ). 2 ^ y) e)))
 
-module _ (n : ℕ) (bits digit : ℕ → ℕ) (small : (m : ℕ) → digit m < 2 ^ n) (is : (m : ℕ) → numberOf n (λ j. bits (n * m + j)) ≡ digit m) where
-  first-digit : (k : ℕ) → k + n ≤ 64 → digit 0 * 2 ^ k % 2 ^ 64 ≡ numberOf n bits * 2 ^ k
+module _ (w n : ℕ) (bits digit : ℕ → ℕ) (small : (m : ℕ) → digit m < 2 ^ n) (is : (m : ℕ) → numberOf n (λ j. bits (n * m + j)) ≡ digit m) where
+  first-digit : (k : ℕ) → k + n ≤ w → digit 0 * 2 ^ k % 2 ^ w ≡ numberOf n bits * 2 ^ k
   first-digit k l =
-      shl-exact n k 64 (small 0) (omega arith)
+      shl-exact n k w (small 0) (omega arith)
       ∙ ap (λ (y : ℕ). y * 2 ^ k) (sym (is 0) ∙ numberOf-same n _ _ (λ j h. ap bits (omega (arith, mul-zero n))))
 
   digits-and : (m : ℕ) → numberOf (n * m) bits * 2 ^ n + digit m ≡ numberOf (n * m + n) bits
   digits-and m = sym (number-parts (n * m) n bits ∙ ap (λ (y : ℕ). numberOf (n * m) bits * 2 ^ n + y) (is m))
 
   -- the digits before digit m, and digit m
-  next-digit : (m k : ℕ) {x : ℕ} → k + n ≤ 64 → x ≡ numberOf (n * m) bits * 2 ^ (k + n) →
-      bitOr x (digit m * 2 ^ k % 2 ^ 64) ≡ numberOf (n * m + n) bits * 2 ^ k
+  next-digit : (m k : ℕ) {x : ℕ} → k + n ≤ w → x ≡ numberOf (n * m) bits * 2 ^ (k + n) →
+      bitOr x (digit m * 2 ^ k % 2 ^ w) ≡ numberOf (n * m + n) bits * 2 ^ k
   next-digit m k l e =
-      ap (λ (y : ℕ). bitOr y (digit m * 2 ^ k % 2 ^ 64)) e ∙ digit-below n (numberOf (n * m) bits) (digit m) k (small m) l
+      ap (λ (y : ℕ). bitOr y (digit m * 2 ^ k % 2 ^ w)) e ∙ digit-below w n (numberOf (n * m) bits) (digit m) k (small m) l
       ∙ ap (λ (y : ℕ). y * 2 ^ k) (digits-and m)
 
   last-digit : (m : ℕ) {x : ℕ} → x ≡ numberOf (n * m) bits * 2 ^ n → bitOr x (digit m) ≡ numberOf (n * m + n) bits
   last-digit m e = ap (λ (y : ℕ). bitOr y (digit m)) e ∙ or-shifted (numberOf (n * m) bits) n (digit m) (small m) ∙ digits-and m
 
--- ---- eight bytes
+-- ---- two bytes, and a symbol in them
 
-pub byte-fits : {x : ℕ} → Fits w8 x → Fits w64 x
+pub byte-fits : {x : ℕ} → Fits w8 x → Fits w16 x
 byte-fits h = fits-widen tt h
 
 module _ (bytes : List ℕ) (p : ℕ) (fits : (i : ℕ) → Fits w8 (getD bytes i 0)) where
@@ -67,22 +68,25 @@ module _ (bytes : List ℕ) (p : ℕ) (fits : (i : ℕ) → Fits w8 (getD bytes 
       let r : 8 - (i % 8 + 8) ≡ 0 = omega arith in
       numberOf-same 8 _ _ (λ j h. ap (bitAt bytes) (omega arith)) ∙ places-read bytes i 8 (omega arith) ∙ rw (q, r) (omega (arith, byte-lt m))
 
-  abbrev bits : ℕ → ℕ
-  bits j = bitAt bytes (8 * p + j)
-
-  next-byte : (m k : ℕ) {x : ℕ} → k + 8 ≤ 64 → x ≡ numberOf (8 * m) bits * 2 ^ (k + 8) → bitOr x (byte m * 2 ^ k % 2 ^ 64) ≡ numberOf (8 * m + 8) bits * 2 ^ k
-  next-byte = next-digit 8 bits byte byte-lt byte-bits
-
-  pub eight-made : bitOr (bitOr (bitOr (bitOr (bitOr (bitOr (bitOr (getD bytes p 0 * 2 ^ 56 % 2 ^ 64) (byte 1 * 2 ^ 48 % 2 ^ 64))
-      (byte 2 * 2 ^ 40 % 2 ^ 64)) (byte 3 * 2 ^ 32 % 2 ^ 64)) (byte 4 * 2 ^ 24 % 2 ^ 64)) (byte 5 * 2 ^ 16 % 2 ^ 64)) (byte 6 * 2 ^ 8 % 2 ^ 64)) (byte 7)
-      ≡ numberAt 64 (bitAt bytes) (8 * p)
+  pub two-made : bitOr (getD bytes p 0 * 2 ^ 8 % 2 ^ 16) (byte 1) ≡ numberAt 16 (bitAt bytes) (8 * p)
   unfolding numberAt
-  eight-made =
+  two-made =
       let e : getD bytes p 0 ≡ byte 0 = ap (λ (i : ℕ). getD bytes i 0) (omega arith) in
-      let one = ap (λ (x : ℕ). x * 2 ^ 56 % 2 ^ 64) e ∙ first-digit 8 bits byte byte-lt byte-bits 56 (lit≤ tt) in
-      let three = next-byte 2 40 (lit≤ tt) (next-byte 1 48 (lit≤ tt) one) in
-      let seven = next-byte 6 8 (lit≤ tt) (next-byte 5 16 (lit≤ tt) (next-byte 4 24 (lit≤ tt) (next-byte 3 32 (lit≤ tt) three))) in
-      last-digit 8 bits byte byte-lt byte-bits 7 seven
+      last-digit 16 8 (λ j. bitAt bytes (8 * p + j)) byte byte-lt byte-bits 1
+      (ap (λ (x : ℕ). x * 2 ^ 8 % 2 ^ 16) e ∙ first-digit 16 8 (λ j. bitAt bytes (8 * p + j)) byte byte-lt byte-bits 8 (lit≤ tt))
+
+number-bit : (n : ℕ) (b : ℕ → ℕ) → ((i : ℕ) → b i < 2) → (i j : ℕ) → j < n → bitOf n (numberAt n b i) j ≡ b (i + j)
+unfolding numberAt
+number-bit n b bits i j l = bitOf-number (λ j. b (i + j)) (λ j. bits (i + j)) n j l
+
+pub symbol-inside : (bytes : List ℕ) (k j x : ℕ) → j ≤ 6 → x ≡ numberAt 16 (bitAt bytes) (8 * k) →
+    bitAnd (x / 2 ^ (6 - j)) 1023 ≡ numberAt 10 (bitAt bytes) (8 * k + j)
+unfolding numberAt
+symbol-inside bytes k j x l e =
+    let s : 6 - j ≡ 16 - (j + 10) = omega arith in
+    and-mask (x / 2 ^ (6 - j)) 10 ∙ ap (λ (z : ℕ). x / 2 ^ z % 2 ^ 10) s ∙ sym (number-of-bits 16 x j 10 (omega arith))
+    ∙ numberOf-same 10 _ _ (λ m h. ap (λ (y : ℕ). bitOf 16 y (j + m)) e
+    ∙ number-bit 16 (bitAt bytes) (bitAt-lt bytes) (8 * k) (j + m) (omega arith) ∙ ap (bitAt bytes) (omega arith))
 
 -- ---- four symbols
 
@@ -112,31 +116,17 @@ module _ (row : List ℕ) (t : ℕ) where
 
   next-symbol : (m k : ℕ) {x : ℕ} → k + 10 ≤ 64 → x ≡ numberOf (10 * m) symbol-bits * 2 ^ (k + 10) →
       bitOr x (symbol m * 2 ^ k % 2 ^ 64) ≡ numberOf (10 * m + 10) symbol-bits * 2 ^ k
-  next-symbol = next-digit 10 symbol-bits symbol symbol-lt symbol-is
+  next-symbol = next-digit 64 10 symbol-bits symbol symbol-lt symbol-is
 
   pub four-made : bitOr (bitOr (bitOr (bitAnd (getD row t 0) 1023 * 2 ^ 30 % 2 ^ 64) (symbol 1 * 2 ^ 20 % 2 ^ 64)) (symbol 2 * 2 ^ 10 % 2 ^ 64)) (symbol 3)
       ≡ numberAt 40 (symbolBit (at row)) (10 * t)
   unfolding numberAt
   four-made =
       let e : getD row t 0 ≡ getD row (t + 0) 0 = ap (λ (i : ℕ). getD row i 0) (omega arith) in
-      let one = ap (λ (x : ℕ). bitAnd x 1023 * 2 ^ 30 % 2 ^ 64) e ∙ first-digit 10 symbol-bits symbol symbol-lt symbol-is 30 (lit≤ tt) in
-      last-digit 10 symbol-bits symbol symbol-lt symbol-is 3 (next-symbol 2 10 (lit≤ tt) (next-symbol 1 20 (lit≤ tt) one))
+      let one = ap (λ (x : ℕ). bitAnd x 1023 * 2 ^ 30 % 2 ^ 64) e ∙ first-digit 64 10 symbol-bits symbol symbol-lt symbol-is 30 (lit≤ tt) in
+      last-digit 64 10 symbol-bits symbol symbol-lt symbol-is 3 (next-symbol 2 10 (lit≤ tt) (next-symbol 1 20 (lit≤ tt) one))
 
--- ---- bits of such a number
-
-pub number-bit : (n : ℕ) (b : ℕ → ℕ) → ((i : ℕ) → b i < 2) → (i j : ℕ) → j < n → bitOf n (numberAt n b i) j ≡ b (i + j)
-unfolding numberAt
-number-bit n b bits i j l = bitOf-number (λ j. b (i + j)) (λ j. bits (i + j)) n j l
-
-pub forty-read : (bytes : List ℕ) (i x : ℕ) → x ≡ numberAt 64 (bitAt bytes) (8 * (i / 8)) →
-    bitAnd (x / 2 ^ (24 - i % 8)) 1099511627775 ≡ numberAt 40 (bitAt bytes) i
-unfolding numberAt
-forty-read bytes i x e =
-    let p = i % 8 in
-    let k : 24 - p ≡ 64 - (p + 40) = omega arith in
-    and-mask (x / 2 ^ (24 - p)) 40 ∙ ap (λ (z : ℕ). x / 2 ^ z % 2 ^ 40) k ∙ sym (number-of-bits 64 x p 40 (omega arith))
-    ∙ numberOf-same 40 _ _ (λ j l. ap (λ (y : ℕ). bitOf 64 y (p + j)) e
-    ∙ number-bit 64 (bitAt bytes) (bitAt-lt bytes) (8 * (i / 8)) (p + j) (omega arith) ∙ ap (bitAt bytes) (omega arith))
+-- ---- five bytes
 
 -- part s of 40 bits, by a shift and a mask
 part-read : (n s k x : ℕ) → n * s + n + k ≡ 40 → bitAnd (x / 2 ^ k) (2 ^ n - 1) ≡ numberAt n (bitOf 40 x) (0 + n * s)
@@ -159,9 +149,6 @@ parts-at n m b i s l = tabulate-at m _ s 0 l
 pub byte-cut : (x : ℕ) → Fits w8 (bitAnd x 255)
 byte-cut x = record { fits = omega (arith, and-mask x 8) }
 
-pub symbol-fits : (x : ℕ) → Fits w16 (bitAnd x 1023)
-symbol-fits x = record { fits = omega (arith, and-mask x 10) }
-
 -- one part more
 module _ (n m : ℕ) (x t : ℕ) (before : List ℕ) (room : t + m ≤ length before) where
   part-next : (s k : ℕ) {row : List ℕ} → n * s + n + k ≡ 40 → s < m → Placing t (partsOf n m (bitOf 40 x) 0) s before row →
@@ -169,14 +156,6 @@ module _ (n m : ℕ) (x t : ℕ) (before : List ℕ) (room : t + m ≤ length be
   part-next s k h l p =
       placing-next p (omega (arith, parts-length n m (bitOf 40 x) 0)) (omega (arith, parts-length n m (bitOf 40 x) 0))
       (part-read n s k x h ∙ sym (parts-at n m (bitOf 40 x) 0 s l))
-
-pub symbols-stored : (x t : ℕ) (row : List ℕ) → t + 4 ≤ length row → Placed t (partsOf 10 4 (bitOf 40 x) 0) row
-    (set (set (set (set row t (bitAnd (x / 2 ^ 30) 1023)) (t + 1) (bitAnd (x / 2 ^ 20) 1023)) (t + 2) (bitAnd (x / 2 ^ 10) 1023)) (t + 3) (bitAnd x 1023))
-symbols-stored x t row room =
-    let e : x / 2 ^ 0 ≡ x = omega arith in
-    let one = rw (add-zero t) at (part-next 10 4 x t row room 0 30 refl (lit< tt) placing-start) in
-    let three = part-next 10 4 x t row room 2 10 refl (lit< tt) (part-next 10 4 x t row room 1 20 refl (lit< tt) one) in
-    placing-end (rw e at (part-next 10 4 x t row room 3 0 refl (lit< tt) three)) (omega (arith, parts-length 10 4 (bitOf 40 x) 0))
 
 pub bytes-stored : (x k : ℕ) (out : List ℕ) → k + 5 ≤ length out → Placed k (partsOf 8 5 (bitOf 40 x) 0) out
     (set (set (set (set (set out k (bitAnd (x / 2 ^ 32) 255)) (k + 1) (bitAnd (x / 2 ^ 24) 255)) (k + 2) (bitAnd (x / 2 ^ 16) 255))
@@ -188,52 +167,83 @@ bytes-stored x k out room =
     let four = part-next 8 5 x k out room 3 8 refl (lit< tt) three in
     placing-end (rw e at (part-next 8 5 x k out room 4 0 refl (lit< tt) four)) (omega (arith, parts-length 8 5 (bitOf 40 x) 0))
 
--- ---- groups one after the other
+-- ---- numbers of n bits, g to a group: groups one after the other
 
 symbolBit-lt : (f : ℕ → ℕ) (i : ℕ) → symbolBit f i < 2
 unfolding symbolBit
 symbolBit-lt f i = bitOf-lt 10 (f (i / 10)) (i % 10)
 
--- n bits to a part, g parts to a group
-module _ (n g : ℕ) (whole : n * g ≡ 40) (b : ℕ → ℕ) (bits : (i : ℕ) → b i < 2) where
-  part-inside : (s j : ℕ) → s < g → j < n → n * s + j < 40
-  part-inside s j l m = omega (arith, mul-add n s 1, mul-le-mul-left n l)
-
-  group-part : (i s : ℕ) → s < g → numberAt n (bitOf 40 (numberAt 40 b i)) (0 + n * s) ≡ numberAt n b (i + n * s)
-  unfolding numberAt
-  group-part i s l =
-      numberOf-same n _ _ (λ j m. ap (bitOf 40 (numberAt 40 b i)) (omega arith) ∙ number-bit 40 b bits i (n * s + j) (part-inside s j l m) ∙ ap b (omega arith))
-
-  group-parts : (i x : ℕ) → x ≡ numberAt 40 b i → partsOf n g (bitOf 40 x) 0 ≡ partsOf n g b i
-  unfolding partsOf
-  group-parts i x e = ap (λ (y : ℕ). partsOf n g (bitOf 40 y) 0) e ∙ tabulate-same g _ _ (group-part i)
-
-  pub group-next : (i : ℕ) {t m q x : ℕ} {before row after : List ℕ} → Placing t (partsOf n (g * m) b i) (g * q) before row → q < m →
-      x ≡ numberAt 40 b (i + 40 * q) → Placed (t + g * q) (partsOf n g (bitOf 40 x) 0) row after → Placing t (partsOf n (g * m) b i) (g * (q + 1)) before after
-  group-next i {t} {m} {q} {x} {before} {row} {after} p l e placed =
+module _ (n g w : ℕ) (whole : n * g ≡ w) (b : ℕ → ℕ) where
+  pub group-next : (i : ℕ) {t m q : ℕ} {before row after : List ℕ} → Placing t (partsOf n (g * m) b i) (g * q) before row → q < m →
+      Placed (t + g * q) (partsOf n g b (i + w * q)) row after → Placing t (partsOf n (g * m) b i) (g * (q + 1)) before after
+  group-next i {t} {m} {q} {before} {row} {after} p l placed =
       let step : g * (q + 1) ≡ g * q + g = mul-add g q 1 ∙ omega arith in
       let room : g * q + g ≤ g * m = omega (arith, mul-le-mul-left g l) in
-      rw step (placing-more p placed (parts-length n g (bitOf 40 x) 0) (omega (arith, parts-length n (g * m) b i)) (λ s h.
-      ap (λ (ys : List ℕ). at ys s) (group-parts (i + 40 * q) x e) ∙ parts-at n g b (i + 40 * q) s h
+      rw step (placing-more p placed (parts-length n g b (i + w * q)) (omega (arith, parts-length n (g * m) b i)) (λ s h.
+      parts-at n g b (i + w * q) s h
       ∙ ap (numberAt n b) (omega (arith, mul-add n (g * q) s, mul-assoc n g q, ap (λ (y : ℕ). y * q) whole))
       ∙ sym (parts-at n (g * m) b i (g * q + s) (omega arith))))
 
-pub symbols-next : (bytes : List ℕ) (i : ℕ) {t m q x : ℕ} {before row after : List ℕ} → Placing t (partsOf 10 (4 * m) (bitAt bytes) i) (4 * q) before row →
-    q < m → x ≡ numberAt 40 (bitAt bytes) (i + 40 * q) → Placed (t + 4 * q) (partsOf 10 4 (bitOf 40 x) 0) row after →
-    Placing t (partsOf 10 (4 * m) (bitAt bytes) i) (4 * (q + 1)) before after
-symbols-next bytes = group-next 10 4 refl (bitAt bytes) (bitAt-lt bytes)
+  -- the parts of a group are those of its bits
+  module _ (bits : (i : ℕ) → b i < 2) where
+    part-inside : (s j : ℕ) → s < g → j < n → n * s + j < w
+    part-inside s j l m = omega (arith, mul-add n s 1, mul-le-mul-left n l)
 
-pub bytes-next : (symbols : List ℕ) (t : ℕ) {k m q x : ℕ} {before out after : List ℕ} →
-    Placing k (partsOf 8 (5 * m) (symbolBit (at symbols)) (10 * t)) (5 * q) before out → q < m → x ≡ numberAt 40 (symbolBit (at symbols)) (10 * (t + 4 * q)) →
-    Placed (k + 5 * q) (partsOf 8 5 (bitOf 40 x) 0) out after → Placing k (partsOf 8 (5 * m) (symbolBit (at symbols)) (10 * t)) (5 * (q + 1)) before after
-bytes-next symbols t p l e placed =
-    group-next 8 5 refl (symbolBit (at symbols)) (symbolBit-lt (at symbols)) (10 * t) p l (e ∙ ap (numberAt 40 (symbolBit (at symbols))) (omega arith)) placed
+    group-part : (i s : ℕ) → s < g → numberAt n (bitOf w (numberAt w b i)) (0 + n * s) ≡ numberAt n b (i + n * s)
+    unfolding numberAt
+    group-part i s l =
+        numberOf-same n _ _ (λ j m. ap (bitOf w (numberAt w b i)) (omega arith) ∙ number-bit w b bits i (n * s + j) (part-inside s j l m) ∙ ap b (omega arith))
+
+    group-parts : (i x : ℕ) → x ≡ numberAt w b i → partsOf n g (bitOf w x) 0 ≡ partsOf n g b i
+    unfolding partsOf
+    group-parts i x e = ap (λ (y : ℕ). partsOf n g (bitOf w y) 0) e ∙ tabulate-same g _ _ (group-part i)
 
 pub groups-end : (n g : ℕ) (b : ℕ → ℕ) (i : ℕ) {t m q : ℕ} {before row : List ℕ} → Placing t (partsOf n (g * m) b i) (g * q) before row → m ≤ q →
     Placed t (partsOf n (g * m) b i) before row
 groups-end n g b i {t} {m} {q} p l = placing-end p (omega (arith, parts-length n (g * m) b i, mul-le-mul-left g l))
 
--- ---- symbols one by one, and after groups
+pub bytes-next : (symbols : List ℕ) (t : ℕ) {k m q x : ℕ} {before out after : List ℕ} →
+    Placing k (partsOf 8 (5 * m) (symbolBit (at symbols)) (10 * t)) (5 * q) before out → q < m → x ≡ numberAt 40 (symbolBit (at symbols)) (10 * (t + 4 * q)) →
+    Placed (k + 5 * q) (partsOf 8 5 (bitOf 40 x) 0) out after → Placing k (partsOf 8 (5 * m) (symbolBit (at symbols)) (10 * t)) (5 * (q + 1)) before after
+bytes-next symbols t {k} {m} {q} {x} p l e placed =
+    let b = symbolBit (at symbols) in
+    let i : 10 * (t + 4 * q) ≡ 10 * t + 40 * q = omega arith in
+    group-next 8 5 40 refl b (10 * t) p l (rw (group-parts 8 5 40 refl b (symbolBit-lt (at symbols)) (10 * t + 40 * q) x (e ∙ ap (numberAt 40 b) i)) at placed)
+
+-- ---- eight symbols of ten bytes
+
+cons : {x y : ℕ} {xs ys : List ℕ} → x ≡ y → xs ≡ ys → x ∷ xs ≡ y ∷ ys
+cons = ap₂ {C = List ℕ} (λ x xs. x ∷ xs)
+
+pub eight-are : (b : ℕ → ℕ) (k : ℕ) {s₀ s₁ s₂ s₃ s₄ s₅ s₆ s₇ : ℕ} →
+    s₀ ≡ numberAt 10 b (8 * k + 0) → s₁ ≡ numberAt 10 b (8 * (k + 1) + 2) → s₂ ≡ numberAt 10 b (8 * (k + 2) + 4) → s₃ ≡ numberAt 10 b (8 * (k + 3) + 6) →
+    s₄ ≡ numberAt 10 b (8 * (k + 5) + 0) → s₅ ≡ numberAt 10 b (8 * (k + 6) + 2) → s₆ ≡ numberAt 10 b (8 * (k + 7) + 4) → s₇ ≡ numberAt 10 b (8 * (k + 8) + 6) →
+    (s₀ ∷ s₁ ∷ s₂ ∷ s₃ ∷ s₄ ∷ s₅ ∷ s₆ ∷ s₇ ∷ []) ≡ partsOf 10 8 b (8 * k)
+unfolding partsOf tabulate
+eight-are b k e₀ e₁ e₂ e₃ e₄ e₅ e₆ e₇ =
+    cons (e₀ ∙ ap (numberAt 10 b) (omega arith)) (cons (e₁ ∙ ap (numberAt 10 b) (omega arith)) (cons (e₂ ∙ ap (numberAt 10 b) (omega arith))
+    (cons (e₃ ∙ ap (numberAt 10 b) (omega arith)) (cons (e₄ ∙ ap (numberAt 10 b) (omega arith)) (cons (e₅ ∙ ap (numberAt 10 b) (omega arith))
+    (cons (e₆ ∙ ap (numberAt 10 b) (omega arith)) (cons (e₇ ∙ ap (numberAt 10 b) (omega arith)) refl)))))))
+
+pub symbols-stored : (s : List ℕ) (t : ℕ) (row : List ℕ) → length s ≡ 8 → t + 8 ≤ length row → Placed t s row
+    (set (set (set (set (set (set (set (set row t (at s 0)) (t + 1) (at s 1)) (t + 2) (at s 2)) (t + 3) (at s 3)) (t + 4) (at s 4)) (t + 5) (at s 5))
+    (t + 6) (at s 6)) (t + 7) (at s 7))
+symbols-stored s t row long room =
+    let one = rw (add-zero t) at (next 0 (lit< tt) placing-start) in
+    let four = next 3 (lit< tt) (next 2 (lit< tt) (next 1 (lit< tt) one)) in
+    placing-end (next 7 (lit< tt) (next 6 (lit< tt) (next 5 (lit< tt) (next 4 (lit< tt) four)))) (omega arith)
+  where
+    next : (j : ℕ) {now : List ℕ} → j < 8 → Placing t s j row now → Placing t s (j + 1) row (set now (t + j) (at s j))
+    next j l p = placing-next p (omega arith) (omega arith) refl
+
+pub eights-next : (bytes : List ℕ) (k : ℕ) {t m q : ℕ} {s before row after : List ℕ} → Placing t (partsOf 10 (8 * m) (bitAt bytes) (8 * k)) (8 * q) before row →
+    q < m → s ≡ partsOf 10 8 (bitAt bytes) (8 * (k + 10 * q)) → Placed (t + 8 * q) s row after →
+    Placing t (partsOf 10 (8 * m) (bitAt bytes) (8 * k)) (8 * (q + 1)) before after
+eights-next bytes k {t} {m} {q} p l e placed =
+    let i : 8 * (k + 10 * q) ≡ 8 * k + 80 * q = omega arith in
+    group-next 10 8 80 refl (bitAt bytes) (8 * k) p l (rw (e ∙ ap (partsOf 10 8 (bitAt bytes)) i) at placed)
+
+-- ---- symbols one by one; and before and after eights
 
 pub each-next : (bytes : List ℕ) (i : ℕ) {t n s v : ℕ} {before row : List ℕ} → Placing t (partsOf 10 n (bitAt bytes) i) s before row → s < n →
     t + n ≤ length before → v ≡ symbolAt (bitAt bytes) (i + 10 * s) → Placing t (partsOf 10 n (bitAt bytes) i) (s + 1) before (set row (t + s) v)
@@ -246,13 +256,41 @@ pub each-end : (n m : ℕ) (b : ℕ → ℕ) (i : ℕ) {t s : ℕ} {before row :
     Placed t (partsOf n m b i) before row
 each-end n m b i p l = placing-end p (omega (arith, parts-length n m b i))
 
-pub groups-and-each : (bytes : List ℕ) (i n : ℕ) {t : ℕ} {before mid after : List ℕ} → Placed t (partsOf 10 (4 * (n / 4)) (bitAt bytes) i) before mid →
-    Placed (t + 4 * (n / 4)) (partsOf 10 (n % 4) (bitAt bytes) (i + 40 * (n / 4))) mid after → Placed t (partsOf 10 n (bitAt bytes) i) before after
+-- numbers after numbers
+parts-append : (n m k : ℕ) (b : ℕ → ℕ) (i : ℕ) {t : ℕ} {before mid after : List ℕ} → Placed t (partsOf n m b i) before mid →
+    Placed (t + m) (partsOf n k b (i + n * m)) mid after → Placed t (partsOf n (m + k) b i) before after
 unfolding partsOf
-groups-and-each bytes i n p q =
-    let k = 4 * (n / 4) in
-    let b = bitAt bytes in
-    let e : k + n % 4 ≡ n = omega arith in
-    let whole = tabulate-append k (n % 4) (λ s. numberAt 10 b (i + 10 * s)) (λ s. numberAt 10 b (i + 40 * (n / 4) + 10 * s)) (λ s. ap (numberAt 10 b) (omega arith))
-    in
-    rw (whole ∙ ap (λ (m : ℕ). tabulate m (λ s. numberAt 10 b (i + 10 * s))) e) at (placed-append (parts-length 10 k b i) p q)
+parts-append n m k b i p q =
+    rw (tabulate-append m k (λ s. numberAt n b (i + n * s)) (λ s. numberAt n b (i + n * m + n * s)) (λ s. ap (numberAt n b) (omega (arith, mul-add n m s))))
+    at (placed-append (parts-length n m b i) p q)
+
+pub eights-and-each : (bytes : List ℕ) (k n : ℕ) {t : ℕ} {before mid after : List ℕ} → Placed t (partsOf 10 (8 * (n / 8)) (bitAt bytes) (8 * k)) before mid →
+    Placed (t + 8 * (n / 8)) (partsOf 10 (n % 8) (bitAt bytes) (8 * (k + 10 * (n / 8)))) mid after → Placed t (partsOf 10 n (bitAt bytes) (8 * k)) before after
+eights-and-each bytes k n p q =
+    let i : 8 * (k + 10 * (n / 8)) ≡ 8 * k + 10 * (8 * (n / 8)) = omega arith in
+    let e : 8 * (n / 8) + n % 8 ≡ n = omega arith in
+    rw e at (parts-append 10 (8 * (n / 8)) (n % 8) (bitAt bytes) (8 * k) p (rw i at q))
+
+-- three symbols more for each two bits that the first begins after a byte
+whole-bytes : (i : ℕ) → i % 2 ≡ 0 → 8 * ((i + 10 * (3 * (i % 8 / 2) % 4)) / 8) ≡ i + 10 * (3 * (i % 8 / 2) % 4)
+whole-bytes i even =
+    let h = i % 8 / 2 in
+    let f = 3 * h % 4 in
+    let k = i / 8 + 4 * h - 5 * (3 * h / 4) in
+    let a : i ≡ 8 * (i / 8) + 2 * h = omega arith in
+    let b : 3 * h ≡ 4 * (3 * h / 4) + f = omega arith in
+    let e : i + 10 * f ≡ 8 * k = omega arith in
+    rw e (omega arith)
+
+pub each-and-bytes : (bytes : List ℕ) (i n : ℕ) {t : ℕ} {before mid after : List ℕ} → i % 2 ≡ 0 → 3 ≤ n →
+    Placed t (partsOf 10 (3 * (i % 8 / 2) % 4) (bitAt bytes) i) before mid →
+    Placed (t + 3 * (i % 8 / 2) % 4) (partsOf 10 (n - 3 * (i % 8 / 2) % 4) (bitAt bytes) (8 * ((i + 10 * (3 * (i % 8 / 2) % 4)) / 8))) mid after →
+    Placed t (partsOf 10 n (bitAt bytes) i) before after
+each-and-bytes bytes i n even least p q =
+    let f = 3 * (i % 8 / 2) % 4 in
+    let e : f + (n - f) ≡ n = omega arith in
+    rw e at (parts-append 10 f (n - f) (bitAt bytes) i p (rw (whole-bytes i even) at q))
+
+pub byte-room : (bytes : List ℕ) (i n : ℕ) → i % 2 ≡ 0 → 3 ≤ n → i + 10 * n ≤ 8 * length bytes + 2 →
+    8 * ((i + 10 * (3 * (i % 8 / 2) % 4)) / 8) + 10 * (n - 3 * (i % 8 / 2) % 4) ≤ 8 * length bytes + 2
+byte-room bytes i n even least h = rw (whole-bytes i even) (omega arith)

@@ -21,9 +21,12 @@ use Rattle.frames.proofs.Groups.{parts-length, parts-at}
 
 -- ---- the row of a payload
 
--- the groups of word w end within the payload, and its symbols within the row
-pub payload-room : (payload : List ℕ) (w n : ℕ) → length payload ≡ 15296 → w < 16 → n ≡ dataIn w → 7650 * w / 8 + 5 * (n / 4) + 3 ≤ length payload
+-- the symbols of word w end within the payload and its padding bits
+pub payload-room : (payload : List ℕ) (w n : ℕ) → length payload ≡ 15296 → w < 16 → n ≡ dataIn w → 7650 * w + 10 * n ≤ 8 * length payload + 2
 payload-room payload w n long h e = omega (arith, dataIn-is w h)
+
+pub data-least : (w n : ℕ) → w < 16 → n ≡ dataIn w → 3 ≤ n
+data-least w n h e = omega (arith, dataIn-is w h)
 
 pub data-placed : (payload : List ℕ) (w n : ℕ) {before row : List ℕ} → n ≡ dataIn w → Placed (781 * w) (partsOf 10 n (bitAt payload) (7650 * w)) before row →
     Placed (781 * w) (outerData payload w) before row

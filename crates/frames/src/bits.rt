@@ -1,8 +1,8 @@
-// A bit of bytes, ten bits of bytes as a symbol, and eight bits of symbols as a byte; the first bit is the highest. Four symbols have as many bits as five
-// bytes, 40, and are read and written together.
+// A bit of bytes, ten bits of bytes as a symbol, and eight bits of symbols as a byte; the first bit is the highest. Eight symbols are
+// read from ten bytes at once, and five bytes are made of four symbols at once.
 use crate::Frame;
 ghost use mathlib.Core.Path.{_≡_};
-ghost use Prim.Native.Nat.{_+_, _*_, _/_, _≤_, _<_};
+ghost use Prim.Native.Nat.{_+_, _*_, _%_, _≤_, _<_};
 ghost use lib.ListN.{length};
 ghost use Rattle.words.specs.Places.{at, bitOf, bitAt};
 ghost use Rattle.frames.specs.Frames.{symbolAt};
@@ -45,64 +45,74 @@ pub fn byte_of(x: u16, y: u16, i: usize) -> u8
     ((twenty >> (12 - i)) & EIGHT_BITS) as u8
 }
 
-// Symbols of a group, its bytes, its bits, and the mask of these.
-pub const GROUP: usize = 4;
+// Eight symbols are ten bytes.
+const EIGHT: usize = 8;
 
-pub const GROUP_BYTES: usize = 5;
+const TEN_BYTES: usize = 10;
 
-const GROUP_BITS: usize = 40;
-
-const FORTY_BITS: u64 = 0xff_ffff_ffff;
-
-// Eight bytes from byte k on.
-fn eight_bytes(bytes: &[u8], k: usize) -> u64
-    requires { ⌜ k + 8 ≤ length (now bytes) ⌝ }
-    ensures { λ r. ⌜ r ≡ numberAt 64 (bitAt (now (bytes .entry))) (8 * k) ⌝ }
+// The 16 bits of two bytes, from byte k on.
+fn two_bytes(bytes: &[u8], k: usize) -> u16
+    requires { ⌜ k + 2 ≤ length (now bytes) ⌝ }
+    ensures { λ r. ⌜ r ≡ numberAt 16 (bitAt (now (bytes .entry))) (8 * k) ⌝ }
 {
-    ((bytes[k] as u64) << 56)
-        | ((bytes[k + 1] as u64) << 48)
-        | ((bytes[k + 2] as u64) << 40)
-        | ((bytes[k + 3] as u64) << 32)
-        | ((bytes[k + 4] as u64) << 24)
-        | ((bytes[k + 5] as u64) << 16)
-        | ((bytes[k + 6] as u64) << 8)
-        | (bytes[k + 7] as u64)
+    ((bytes[k] as u16) << 8) | (bytes[k + 1] as u16)
 }
 
-// The 40 bits of the bytes from bit i on. They lie in six bytes; eight are read at once.
-fn forty_bits(bytes: &[u8], i: usize) -> u64
-    requires { ⌜ i / 8 + 8 ≤ length (now bytes) ⌝ }
-    ensures { λ r. ⌜ r ≡ numberAt 40 (bitAt (now (bytes .entry))) i ⌝ }
+// The symbol that begins at bit j of byte k, and ends in the next byte.
+fn symbol_in(bytes: &[u8], k: usize, j: usize) -> u16
+    requires { ⌜ (k + 2 ≤ length (now bytes)) × (j ≤ 6) ⌝ }
+    ensures { λ r. ⌜ r ≡ numberAt 10 (bitAt (now (bytes .entry))) (8 * k + j) ⌝ }
 {
-    (eight_bytes(bytes, i / 8) >> (24 - i % 8)) & FORTY_BITS
+    (two_bytes(bytes, k) >> (6 - j)) & 1023
 }
 
-// Writes the four symbols of 40 bits into the row from place t on.
-fn put_symbols(x: u64, row: &mut [u16], t: usize)
-    requires { ⌜ t + 4 ≤ length (now row) ⌝ }
-    ensures { λ _. ⌜ Placed t (partsOf 10 4 (bitOf 40 x) 0) (now (row .entry)) (now (row .exit)) ⌝ }
+// The eight symbols of ten bytes, from byte k on.
+fn eight_symbols(bytes: &[u8], k: usize) -> [u16; EIGHT]
+    requires { ⌜ k + 10 ≤ length (now bytes) ⌝ }
+    ensures { λ r. ⌜ r ≡ partsOf 10 8 (bitAt (now (bytes .entry))) (8 * k) ⌝ }
 {
-    row[t] = ((x >> 30) & 1023) as u16;
-    row[t + 1] = ((x >> 20) & 1023) as u16;
-    row[t + 2] = ((x >> 10) & 1023) as u16;
-    row[t + 3] = (x & 1023) as u16;
+    [
+        symbol_in(bytes, k, 0),
+        symbol_in(bytes, k + 1, 2),
+        symbol_in(bytes, k + 2, 4),
+        symbol_in(bytes, k + 3, 6),
+        symbol_in(bytes, k + 5, 0),
+        symbol_in(bytes, k + 6, 2),
+        symbol_in(bytes, k + 7, 4),
+        symbol_in(bytes, k + 8, 6),
+    ]
 }
 
-// Writes n groups of symbols, those that the bytes hold from bit i on, into the row from place t on.
-fn write_groups(bytes: &[u8], i: usize, n: usize, row: &mut [u16], t: usize)
-    requires { ⌜ (length (now bytes) ≤ 16320) × (i / 8 + 5 * n + 3 ≤ length (now bytes)) × (t + 4 * n ≤ length (now row)) ⌝ }
-    ensures { λ _. ⌜ Placed t (partsOf 10 (4 * n) (bitAt (now (bytes .entry))) i) (now (row .entry)) (now (row .exit)) ⌝ }
+// Writes eight symbols into the row from place t on.
+fn put_symbols(s: [u16; EIGHT], row: &mut [u16], t: usize)
+    requires { ⌜ t + 8 ≤ length (now row) ⌝ }
+    ensures { λ _. ⌜ Placed t s (now (row .entry)) (now (row .exit)) ⌝ }
+{
+    row[t] = s[0];
+    row[t + 1] = s[1];
+    row[t + 2] = s[2];
+    row[t + 3] = s[3];
+    row[t + 4] = s[4];
+    row[t + 5] = s[5];
+    row[t + 6] = s[6];
+    row[t + 7] = s[7];
+}
+
+// Writes the symbols of n times ten bytes, from byte k on, into the row from place t on.
+fn write_eights(bytes: &[u8], k: usize, n: usize, row: &mut [u16], t: usize)
+    requires { ⌜ (k + 10 * n ≤ length (now bytes)) × (t + 8 * n ≤ length (now row)) ⌝ }
+    ensures { λ _. ⌜ Placed t (partsOf 10 (8 * n) (bitAt (now (bytes .entry))) (8 * k)) (now (row .entry)) (now (row .exit)) ⌝ }
 {
     let mut q: usize = 0;
     while q < n {
-        put_symbols(forty_bits(bytes, i + GROUP_BITS * q), row, t + GROUP * q);
+        put_symbols(eight_symbols(bytes, k + TEN_BYTES * q), row, t + EIGHT * q);
         q += 1;
     }
 }
 
-// The same for n symbols, one by one; past the end of the bytes a bit is 0.
+// Writes n symbols, those of the bytes from bit i on, one by one; past the end of the bytes a bit is 0.
 fn write_each(bytes: &[u8], i: usize, n: usize, row: &mut [u16], t: usize)
-    requires { ⌜ (i < 262144) × (n < 4) × (t + n ≤ length (now row)) ⌝ }
+    requires { ⌜ (i < 262144) × (n < 8) × (t + n ≤ length (now row)) ⌝ }
     ensures { λ _. ⌜ Placed t (partsOf 10 n (bitAt (now (bytes .entry))) i) (now (row .entry)) (now (row .exit)) ⌝ }
 {
     let mut s: usize = 0;
@@ -112,15 +122,42 @@ fn write_each(bytes: &[u8], i: usize, n: usize, row: &mut [u16], t: usize)
     }
 }
 
-// Writes n symbols, those that the bytes hold from bit i on, into the row from place t on. Past the end of the bytes a bit is 0.
-pub fn write_symbols(bytes: &[u8], i: usize, n: usize, row: &mut [u16], t: usize)
-    requires { ⌜ (length (now bytes) ≤ 16320) × (i / 8 + 5 * (n / 4) + 3 ≤ length (now bytes)) × (t + n ≤ length (now row)) ⌝ }
+// Writes n symbols, those of the bytes from byte k on, into the row from place t on: by eights, and one by one those that are left.
+pub fn write_from_byte(bytes: &[u8], k: usize, n: usize, row: &mut [u16], t: usize)
+    requires { ⌜ (length (now bytes) ≤ 16320) × (8 * k + 10 * n ≤ 8 * length (now bytes) + 2) × (t + n ≤ length (now row)) ⌝ }
+    ensures { λ _. ⌜ Placed t (partsOf 10 n (bitAt (now (bytes .entry))) (8 * k)) (now (row .entry)) (now (row .exit)) ⌝ }
+{
+    let eights = n / EIGHT;
+    write_eights(bytes, k, eights, row, t);
+    write_each(
+        bytes,
+        8 * (k + TEN_BYTES * eights),
+        n % EIGHT,
+        row,
+        t + EIGHT * eights,
+    );
+}
+
+// The same from bit i on: one by one up to the symbol that begins with a byte.
+pub fn write_from_bit(bytes: &[u8], i: usize, n: usize, row: &mut [u16], t: usize)
+    requires { ⌜ (length (now bytes) ≤ 16320) × (i + 10 * n ≤ 8 * length (now bytes) + 2) × (i % 2 ≡ 0) × (3 ≤ n) × (t + n ≤ length (now row)) ⌝ }
     ensures { λ _. ⌜ Placed t (partsOf 10 n (bitAt (now (bytes .entry))) i) (now (row .entry)) (now (row .exit)) ⌝ }
 {
-    let groups = n / GROUP;
-    write_groups(bytes, i, groups, row, t);
-    write_each(bytes, i + GROUP_BITS * groups, n % GROUP, row, t + GROUP * groups);
+    let first = 3 * (i % 8 / 2) % 4;
+    write_each(bytes, i, first, row, t);
+    write_from_byte(
+        bytes,
+        (i + Frame::SYMBOL_BITS * first) / 8,
+        n - first,
+        row,
+        t + first,
+    );
 }
+
+// Four symbols are five bytes.
+pub const GROUP: usize = 4;
+
+pub const GROUP_BYTES: usize = 5;
 
 // The 40 bits of four symbols from place t on.
 fn four_symbols(row: &[u16], t: usize) -> u64

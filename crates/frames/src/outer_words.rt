@@ -58,7 +58,13 @@ fn write_data(payload: &[u8], w: usize, row: &mut [u16])
     requires { ⌜ (w < 16) × (length (now payload) ≡ 15296) × (length (now row) ≡ 12496) ⌝ }
     ensures { λ _. ⌜ Placed (781 * w) (outerData (now (payload .entry)) w) (now (row .entry)) (now (row .exit)) ⌝ }
 {
-    bits::write_symbols(payload, WORD_BITS * w, data_in(w), row, Frame::WORD_SYMBOLS * w);
+    bits::write_from_bit(
+        payload,
+        WORD_BITS * w,
+        data_in(w),
+        row,
+        Frame::WORD_SYMBOLS * w,
+    );
 }
 
 // Writes the symbols into the row from place i on.
@@ -150,7 +156,7 @@ pub fn receive(block: &[u8], row: &mut [u16])
     requires { ⌜ (length (now block) ≡ 16320) × (length (now row) ≡ 12496) ⌝ }
     ensures { λ _. ⌜ now (row .exit) ≡ receivedRow (bitAt (now (block .entry))) ⌝ }
 {
-    bits::write_symbols(block, 0, PADDED, row, 0);
+    bits::write_from_byte(block, 0, PADDED, row, 0);
     let mut t: usize = PADDED;
     while t < Frame::ROW {
         row[t] = last_symbol(block, t);

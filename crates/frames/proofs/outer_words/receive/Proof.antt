@@ -14,8 +14,8 @@ Inv-loop block row₀ t₀ row t = (12476 ≤ t) × Filled 12496 (receivedSymbol
 abbrev μ-loop : tie.MeasureT-loop
 μ-loop block row₀ t₀ row t = 12496 - t
 
-write-symbols-requires : tie.Need-write-symbols-requires Inv-loop μ-loop
-write-symbols-requires c κs = search needs
+write-from-byte-requires : tie.Need-write-from-byte-requires Inv-loop μ-loop
+write-from-byte-requires c κs = search needs
 
 loop-holds : tie.Need-loop-holds Inv-loop μ-loop
 loop-holds c = search (needs, received-start)
@@ -50,7 +50,7 @@ receive-spec =
     (tie.spec
     Inv-loop
     μ-loop
-    write-symbols-requires
+    write-from-byte-requires
     loop-holds
     last-symbol-requires
     mul-row

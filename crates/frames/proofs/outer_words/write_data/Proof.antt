@@ -1,20 +1,20 @@
 -- `frames::outer_words::write_data` meets its contract. Assumes nothing.
 use borrow.Author.Needs.{needs}
-use Rattle.frames.proofs.RowSteps.{payload-room, data-placed}
+use Rattle.frames.proofs.RowSteps.{payload-room, data-least, data-placed}
 use Rattle.frames.proofs.outer_words.write_data.Statement.{statement}
 use Rattle.frames.proofs.outer_words.write_data.Tie as tie
 
-mul-write-symbols : tie.Need-mul-write-symbols
-mul-write-symbols c = search needs
+mul-write-from-bit : tie.Need-mul-write-from-bit
+mul-write-from-bit c = search needs
 
 data-in-requires : tie.Need-data-in-requires
 data-in-requires c κs = search needs
 
-mul-write-symbols-2 : tie.Need-mul-write-symbols-2
-mul-write-symbols-2 c = search needs
+mul-write-from-bit-2 : tie.Need-mul-write-from-bit-2
+mul-write-from-bit-2 c = search needs
 
-write-symbols-requires : tie.Need-write-symbols-requires
-write-symbols-requires c κs = (search needs, search (needs, payload-room), search needs)
+write-from-bit-requires : tie.Need-write-from-bit-requires
+write-from-bit-requires c κs = (search needs, search (needs, payload-room), search needs, search (needs, data-least), search needs)
 
 same-length : tie.Need-same-length
 same-length c = search needs
@@ -26,9 +26,9 @@ pub write-data-spec : {M : Type 1} → statement M
 write-data-spec =
     tie.close
     (tie.spec
-    mul-write-symbols
+    mul-write-from-bit
     data-in-requires
-    mul-write-symbols-2
-    write-symbols-requires
+    mul-write-from-bit-2
+    write-from-bit-requires
     same-length
     returns)

@@ -1,11 +1,11 @@
--- `frames::bits::write_symbols` meets its contract. Assumes nothing.
+-- `frames::bits::write_from_byte` meets its contract. Assumes nothing.
 use borrow.Author.Needs.{needs}
-use Rattle.frames.proofs.Groups.{groups-and-each}
-use Rattle.frames.proofs.bits.write_symbols.Statement.{statement}
-use Rattle.frames.proofs.bits.write_symbols.Tie as tie
+use Rattle.frames.proofs.Groups.{eights-and-each}
+use Rattle.frames.proofs.bits.write_from_byte.Statement.{statement}
+use Rattle.frames.proofs.bits.write_from_byte.Tie as tie
 
-write-groups-requires : tie.Need-write-groups-requires
-write-groups-requires c κs = search needs
+write-eights-requires : tie.Need-write-eights-requires
+write-eights-requires c κs = search needs
 
 mul-write-each : tie.Need-mul-write-each
 mul-write-each c = search needs
@@ -15,6 +15,9 @@ add-write-each c = search needs
 
 mul-write-each-2 : tie.Need-mul-write-each-2
 mul-write-each-2 c = search needs
+
+mul-write-each-3 : tie.Need-mul-write-each-3
+mul-write-each-3 c = search needs
 
 add-write-each-2 : tie.Need-add-write-each-2
 add-write-each-2 c = search needs
@@ -26,16 +29,17 @@ same-length : tie.Need-same-length
 same-length c = search needs
 
 returns : tie.Need-returns
-returns c = search (needs, groups-and-each)
+returns c = search (needs, eights-and-each)
 
-pub write-symbols-spec : {M : Type 1} → statement M
-write-symbols-spec =
+pub write-from-byte-spec : {M : Type 1} → statement M
+write-from-byte-spec =
     tie.close
     (tie.spec
-    write-groups-requires
+    write-eights-requires
     mul-write-each
     add-write-each
     mul-write-each-2
+    mul-write-each-3
     add-write-each-2
     write-each-requires
     same-length

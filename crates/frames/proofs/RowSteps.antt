@@ -6,15 +6,17 @@ use native.Mathlib.Decide.{decLt}
 use native.Mathlib.Omega.{arith}
 use lib.Bits.{bitAnd, and-high}
 use lib.ListN.{length, set}
+use Rattle.fields.proofs.Lists.{tabulate-append, tabulate-at, tabulate-length, tabulate-same}
 use Rattle.words.specs.Places.{at, bitOf, numberOf, bitAt}
 use Rattle.words.proofs.Places.Bytes.{bitAt-lt}
-use Rattle.words.proofs.Places.Filling.{Filled, filled-next, filled-end}
+use Rattle.words.proofs.Places.Filling.{Filled, filled-start, filled-next, filled-end}
 use Rattle.words.proofs.Places.Numbers.{bitOf-lt, bitOf-number, numberOf-lt, numberOf-same}
 use Rattle.frames.specs.Frames.{symbolAt, dataIn, outerData, rowPlace}
 use Rattle.frames.specs.Correction.{receivedSymbol}
 use Rattle.frames.specs.Received.{receivedRow}
-use Rattle.frames.specs.Symbols.{Placed, Sent, byteAt, numberAt, partsOf, symbolBit, symbolByte, dataPlace, dataSymbol, payloadByte, payloadInRow}
+use Rattle.frames.specs.Symbols.{Placed, Sent, byteAt, numberAt, partsOf, symbolBit, symbolByte, dataPlace, dataSymbol, payloadByte, payloadPart, payloadInRow, startOf, endOf}
 use Rattle.frames.proofs.FrameBits.{dataIn-is, place-first, place-last}
+use Rattle.frames.proofs.Placing.{Placing, placing-next, placing-end, placed-append}
 use Rattle.frames.proofs.ReceivedWords.{received-first, received-padding, received-last}
 use Rattle.frames.proofs.Windows.{byte-of-symbols}
 use Rattle.frames.proofs.Groups.{parts-length, parts-at}
@@ -27,6 +29,9 @@ payload-room payload w n long h e = omega (arith, dataIn-is w h)
 
 pub data-least : (w n : ℕ) → w < 16 → n ≡ dataIn w → 3 ≤ n
 data-least w n h e = omega (arith, dataIn-is w h)
+
+pub data-fours : (w n : ℕ) → w < 16 → n ≡ dataIn w → 3 * w % 4 ≤ n
+data-fours w n h e = omega (arith, data-least w n h e)
 
 pub data-placed : (payload : List ℕ) (w n : ℕ) {before row : List ℕ} → n ≡ dataIn w → Placed (781 * w) (partsOf 10 n (bitAt payload) (7650 * w)) before row →
     Placed (781 * w) (outerData payload w) before row
@@ -128,6 +133,114 @@ pub payload-read : (row : List ℕ) (k p q x y b : ℕ) → p ≡ dataPlace (8 *
 unfolding payloadByte dataSymbol
 payload-read row k p q x y b ep ex eq ey e = byte-of-symbols (dataSymbol row) (8 * k) x y b (ex ∙ ap (at row) ep) (ey ∙ ap (at row) eq) e
 
-pub payload-end : (row : List ℕ) {out : List ℕ} {k : ℕ} → Filled 15296 (payloadByte row) k out → 15296 ≤ k → out ≡ payloadInRow row
-unfolding payloadInRow
-payload-end row h l = filled-end h l
+module _ (row : List ℕ) (k n : ℕ) where
+  pub part-length : length (payloadPart row k n) ≡ n
+  unfolding payloadPart
+  part-length = tabulate-length n _
+
+  pub part-at : (m : ℕ) → m < n → at (payloadPart row k n) m ≡ payloadByte row (k + m)
+  unfolding payloadPart
+  part-at m l = tabulate-at n _ m 0 l
+
+  pub payload-next : {m v : ℕ} {before out : List ℕ} → Placing k (payloadPart row k n) m before out → m < n → k + n ≤ 15296 →
+      length before ≡ 15296 → v ≡ payloadByte row (k + m) → Placing k (payloadPart row k n) (m + 1) before (set out (k + m) v)
+  payload-next {m} p l room long e = placing-next p (omega (arith, part-length)) (omega (arith, part-length)) (e ∙ sym (part-at m l))
+
+  pub payload-part : {m : ℕ} {before out : List ℕ} → Placing k (payloadPart row k n) m before out → n ≤ m → Placed k (payloadPart row k n) before out
+  payload-part p l = placing-end p (omega (arith, part-length))
+
+-- one part after another
+parts-filled : (row : List ℕ) (k n : ℕ) {out after : List ℕ} → Filled 15296 (payloadByte row) k out → k + n ≤ 15296 → Placed k (payloadPart row k n) out after →
+    Filled 15296 (payloadByte row) (k + n) after
+parts-filled row k n {out} {after} f room p = record { long = p .long ∙ f .long; within = room; done = λ m l. go m l (decLt m k) }
+  where
+    go : (m : ℕ) → m < k + n → Dec (m < k) → at after m ≡ payloadByte row m
+    go m l (yes h) = p .below m h ∙ f .done m h
+    go m l (no h) =
+        let e : k + (m - k) ≡ m = omega arith in
+        rw e at (p .inside (m - k) (omega (arith, part-length row k n)) ∙ part-at row k n (m - k) (omega arith))
+
+-- the groups of an outer word stand in the payload as in the row
+module _ (row : List ℕ) (w g n : ℕ) (h : w < 16) (en : n ≡ dataIn w) (eg : g ≡ (n - 3 * w % 4) / 4) where
+  group-byte : 8 * (5 * ((765 * w + 3 * w % 4) / 4)) ≡ 10 * (765 * w + 3 * w % 4)
+  group-byte = let e : 3 * w ≡ 4 * (3 * w / 4) + 3 * w % 4 = omega arith in omega arith
+
+  group-bit : (x : ℕ) → x < 40 * g → symbolBit (at row) (10 * (781 * w + 3 * w % 4) + x) ≡ symbolBit (dataSymbol row) (10 * (765 * w + 3 * w % 4) + x)
+  unfolding symbolBit dataSymbol dataPlace
+  group-bit x l =
+      let f = 3 * w % 4 in
+      let inside : f + x / 10 < 765 = omega (arith, dataIn-is w h) in
+      let a : (10 * (781 * w + f) + x) / 10 ≡ 781 * w + (f + x / 10) = omega arith in
+      let b : (10 * (765 * w + f) + x) / 10 ≡ 765 * w + (f + x / 10) = omega arith in
+      let c : (765 * w + (f + x / 10)) / 765 ≡ w = omega arith in
+      let d : (765 * w + (f + x / 10)) % 765 ≡ f + x / 10 = omega arith in
+      let r : (10 * (781 * w + f) + x) % 10 ≡ x % 10 = omega arith in
+      let s : (10 * (765 * w + f) + x) % 10 ≡ x % 10 = omega arith in
+      rw (a, r, b, s, c, d)
+
+  groups-payload : partsOf 8 (5 * g) (symbolBit (at row)) (10 * (781 * w + 3 * w % 4)) ≡ payloadPart row (5 * ((765 * w + 3 * w % 4) / 4)) (5 * g)
+  unfolding partsOf numberAt payloadPart payloadByte symbolByte
+  groups-payload =
+      tabulate-same (5 * g) _ _ (λ m l. numberOf-same 8 _ _ (λ j b.
+      ap (symbolBit (at row)) (omega arith) ∙ group-bit (8 * m + j) (omega arith) ∙ ap (symbolBit (dataSymbol row)) (omega (arith, group-byte))))
+
+  pub groups-room : (p : ℕ) → p ≡ dataPlace (765 * w + 3 * w % 4) → length row ≡ 12496 → p + 4 * g ≤ length row
+  unfolding dataPlace
+  groups-room p ep long = omega (arith, dataIn-is w h)
+
+pub bytes-room : (w g n : ℕ) {s : ℕ} {xs before out : List ℕ} → w < 16 → n ≡ dataIn w → g ≡ (n - 3 * w % 4) / 4 → Placed s xs before out →
+    length before ≡ 15296 → 5 * ((765 * w + 3 * w % 4) / 4) + 5 * g ≤ length out
+bytes-room w g n h en eg p long = omega (arith, p .long, dataIn-is w h)
+
+-- fours up to place f after u and from there on, of n places
+fours : (u f n g a : ℕ) → u + f ≡ 4 * a → f ≤ n → g ≡ (n - f) / 4 → 5 * a - 5 * (u / 4) + 5 * g ≡ 5 * ((u + n) / 4) - 5 * (u / 4)
+fours u f n g a e l eg =
+    let all : (u + n) / 4 ≡ a + g = omega arith in
+    let least : u / 4 ≤ a = omega arith in
+    rw all (after a g (u / 4) least)
+  where
+    after : (a g s : ℕ) → s ≤ a → 5 * a - 5 * s + 5 * g ≡ 5 * (a + g) - 5 * s
+    after a g s l = omega arith
+
+-- the bytes that begin before an outer word, and its groups
+pub word-extracted : (row : List ℕ) (w g n p : ℕ) {before mid after : List ℕ} → w < 16 → n ≡ dataIn w → g ≡ (n - 3 * w % 4) / 4 → p ≡ dataPlace (765 * w + 3 * w % 4) →
+    Placed (5 * (765 * w / 4)) (payloadPart row (5 * (765 * w / 4)) (5 * ((765 * w + 3 * w % 4) / 4) - 5 * (765 * w / 4))) before mid →
+    Placed (5 * ((765 * w + 3 * w % 4) / 4)) (partsOf 8 (5 * g) (symbolBit (at row)) (10 * p)) mid after →
+    Placed (startOf w) (payloadPart row (startOf w) (endOf w - startOf w)) before after
+unfolding startOf endOf dataPlace payloadPart
+word-extracted row w g n p h en eg ep first groups =
+    let f = 3 * w % 4 in
+    let s = 5 * (765 * w / 4) in
+    let k = 5 * ((765 * w + f) / 4) in
+    let place : p ≡ 781 * w + f = omega arith in
+    let four : 765 * w + f ≡ 4 * ((765 * w + f) / 4) = omega (arith, group-byte row w g n h en eg) in
+    let end : k - s + 5 * g ≡ 5 * ((765 * w + dataIn w) / 4) - s =
+    fours (765 * w) f (dataIn w) g ((765 * w + f) / 4) four (omega (arith, dataIn-is w h)) (eg ∙ ap (λ (m : ℕ). (m - f) / 4) en) in
+    let next : k ≡ s + (k - s) = omega arith in
+    let moved = rw (place, groups-payload row w g n h en eg) at groups in
+    let whole = tabulate-append (k - s) (5 * g) (λ m. payloadByte row (s + m)) (λ m. payloadByte row (s + (k - s) + m)) (λ m. ap (payloadByte row) (omega arith)) in
+    rw (whole ∙ ap (λ (m : ℕ). payloadPart row s m) end) at (placed-append (part-length row s (k - s)) first (rw next at moved))
+
+-- the bytes that are written before outer word w
+unfoldable pub doneTo : ℕ → ℕ
+doneTo w = 5 * ((765 * w - 3 * (w / 16)) / 4)
+
+pub payload-start : (row : List ℕ) {out : List ℕ} → length out ≡ 15296 → Filled 15296 (payloadByte row) (doneTo 0) out
+unfolding doneTo
+payload-start row e = filled-start e
+
+pub payload-word : (row : List ℕ) {w : ℕ} {out after : List ℕ} → Filled 15296 (payloadByte row) (doneTo w) out → w < 16 →
+    Placed (startOf w) (payloadPart row (startOf w) (endOf w - startOf w)) out after → Filled 15296 (payloadByte row) (doneTo (w + 1)) after
+unfolding doneTo startOf endOf
+payload-word row {w} f h p =
+    let s = 5 * (765 * w / 4) in
+    let start : 5 * ((765 * w - 3 * (w / 16)) / 4) ≡ s = omega arith in
+    let e : s + (5 * ((765 * w + dataIn w) / 4) - s) ≡ 5 * ((765 * (w + 1) - 3 * ((w + 1) / 16)) / 4) = omega (arith, dataIn-is w h) in
+    rw e at (parts-filled row s (5 * ((765 * w + dataIn w) / 4) - s) (rw start at f) (omega (arith, dataIn-is w h)) p)
+
+pub payload-all : (row : List ℕ) {w : ℕ} {out after : List ℕ} → Filled 15296 (payloadByte row) (doneTo w) out → w ≤ 16 → 16 ≤ w →
+    Placed 15295 (payloadPart row 15295 1) out after → after ≡ payloadInRow row
+unfolding payloadInRow doneTo
+payload-all row {w} f l g p =
+    let e : 5 * ((765 * w - 3 * (w / 16)) / 4) ≡ 15295 = omega arith in
+    filled-end (parts-filled row 15295 1 (rw e at f) (omega arith) p) (omega arith)

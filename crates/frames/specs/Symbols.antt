@@ -62,5 +62,16 @@ dataSymbol row u = at row (dataPlace u)
 unfoldable pub payloadByte : List ℕ → ℕ → ℕ
 payloadByte row k = symbolByte (dataSymbol row) (8 * k)
 
+-- n bytes of it from byte k on
+unfoldable pub payloadPart : List ℕ → ℕ → ℕ → List ℕ
+payloadPart row k n = tabulate n (λ m. payloadByte row (k + m))
+
+-- four data symbols are five payload bytes: the bytes of those that end before outer word w, and that end with it
+unfoldable pub startOf : ℕ → ℕ
+startOf w = 5 * (765 * w / 4)
+
+unfoldable pub endOf : ℕ → ℕ
+endOf w = 5 * ((765 * w + dataIn w) / 4)
+
 unfoldable pub payloadInRow : List ℕ → List ℕ
 payloadInRow row = tabulate 15296 (payloadByte row)

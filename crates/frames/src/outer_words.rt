@@ -7,7 +7,7 @@ use words::packed;
 use words::reed_solomon;
 ghost use mathlib.Core.Path.{_≡_};
 ghost use mathlib.Core.Bool.{true, false};
-ghost use Prim.Native.Nat.{_+_, _*_, _≤_, _<_};
+ghost use Prim.Native.Nat.{_+_, _-_, _*_, _≤_, _<_};
 ghost use lib.ListN.{length};
 ghost use Rattle.words.specs.Places.{at, allBelow, bitAt};
 ghost use Rattle.words.specs.OuterCode.{isOuter};
@@ -15,7 +15,7 @@ ghost use Rattle.words.specs.SixSymbols.{parities};
 ghost use Rattle.frames.specs.Frames.{dataIn, outerData, outerWord, outerWords, rowPlace};
 ghost use Rattle.frames.specs.Correction.{receivedSymbol, isPadded};
 ghost use Rattle.frames.specs.Received.{receivedRow};
-ghost use Rattle.frames.specs.Symbols.{Placed, InRow, Sent, rowWord, rowCodes, symbolByte, dataPlace, payloadByte, payloadInRow};
+ghost use Rattle.frames.specs.Symbols.{Placed, InRow, Sent, rowWord, rowCodes, symbolByte, dataPlace, payloadByte, payloadPart, payloadInRow, startOf, endOf};
 ghost use Rattle.frames.specs.Passes.{provided, WordRestored, rowWords, rowRestored};
 
 const LAST: usize = Frame::WORDS - 1;
@@ -271,14 +271,46 @@ fn payload_byte(row: &[u16], k: usize) -> u8
     bits::byte_of(x, y, i % Frame::SYMBOL_BITS)
 }
 
-// Writes the payload in the row.
+// Writes n bytes of the payload in the row from byte k on, one by one.
+fn extract_each(row: &[u16], k: usize, n: usize, out: &mut [u8])
+    requires { ⌜ (k + n ≤ 15296) × (length (now out) ≡ 15296) ⌝ }
+    ensures { λ _. ⌜ Placed k (payloadPart (now (row .entry)) k n) (now (out .entry)) (now (out .exit)) ⌝ }
+{
+    let mut m: usize = 0;
+    while m < n {
+        out[k + m] = payload_byte(row, k + m);
+        m += 1;
+    }
+}
+
+// Writes the payload bytes of outer word w: those of the four symbols that begin before it, if it does not begin four, and then by groups.
+fn extract_word(row: &[u16], w: usize, out: &mut [u8])
+    requires { ⌜ (w < 16) × (length (now row) ≡ 12496) × (length (now out) ≡ 15296) ⌝ }
+    ensures { λ _. ⌜ Placed (startOf w) (payloadPart (now (row .entry)) (startOf w) (endOf w - startOf w)) (now (out .entry)) (now (out .exit)) ⌝ }
+{
+    let start = bits::GROUP_BYTES * (Frame::DATA_SYMBOLS * w / bits::GROUP);
+    let first = 3 * w % bits::GROUP;
+    let k = bits::GROUP_BYTES * ((Frame::DATA_SYMBOLS * w + first) / bits::GROUP);
+    let groups = (data_in(w) - first) / bits::GROUP;
+    extract_each(row, start, k - start, out);
+    bits::write_bytes(
+        row,
+        data_place(Frame::DATA_SYMBOLS * w + first),
+        groups,
+        out,
+        k,
+    );
+}
+
+// Writes the payload in the row. The last byte is in no four symbols of the payload alone.
 pub fn extract(row: &[u16], out: &mut [u8])
-    requires { ⌜ length (now out) ≡ 15296 ⌝ }
+    requires { ⌜ (length (now row) ≡ 12496) × (length (now out) ≡ 15296) ⌝ }
     ensures { λ _. ⌜ now (out .exit) ≡ payloadInRow (now (row .entry)) ⌝ }
 {
-    let mut k: usize = 0;
-    while k < Frame::PAYLOAD_BYTES {
-        out[k] = payload_byte(row, k);
-        k += 1;
+    let mut w: usize = 0;
+    while w < Frame::WORDS {
+        extract_word(row, w, out);
+        w += 1;
     }
+    extract_each(row, Frame::PAYLOAD_BYTES - 1, 1, out);
 }

@@ -1,17 +1,16 @@
-// Division of outer words by the generator, for the entries and for the crates above. A step takes a multiple of the generator away. An element is the sum
+// Division of outer words by the generator, a symbol at a step. A step takes a multiple of the generator away. An element is the sum
 // of a low and a high digit of five bits, so a step adds a row of sixteen symbols for each digit, from two tables that are made once, and multiplies nothing.
 use crate::Outer;
 use crate::reed_solomon;
 use crate::reed_solomon::sum;
 ghost use mathlib.Core.Path.{_≡_};
 ghost use mathlib.Core.Bool.{true};
-ghost use Prim.Native.Nat.{_+_, _≤_, _<_};
-ghost use lib.ListN.{length};
+ghost use Prim.Native.Nat.{_≤_, _<_};
 ghost use Rattle.fields.specs.Lists.{tabulate};
 ghost use Rattle.fields.specs.Elements.{timesA};
 ghost use Rattle.words.specs.Places.{at, allBelow};
-ghost use Rattle.words.specs.OuterCode.{isOuter, generator, shiftedIn, outerParity};
-ghost use Rattle.words.specs.Division.{multiples, endsWith};
+ghost use Rattle.words.specs.OuterCode.{generator, shiftedIn, outerParity};
+ghost use Rattle.words.specs.Division.{multiples};
 
 // A digit has so many values.
 const DIGITS: u16 = 32;
@@ -98,30 +97,4 @@ pub fn divide(low: &[u16], high: &[u16], data: &[u16]) -> Register
         i += 1;
     }
     register
-}
-
-// The symbols of the word from place `from` on are the cells of the register.
-fn ends_with(word: &[u16], from: usize, register: Register) -> bool
-    requires { ⌜ from + 16 ≡ length (now word) ⌝ }
-    ensures { λ r. ⌜ r ≡ endsWith (now (word .entry)) from (register .cells) ⌝ }
-{
-    let cells = register.cells;
-    let mut i: usize = 0;
-    while i < Outer::PARITY {
-        if word[from + i] != cells[i] {
-            return false;
-        }
-        i += 1;
-    }
-    true
-}
-
-// Whether a word is a code word: its last sixteen symbols are the parity of the others.
-pub fn is_code_word(low: &[u16], high: &[u16], word: &[u16]) -> bool
-    requires { ⌜ (now low ≡ multiples 1) × (now high ≡ multiples 32) ⌝ }
-    requires { ⌜ (16 ≤ length (now word)) × (length (now word) ≤ 1023) × (allBelow 1024 (now word) ≡ true) ⌝ }
-    ensures { λ r. ⌜ r ≡ isOuter (now (word .entry)) ⌝ }
-{
-    let from = word.len() - Outer::PARITY;
-    ends_with(word, from, divide(low, high, &word[0..from]))
 }

@@ -19,7 +19,7 @@ ghost use Rattle.words.specs.Answers.{outerChecked, outerEncoded, innerC
 
 pub mod bch;
 mod decoder;
-pub mod division;
+mod division;
 pub mod packed;
 pub mod reed_solomon;
 

@@ -16,8 +16,7 @@ use Rattle.fields.proofs.Instances.{field-a}
 use Rattle.words.specs.Places.{at, every, allBelow, horner, value, apart}
 use Rattle.words.specs.OuterCode.{powerA, outerValue, isOuter, withRoot, withRoots, generator, outerParity}
 use Rattle.words.specs.ByTables.{lentValue, rootValue}
-use Rattle.words.specs.Division.{endsWith}
-use Rattle.words.proofs.Places.Tests.{tests-agree, every-at, every-true, below-at, below-all, below-append, below-take}
+use Rattle.words.proofs.Places.Tests.{every-at, every-true, below-at, below-all, below-append, below-take}
 use Rattle.words.proofs.Codes.Lent.{value-lent, divided-lt}
 use Rattle.words.proofs.Codes.Division.{divided-length, completed-value}
 use Rattle.words.proofs.Places.Counting.{apart-append}
@@ -113,21 +112,15 @@ module _ (w : List ℕ) (n : ℕ) (long : length w ≡ n + 16) (short : n ≤ 10
   back-length : length back ≡ 16
   back-length = length-drop n w ∙ omega arith
 
-  ends-code : endsWith w n (outerParity front) ≡ true → isOuter w ≡ true
-  unfolding endsWith
-  ends-code t =
+  pub ends-code : ((j : ℕ) → j < 16 → at w (n + j) ≡ at (outerParity front) j) → isOuter w ≡ true
+  ends-code same =
       let p = outerParity front in
-      let same = every-at 16 (λ j. eqb (at w (n + j)) (at p j)) t in
       let long-as : length back ≡ length p = back-length ∙ sym (outer-length front) in
-      let e : back ≡ p = ext-getD 0 back p long-as (λ i l. getD-drop n w i 0 ∙ eqb-true _ _ (same i (omega (arith, back-length)))) in
+      let e : back ≡ p = ext-getD 0 back p long-as (λ i l. getD-drop n w i 0 ∙ same i (omega (arith, back-length))) in
       ap isOuter (sym (take-append-drop n w) ∙ ap (λ (r : List ℕ). front ++ r) e) ∙ outer-made front (below-take 1024 n w h)
 
-  code-ends : isOuter w ≡ true → endsWith w n (outerParity front) ≡ true
-  unfolding endsWith
-  code-ends t =
+  pub code-ends : isOuter w ≡ true → (j : ℕ) → j < 16 → at w (n + j) ≡ at (outerParity front) j
+  code-ends t j l =
       let few : length front ≤ 1007 = omega (arith, length-take-le n w (omega arith)) in
       let e : back ≡ outerParity front = outer-only front back few back-length (ap isOuter (take-append-drop n w) ∙ t) in
-      every-true 16 _ (λ j l. eq-eqb _ _ (sym (getD-drop n w j 0) ∙ ap (λ (r : List ℕ). at r j) e))
-
-  pub outer-ends : endsWith w n (outerParity front) ≡ isOuter w
-  outer-ends = tests-agree _ _ ends-code code-ends
+      sym (getD-drop n w j 0) ∙ ap (λ (r : List ℕ). at r j) e

@@ -10,7 +10,7 @@ use native.Mathlib.Omega.{arith}
 use borrow.Author.Tests.{eq-eqb, eqb-true}
 use lib.Bits as Bits
 use lib.Dec.{eqb, lit<}
-use lib.ListN.{length, getD, List·getD-eq-default}
+use lib.ListN.{length, List·getD-eq-default}
 use lib.Pow.{pow-pos, pow-add, pow-mono, shr-shr, shl-lt, mod-pow-add}
 use Rattle.fields.specs.Elements.{xor, timesA}
 use Rattle.fields.specs.Lists.{tabulate}
@@ -19,9 +19,8 @@ use Rattle.fields.proofs.Lists.{tabulate-at, tabulate-is, tabulate-same, tabula
 use Rattle.fields.proofs.Xor.{xor-zero-l, xor-zero-r, xor-self, xor-assoc, xor-comm, xor-four, xor-lt, xor-high, xor-shifted, additive-zero}
 use Rattle.words.specs.Places.{at, allBelow, horner}
 use Rattle.words.specs.OuterCode.{generator, shiftedIn, divided}
-use Rattle.words.specs.Division.{endsWith}
 use Rattle.words.specs.SixSymbols.{joined, joinedFrom, symbolOf, six, Packs, numberAt, unpacked, endsPacked, sixParity, parityEntry, parities}
-use Rattle.words.proofs.Places.Tests.{tests-agree, every-at, every-true, below-at}
+use Rattle.words.proofs.Places.Tests.{below-at}
 use Rattle.words.proofs.Codes.Horner.{Additive, horner-same, horner-sum, horner-zero}
 use Rattle.words.proofs.Codes.Lent.{divided-lt}
 use Rattle.words.proofs.Codes.Division.{divided-length}
@@ -314,12 +313,12 @@ module _ (h m l : ℕ) (cells : List ℕ) (long : length cells ≡ 16) (small : 
         sym (ap (at w) here) ∙ sym (symbol-at (λ k. at w (i + k)) (λ k. symbols (i + k)) 6 (j % 6) (omega arith))
         ∙ ap₂ (λ (x y : ℕ). x / 2 ^ y % 1024) (s (j / 6) (omega arith)) (sym e) ∙ cell-at j (omega arith)
 
-    packed-ends : endsPacked w n h m l ≡ true → endsWith w n cells ≡ true
-    unfolding endsPacked endsWith numberAt
-    packed-ends t =
+    pub packed-same : endsPacked w n h m l ≡ true → Same
+    unfolding endsPacked numberAt
+    packed-same t =
         let both = and-eq-true-iff (eqb (joinedFrom w n 6) h) (eqb (joinedFrom w (n + 6) 6) m && eqb (joinedFrom w (n + 12) 6) l) .0 t in
         let rest = and-eq-true-iff (eqb (joinedFrom w (n + 6) 6) m) (eqb (joinedFrom w (n + 12) 6) l) .0 (both .1) in
-        every-true 16 _ (λ j b. eq-eqb _ _ (symbols-same (three (eqb-true _ _ (both .0)) (eqb-true _ _ (rest .0)) (eqb-true _ _ (rest .1))) j b))
+        symbols-same (three (eqb-true _ _ (both .0)) (eqb-true _ _ (rest .0)) (eqb-true _ _ (rest .1)))
       where
         three : joinedFrom w n 6 ≡ h → joinedFrom w (n + 6) 6 ≡ m → joinedFrom w (n + 12) 6 ≡ l → (k : ℕ) → k < 3 → joinedFrom w (n + 6 * k) 6 ≡ numberAt h m l k
         three eh em el zero b = ap (λ (i : ℕ). joinedFrom w i 6) (add-zero n) ∙ eh
@@ -327,15 +326,11 @@ module _ (h m l : ℕ) (cells : List ℕ) (long : length cells ≡ 16) (small : 
         three eh em el (suc (suc zero)) b = el
         three eh em el (suc (suc (suc k))) b = absurd (omega arith)
 
-    ends-packed : endsWith w n cells ≡ true → endsPacked w n h m l ≡ true
-    unfolding endsPacked endsWith numberAt
-    ends-packed t =
-        let s : Same = λ j b. eqb-true _ _ (every-at 16 (λ j. eqb (at w (n + j)) (at cells j)) t j b) in
+    pub same-packed : Same → endsPacked w n h m l ≡ true
+    unfolding endsPacked numberAt
+    same-packed s =
         rw (eq-eqb (joinedFrom w n 6) h (numbers-same s n 0 (lit< tt) (sym (add-zero n))), eq-eqb (joinedFrom w (n + 6) 6) m (numbers-same s (n + 6) 1 (lit< tt) refl))
         (eq-eqb (joinedFrom w (n + 12) 6) l (numbers-same s (n + 12) 2 (lit< tt) refl))
-
-    pub packed-agree : endsPacked w n h m l ≡ endsWith w n cells
-    packed-agree = tests-agree _ _ packed-ends ends-packed
 
 -- the last four symbols of a word, and two zeros after them
 pub joined-last : (w : List ℕ) (i : ℕ) → allBelow 1024 w ≡ true → length w ≡ i + 4 → joinedFrom w i 6 ≡ joinedFrom w i 4 * 2 ^ 20 % 2 ^ 64

@@ -3,13 +3,12 @@
 use mathlib.Core.Path.{_≡_, refl, sym, ap, ap₂, _∙_}
 use mathlib.Core.Bool.{Bool, true, _&&_, and-eq-true-iff}
 use mathlib.Core.List.{List, [], _∷_}
-use Prim.Native.Nat.{ℕ, zero, suc, _+_, _-_, _*_, _/_, _%_, _^_, _≤_, _<_}
-use native.Mathlib.Nat.{mod-eq-of-lt}
+use Prim.Native.Nat.{ℕ, zero, suc, _+_, _-_, _*_, _/_, _%_, _^_, _<_}
 use native.Mathlib.Omega.{arith}
 use borrow.Author.Tests.{eqb-true}
 use lib.Dec.{eqb, lit<}
 use lib.ListN.{length}
-use lib.Pow.{pow-add, pow-lt, pow-mono, shr-shr}
+use lib.Pow.{pow-add, pow-lt, shr-shr}
 use Rattle.fields.specs.Elements.{xor, scale, doubled, timesFrom, times, power, timesA}
 use Rattle.fields.specs.Lists.{tabulate}
 use Rattle.fields.proofs.Instances.{field-a}

@@ -2,11 +2,11 @@
 use mathlib.Core.Path.{_≡_, refl, sym, ap, ap₂, _∙_}
 use mathlib.Core.Bool.{Bool, true, false}
 use mathlib.Core.List.{List}
-use Prim.Native.Nat.{ℕ, zero, suc, _+_, _-_, _*_, _≤_}
+use Prim.Native.Nat.{ℕ, zero, suc, _+_, _*_}
 use native.Mathlib.Omega.{arith}
 use borrow.Author.Tests.{eq-eqb, eqb-true, le-ltb, ne-eqb}
 use lib.Dec.{eqb, ltb, eqb·suc-zero}
-use lib.ListN.{length, take}
+use lib.ListN.{length}
 use Rattle.fields.specs.Elements.{doubled, powersA, exponentsA}
 use Rattle.fields.specs.Lists.{tabulate}
 use Rattle.fields.proofs.Lists.{tabulate-at, tabulate-length, tabulate-same}
@@ -15,13 +15,12 @@ use Rattle.words.specs.OuterCode.{outerValue, isOuter, outerParity}
 use Rattle.words.specs.InnerCode.{divisor, remainder, isInner, innerRemainder, innerParity}
 use Rattle.words.specs.Answers.{refusal, within, answered, firstOf, outerChecked, outerEncoded, innerChecked, innerEncoded}
 use Rattle.words.specs.ByTables.{rootValue, rootValues}
-use Rattle.words.specs.Division.{endsWith}
 use Rattle.words.specs.Limbs.{number, Holds}
 use Rattle.words.proofs.Places.Tests.{every-same}
 use Rattle.words.proofs.Places.Numbers.{numberOf-same}
 use Rattle.words.proofs.Places.Bytes.{bits-at, bits-below, bits-length}
 use Rattle.words.proofs.Codes.Horner.{horner-same}
-use Rattle.words.proofs.Codes.OuterWords.{root-is, outer-ends}
+use Rattle.words.proofs.Codes.OuterWords.{root-is}
 
 -- what no refusal tells: the length is right, the buffer fits, and the symbols are below 1,024
 pub passed : (long fits symbols : Bool) → refusal long fits symbols ≡ 0 → (long ≡ true) × (fits ≡ true) × (symbols ≡ true)
@@ -67,13 +66,6 @@ module _ (w : List ℕ) (r : ℕ) (told : r ≡ refusal (within 17 1023 (length 
     pub outer-no-code : b ≡ false → 4 ≡ outerChecked w
     unfolding outerChecked firstOf
     outer-no-code t = rw (← told, none, ← code-tested, t)
-
--- a code word by division: the part from place 0 on, all but sixteen symbols, is divided, and these are compared
-pub outer-divided : (w cells : List ℕ) (b : Bool) → 16 ≤ length w → length w ≤ 1023 → allBelow 1024 w ≡ true →
-    cells ≡ outerParity (take (length w - 16 - 0) w) → b ≡ endsWith w (length w - 16) cells → b ≡ isOuter w
-outer-divided w cells b lo hi symbols e test =
-    let n : length w - 16 - 0 ≡ length w - 16 = omega arith in
-    test ∙ ap (endsWith w (length w - 16)) (e ∙ ap (λ (k : ℕ). outerParity (take k w)) n) ∙ outer-ends w (length w - 16) (omega arith) (omega arith) symbols
 
 module _ (d o : List ℕ) (r : ℕ) (told : r ≡ refusal (within 1 1007 (length d)) (eqb (length o) 16) (allBelow 1024 d)) where
   pub encode-outer-refused : (r ≡ 0 → ⊥) → _≡_ {A = ℕ × List ℕ} (r, o) (outerEncoded d o)

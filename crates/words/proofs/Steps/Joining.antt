@@ -11,19 +11,18 @@ use borrow.Author.Tests.{eq-eqb, ne-eqb}
 use lib.Bits as Bits
 use lib.Dec.{eqb, lit<}
 use lib.ListN.{length, getD, set, take, length-set}
-use lib.Pow.{pow-add, pow-mono, pow-pos}
+use lib.Pow.{pow-add, pow-mono}
 use lib.Seq.{getD-set-same, getD-set-other}
 use Rattle.fields.specs.Elements.{xor, timesA}
-use Rattle.fields.specs.Lists.{tabulate}
 use Rattle.fields.proofs.Lists.{tabulate-at, tabulate-is, tabulate-length}
 use Rattle.fields.proofs.Xor.{xor-lt, xor-comm, xor-shifted, additive-zero}
 use Rattle.words.specs.Places.{at, allBelow, horner}
 use Rattle.words.specs.OuterCode.{isOuter, generator, divided, outerParity}
 use Rattle.words.specs.SixSymbols.{joined, joinedFrom, symbolOf, six, Packs, numberAt, unpacked, endsPacked, sixParity, parityEntry, parities, unitParities, Stored}
-use Rattle.words.proofs.Places.Tests.{below-at, below-take}
+use Rattle.words.proofs.Places.Tests.{tests-agree, below-at, below-take}
 use Rattle.words.proofs.Places.Filling.{Filled, filled-next, filled-end}
-use Rattle.words.proofs.Codes.OuterWords.{outer-length, parity-below, outer-ends}
-use Rattle.words.proofs.Codes.Packing.{shift-sum, parity-sum, joined-same, joined-lt, parity-joined, high-lt, packs-more, entry-is, six-digit, unpacked-is, packed-agree, joined-last}
+use Rattle.words.proofs.Codes.OuterWords.{outer-length, parity-below, ends-code, code-ends}
+use Rattle.words.proofs.Codes.Packing.{shift-sum, parity-sum, joined-same, joined-lt, parity-joined, high-lt, packs-more, entry-is, six-digit, unpacked-is, packed-same, same-packed, joined-last}
 use Rattle.words.proofs.Steps.Loops.{dividedUpTo}
 
 module _ (w : List ℕ) (i : ℕ) where
@@ -282,10 +281,15 @@ module _ (w : List ℕ) (i h m l : ℕ) where
 -- a code word by division: the part from place 0 on, all but sixteen symbols, is divided, and these are compared
 pub outer-packed : (w : List ℕ) (h m l : ℕ) (r : Bool) → 16 ≤ length w → length w ≤ 1023 → allBelow 1024 w ≡ true →
     Packs h m l (outerParity (take (length w - 16 - 0) w)) → r ≡ endsPacked w (length w - 16) h m l → r ≡ isOuter w
-outer-packed w h m l r long short small p test =
-    let n : length w - 16 - 0 ≡ length w - 16 = omega arith in
-    let front : List ℕ = take (length w - 16) w in
-    let below : allBelow 1024 (outerParity front) ≡ true = parity-below front (below-take 1024 (length w - 16) w small) in
+outer-packed w h m l r least most small p test =
+    let n = length w - 16 in
+    let all : length w - 16 - 0 ≡ n = omega arith in
+    let front : List ℕ = take n w in
+    let cells = outerParity front in
+    let below = below-at 1024 cells (lit< tt) (parity-below front (below-take 1024 n w small)) in
+    let symbols = below-at 1024 w (lit< tt) small in
+    let packs : Packs h m l cells = rw all at p in
+    let long : length w ≡ n + 16 = omega arith in
     test
-    ∙ packed-agree h m l (outerParity front) (outer-length front) (below-at 1024 (outerParity front) (lit< tt) below) (rw n at p) w (length w - 16) (omega arith) (below-at 1024 w (lit< tt) small)
-    ∙ outer-ends w (length w - 16) (omega arith) (omega arith) small
+    ∙ tests-agree _ _ (λ t. ends-code w n long (omega arith) small (packed-same h m l cells (outer-length front) below packs w n long symbols t))
+    (λ t. same-packed h m l cells (outer-length front) below packs w n long symbols (code-ends w n long (omega arith) small t))

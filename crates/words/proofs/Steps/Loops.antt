@@ -6,8 +6,8 @@ use Prim.Native.Nat.{ℕ, _+_, _≤_, _<_}
 use native.Mathlib.Nat.{zero-add}
 use native.Mathlib.Numerals.{add-one}
 use native.Mathlib.Omega.{arith}
-use borrow.Author.Tests.{eq-eqb, ne-eqb, lt-ltb, le-ltb}
-use lib.Dec.{eqb, ltb, lit<}
+use borrow.Author.Tests.{lt-ltb, le-ltb}
+use lib.Dec.{ltb, lit<}
 use lib.ListN.{length, getD, set}
 use Rattle.fields.specs.Elements.{xor, timesA}
 use Rattle.fields.specs.Lists.{tabulate}
@@ -16,7 +16,6 @@ use Rattle.fields.proofs.Instances.{field-a}
 use Rattle.words.specs.Places.{at, every, allBelow, horner}
 use Rattle.words.specs.OuterCode.{generator, shiftedIn, divided, outerParity}
 use Rattle.words.specs.ByTables.{lentValue, rootValue, rootValues}
-use Rattle.words.specs.Division.{endsWith}
 use Rattle.words.proofs.Places.Tests.{every-false, below-at}
 use Rattle.words.proofs.Places.Filling.{Filled, filled-next, filled-end}
 use Rattle.words.proofs.Codes.Lent.{divided-lt}
@@ -93,25 +92,3 @@ module _ (d reg : List ℕ) where
     pub divided-below : allBelow 1024 d ≡ true → at reg 0 < 1024
     unfolding dividedUpTo
     divided-below h = rw so-far (divided-lt 10 1033 field-a 16 (at generator) (at d) generator-lt (below-at 1024 d (lit< tt) h) i 0)
-
--- the first i symbols from place k on are cells
-unfoldable pub endsUpTo : List ℕ → ℕ → List ℕ → ℕ → Bool
-endsUpTo w k cells i = every i (λ j. eqb (at w (k + j)) (at cells j))
-
-pub ends-none : (w : List ℕ) (k : ℕ) (cells : List ℕ) → endsUpTo w k cells 0 ≡ true
-unfolding endsUpTo every
-ends-none w k cells = refl
-
-module _ (w : List ℕ) (k : ℕ) (cells : List ℕ) (i : ℕ) where
-  pub ends-not : i < 16 → (getD w (k + i) 0 ≡ getD cells i 0 → ⊥) → false ≡ endsWith w k cells
-  unfolding endsWith
-  ends-not l h = sym (every-false 16 (λ j. eqb (at w (k + j)) (at cells j)) i l (ne-eqb _ _ h))
-
-  module _ (so-far : endsUpTo w k cells i ≡ true) where
-    pub ends-next : getD w (k + i) 0 ≡ getD cells i 0 → endsUpTo w k cells (i + 1) ≡ true
-    unfolding endsUpTo every
-    ends-next h = rw (add-one, so-far) (eq-eqb _ _ h)
-
-    pub ends-end : i ≤ 16 → 16 ≤ i → true ≡ endsWith w k cells
-    unfolding endsUpTo endsWith
-    ends-end l h = let e : i ≡ 16 = omega arith in sym (rw e at so-far)

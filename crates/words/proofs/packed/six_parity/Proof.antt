@@ -1,6 +1,6 @@
 -- `words::packed::six_parity` meets its contract. Assumes nothing.
 use Rattle.words.proofs.Steps.Joining.{parities-long, digit-row}
-use Prim.Native.Nat.{_+_, _-_, _*_, _%_, _^_, _≤_}
+use Prim.Native.Nat.{_-_, _*_, _%_, _^_, _≤_}
 use Rattle.words.specs.SixSymbols.{Packs, sixParity}
 use Rattle.words.proofs.Steps.Joining.{parity-none, parity-next, parity-end}
 use borrow.Author.Needs.{needs}

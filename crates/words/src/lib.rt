@@ -1,8 +1,8 @@
 // Single words of the two codes of an I.4 frame: whether a word is a code word, the parity that completes data to one, and the code word within eight
 // symbols or places of a word.
 //
-// Outer words (modules reed_solomon and division), Reed-Solomon over field A, lent as 16-bit symbols:
-//     check    length and symbols, then the word's values at the sixteen roots, all zero for a code word
+// Outer words (modules reed_solomon, division and packed), Reed-Solomon over field A, lent as 16-bit symbols:
+//     check    length and symbols, then the word's values at the sixteen roots, those of its remainder, all zero for a code word
 //     encode   the data goes symbol by symbol through the division register; what the register then holds is the parity
 //     correct  the values at the sixteen roots are the syndromes, from which the decoder finds the errors
 // Inner words (module bch), binary BCH over field B, lent as bytes, place 0 the highest bit of the first:
@@ -81,7 +81,7 @@ pub fn check_outer(word: &[u16]) -> u8
     }
     let exp = fields::exp_a();
     let log = fields::log_a();
-    let values = reed_solomon::root_values(&exp, &log, word);
+    let values = packed::root_values(&exp, &log, word);
     if reed_solomon::all_below(&values, 1) {
         0
     } else {
@@ -117,7 +117,7 @@ pub fn correct_outer(word: &[u16], out: &mut [u16]) -> Correction
     }
     let exp = fields::exp_a();
     let log = fields::log_a();
-    let t = reed_solomon::root_values(&exp, &log, word);
+    let t = packed::root_values(&exp, &log, word);
     let e = decoder::decode(&exp, &log, t, word.len());
     let left = e.left;
     if !reed_solomon::all_below(&left, 1) {

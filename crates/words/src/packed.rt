@@ -1,14 +1,18 @@
-// Division of outer words by the generator six symbols at a step, for the crates above. The sixteen cells of the register stand in three numbers, ten bits
+// Division of outer words by the generator six symbols at a step, for the entries and for the crates above. The sixteen cells of the register stand in three numbers, ten bits
 // each. A step takes the first six cells away and adds the parity of what they and the six symbols are together; parity respects sums, so that it is the sum
 // of the parities of ten digits of six bits, and these stand in a table that is made once.
 use crate::Outer;
+use crate::reed_solomon;
+use crate::reed_solomon::sum;
 ghost use mathlib.Core.Path.{_≡_};
 ghost use mathlib.Core.Bool.{true};
 ghost use Prim.Native.Nat.{_+_, _*_, _/_, _%_, _^_, _≤_, _<_};
 ghost use lib.ListN.{length};
-ghost use Rattle.fields.specs.Elements.{xor};
+ghost use Rattle.fields.specs.Elements.{xor, powersA, exponentsA};
 ghost use Rattle.words.specs.Places.{at, allBelow};
 ghost use Rattle.words.specs.OuterCode.{isOuter, outerParity};
+ghost use Rattle.words.specs.ByTables.{rootValues};
+ghost use Rattle.words.specs.Division.{outerRemainder};
 ghost use Rattle.words.specs.SixSymbols.{joinedFrom, symbolOf, six, Packs, numberAt, unpacked, endsPacked, sixParity, parityEntry, parities, unitParities, Stored};
 
 // So many symbols are taken at a step.
@@ -454,4 +458,29 @@ pub fn is_code_word(table: &[u64], word: &[u16]) -> bool
 {
     let from = word.len() - Outer::PARITY;
     ends_with(word, from, divide(table, &word[0..from]))
+}
+
+// The remainder of a word after division by the generator.
+fn remainder(table: &[u64], word: &[u16]) -> [u16; Outer::PARITY]
+    requires { ⌜ (now table ≡ parities) × (16 ≤ length (now word)) × (allBelow 1024 (now word) ≡ true) ⌝ }
+    ensures { λ r. ⌜ r ≡ outerRemainder (now (word .entry)) ⌝ }
+{
+    let from = word.len() - Outer::PARITY;
+    let mut cells = parity(table, &word[0..from]);
+    let mut i: usize = 0;
+    while i < Outer::PARITY {
+        cells[i] = sum(cells[i], word[from + i]);
+        i += 1;
+    }
+    cells
+}
+
+// The word's values at the sixteen roots: those of its remainder, since the generator vanishes there.
+pub fn root_values(exp: &[u16], log: &[u16], word: &[u16]) -> [u16; Outer::PARITY]
+    requires { ⌜ (now exp ≡ powersA) × (now log ≡ exponentsA) × (16 ≤ length (now word)) × (allBelow 1024 (now word) ≡ true) ⌝ }
+    ensures { λ r. ⌜ r ≡ rootValues (now (exp .entry)) (now (log .entry)) (now (word .entry)) ⌝ }
+{
+    let table = table();
+    let rest = remainder(&table, word);
+    reed_solomon::root_values(exp, log, &rest)
 }

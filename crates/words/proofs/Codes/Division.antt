@@ -90,7 +90,7 @@ module _ (m p : ℕ) (F : Field m p) (x : ℕ) (hx : x < 2 ^ m) where
         ∙ ap (xor v) (sym (iter-sum f f-sum n r a) ∙ ap (iter f n) (xor-cancel r s))
 
     -- the register holds the value of the data times x^n
-    register-value : (d : ℕ → ℕ) → ((i : ℕ) → d i < 2 ^ m) → (k : ℕ) → value m p x (at (divided (times m p) n g d k)) n ≡ iter f n (value m p x d k)
+    pub register-value : (d : ℕ → ℕ) → ((i : ℕ) → d i < 2 ^ m) → (k : ℕ) → value m p x (at (divided (times m p) n g d k)) n ≡ iter f n (value m p x d k)
     unfolding divided horner
     register-value d hd zero =
         horner-same f _ (λ i. 0) n (λ i l. tabulate-at n (λ i. 0) i 0 l) ∙ horner-zero f f-sum (λ i. 0) (λ i. refl) n

@@ -2,23 +2,26 @@
 use mathlib.Core.Path.{_≡_, refl, sym, ap, _∙_}
 use mathlib.Core.Bool.{true, and-eq-true-iff}
 use mathlib.Core.List.{List, _++_}
-use Prim.Native.Nat.{ℕ, _+_, _≤_, _<_}
+use Prim.Native.Nat.{ℕ, _+_, _-_, _≤_, _<_}
 use native.Mathlib.Nat.{zero-add}
 use native.Mathlib.Omega.{arith}
 use borrow.Author.Tests.{eq-eqb, eqb-true}
 use lib.Dec.{eqb, lit<}
 use lib.ListN.{length, take, drop, length-append, length-drop, take-append-drop, List·getD-append}
-use lib.Seq.{drop-append-seam, ext-getD, getD-drop, length-take-le}
+use lib.Seq.{drop-append-seam, ext-getD, getD-drop, getD-take, length-take-le}
 use Rattle.fields.specs.Elements.{xor, scale, doubled, timesFrom, times, power, timesA, powersA, exponentsA}
 use Rattle.fields.specs.Lists.{tabulate}
 use Rattle.fields.proofs.ByTables.{table-power}
 use Rattle.fields.proofs.Instances.{field-a}
+use Rattle.fields.proofs.Lists.{tabulate-at, tabulate-length, tabulate-lt, tabulate-same}
 use Rattle.words.specs.Places.{at, every, allBelow, horner, value, apart}
 use Rattle.words.specs.OuterCode.{powerA, outerValue, isOuter, withRoot, withRoots, generator, outerParity}
-use Rattle.words.specs.ByTables.{lentValue, rootValue}
+use Rattle.words.specs.ByTables.{lentValue, rootValue, rootValues}
+use Rattle.words.specs.Division.{outerRemainder}
 use Rattle.words.proofs.Places.Tests.{every-at, every-true, below-at, below-all, below-append, below-take}
 use Rattle.words.proofs.Codes.Lent.{value-lent, divided-lt}
-use Rattle.words.proofs.Codes.Division.{divided-length, completed-value}
+use Rattle.words.proofs.Codes.Division.{divided-length, register-value, completed-value}
+use Rattle.words.proofs.Codes.Horner.{Additive, iter, horner-same, horner-sum, horner-parts}
 use Rattle.words.proofs.Places.Counting.{apart-append}
 use Rattle.words.proofs.Algebra.MinimumDistance.{far-lists}
 
@@ -124,3 +127,41 @@ module _ (w : List ℕ) (n : ℕ) (long : length w ≡ n + 16) (short : n ≤ 10
       let few : length front ≤ 1007 = omega (arith, length-take-le n w (omega arith)) in
       let e : back ≡ outerParity front = outer-only front back few back-length (ap isOuter (take-append-drop n w) ∙ t) in
       sym (getD-drop n w j 0) ∙ ap (λ (r : List ℕ). at r j) e
+
+-- the remainder has the word's values at the roots
+module _ (w : List ℕ) (n : ℕ) (cut : n ≡ length w - 16) (least : 16 ≤ length w) (h : allBelow 1024 w ≡ true) where
+  abbrev others : List ℕ
+  others = take n w
+
+  abbrev rest : ℕ → ℕ
+  rest i = xor (at (outerParity others) i) (at w (n + i))
+
+  remainder-is : outerRemainder w ≡ tabulate 16 rest
+  unfolding outerRemainder
+  remainder-is = rw (← cut)
+
+  remainder-below : allBelow 1024 (outerRemainder w) ≡ true
+  remainder-below =
+      let parity = below-at 1024 (outerParity others) (lit< tt) (parity-below others (below-take 1024 n w h)) in
+      rw remainder-is
+      (below-all 1024 (tabulate 16 rest) (λ i l. tabulate-lt 1024 16 rest (lit< tt) (λ j. field-a .sum-lt _ _ (parity j) (below-at 1024 w (lit< tt) h (n + j))) i))
+
+  remainder-value : (j : ℕ) → j < 16 → outerValue (outerRemainder w) j ≡ outerValue w j
+  unfolding outerValue outerParity
+  remainder-value j l =
+      let x = powerA j in
+      let f-sum : Additive (λ v. timesA v x) = λ u v. field-a .sum-times u v x in
+      let all : length w ≡ n + 16 = omega arith in
+      let long : length others ≡ n = length-take-le n w (omega arith) in
+      let front : value 10 1033 x (at others) (length others) ≡ value 10 1033 x (at w) n =
+      ap (value 10 1033 x (at others)) long ∙ horner-same (λ v. timesA v x) (at others) (at w) n (λ i b. getD-take n w i 0 b) in
+      let register = register-value 10 1033 field-a x (field-a .power-lt j) 16 (at generator) generator-lt generator-monic (generator-root j l) (at others) (below-at 1024 others (lit< tt) (below-take 1024 n w h)) (length others) in
+      rw (remainder-is, tabulate-length 16 rest)
+      (horner-same (λ v. timesA v x) (at (tabulate 16 rest)) rest 16 (λ i b. tabulate-at 16 rest i 0 b)
+      ∙ horner-sum (λ v. timesA v x) f-sum (at (outerParity others)) (λ i. at w (n + i)) 16
+      ∙ ap (λ (v : ℕ). xor v (value 10 1033 x (λ i. at w (n + i)) 16)) (register ∙ ap (iter (λ v. timesA v x) 16) front)
+      ∙ sym (ap (value 10 1033 x (at w)) all ∙ horner-parts (λ v. timesA v x) f-sum (at w) n 16))
+
+  pub remainder-roots : rootValues powersA exponentsA (outerRemainder w) ≡ rootValues powersA exponentsA w
+  unfolding rootValues
+  remainder-roots = tabulate-same 16 _ _ (λ j l. root-is (outerRemainder w) remainder-below j ∙ remainder-value j l ∙ sym (root-is w h j))

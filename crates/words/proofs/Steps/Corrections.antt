@@ -22,7 +22,7 @@ use Rattle.words.proofs.Places.Tests.{below-at, below-all}
 use Rattle.words.proofs.Algebra.Tables.{powers-length}
 use Rattle.words.proofs.Decoding.Changes.{errors-length, errors-at}
 use Rattle.words.proofs.Decoding.Outer.{tables-a, outer-changes, outer-found, outer-lost}
-use Rattle.words.proofs.Steps.Entries.{passed}
+use Rattle.words.proofs.Steps.Entries.{passed, word-symbols}
 
 -- v is added to the symbol at place i
 module _ (out : List ℕ) (i v : ℕ) where
@@ -86,7 +86,7 @@ module _ (w o : List ℕ) (r : ℕ) (told : r ≡ refusal (within 17 1023 (lengt
     correct-outer-fits = eqb-true _ _ (passed _ _ _ (sym told ∙ none) .1)
 
     symbols : allBelow 1024 w ≡ true
-    symbols = passed _ _ _ (sym told ∙ none) .2
+    symbols = word-symbols w _ r told none
 
     pub word-small : length w < 65536
     word-small = omega (arith, word-short)

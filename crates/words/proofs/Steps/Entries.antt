@@ -1,11 +1,11 @@
 -- What each entry answers, on each way through it. Assumes nothing.
 use mathlib.Core.Path.{_≡_, refl, sym, ap, ap₂, _∙_}
-use mathlib.Core.Bool.{Bool, true, false}
+use mathlib.Core.Bool.{Bool, true, false, and-eq-true-iff}
 use mathlib.Core.List.{List}
-use Prim.Native.Nat.{ℕ, zero, suc, _+_, _*_}
+use Prim.Native.Nat.{ℕ, zero, suc, _+_, _*_, _≤_}
 use native.Mathlib.Omega.{arith}
-use borrow.Author.Tests.{eq-eqb, eqb-true, le-ltb, ne-eqb}
-use lib.Dec.{eqb, ltb, eqb·suc-zero}
+use borrow.Author.Tests.{eq-eqb, eqb-true, leb-true, le-ltb, ne-eqb}
+use lib.Dec.{eqb, leb, ltb, eqb·suc-zero}
 use lib.ListN.{length}
 use Rattle.fields.specs.Elements.{doubled, powersA, exponentsA}
 use Rattle.fields.specs.Lists.{tabulate}
@@ -47,6 +47,15 @@ roots-tested w h =
     let f = rootValue powersA exponentsA w in
     rw (tabulate-length 16 f) (every-same 16 _ _ (λ j l. below-one (at (tabulate 16 f) j) ∙ ap (λ (v : ℕ). eqb v 0) (tabulate-at 16 f j 0 l ∙ root-is w h j)))
 
+-- a word that is not refused
+module _ (w : List ℕ) (fits : Bool) (r : ℕ) (told : r ≡ refusal (within 17 1023 (length w)) fits (allBelow 1024 w)) (none : r ≡ 0) where
+  pub word-least : 16 ≤ length w
+  unfolding within
+  word-least = omega (arith, leb-true 17 (length w) (and-eq-true-iff (leb 17 (length w)) (leb (length w) 1023) .0 (passed _ _ _ (sym told ∙ none) .0) .0))
+
+  pub word-symbols : allBelow 1024 w ≡ true
+  word-symbols = passed _ _ _ (sym told ∙ none) .2
+
 module _ (w : List ℕ) (r : ℕ) (told : r ≡ refusal (within 17 1023 (length w)) true (allBelow 1024 w)) where
   pub outer-refused : (r ≡ 0 → ⊥) → r ≡ outerChecked w
   unfolding outerChecked firstOf
@@ -56,7 +65,7 @@ module _ (w : List ℕ) (r : ℕ) (told : r ≡ refusal (within 17 1023 (length 
     code-tested : b ≡ isOuter w
     unfolding isOuter
     code-tested =
-        let symbols : allBelow 1024 w ≡ true = passed _ _ _ (sym told ∙ none) .2 in
+        let symbols = word-symbols w true r told none in
         test ∙ ap (allBelow 1) (v ∙ ap₂ (λ (e l : List ℕ). rootValues e l w) exp log) ∙ roots-tested w symbols ∙ rw symbols
 
     pub outer-accepted : b ≡ true → 0 ≡ outerChecked w

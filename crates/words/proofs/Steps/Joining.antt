@@ -4,7 +4,7 @@ use mathlib.Core.Bool.{Bool, true, false}
 use mathlib.Core.List.{List}
 use Prim.Native.Nat.{ℕ, zero, suc, _+_, _-_, _*_, _/_, _%_, _^_, _≤_, _<_}
 use native.Mathlib.Decide.{ℕ-discrete}
-use native.Mathlib.Nat.{mod-eq-of-lt, mod-lt, not-suc-le-zero, zero-add}
+use native.Mathlib.Nat.{le-refl, mod-eq-of-lt, mod-lt, not-suc-le-zero, zero-add}
 use native.Mathlib.Numerals.{add-one}
 use native.Mathlib.Omega.{arith}
 use borrow.Author.Tests.{eq-eqb, ne-eqb}
@@ -13,15 +13,17 @@ use lib.Dec.{eqb, lit<}
 use lib.ListN.{length, getD, set, take, length-set}
 use lib.Pow.{pow-add, pow-mono}
 use lib.Seq.{getD-set-same, getD-set-other}
-use Rattle.fields.specs.Elements.{xor, timesA}
+use Rattle.fields.specs.Elements.{xor, timesA, powersA, exponentsA}
 use Rattle.fields.proofs.Lists.{tabulate-at, tabulate-is, tabulate-length}
 use Rattle.fields.proofs.Xor.{xor-lt, xor-comm, xor-shifted, additive-zero}
 use Rattle.words.specs.Places.{at, allBelow, horner}
 use Rattle.words.specs.OuterCode.{isOuter, generator, divided, outerParity}
+use Rattle.words.specs.ByTables.{rootValues}
+use Rattle.words.specs.Division.{outerRemainder}
 use Rattle.words.specs.SixSymbols.{joined, joinedFrom, symbolOf, six, Packs, numberAt, unpacked, endsPacked, sixParity, parityEntry, parities, unitParities, Stored}
 use Rattle.words.proofs.Places.Tests.{tests-agree, below-at, below-take}
-use Rattle.words.proofs.Places.Filling.{Filled, filled-next, filled-end}
-use Rattle.words.proofs.Codes.OuterWords.{outer-length, parity-below, ends-code, code-ends}
+use Rattle.words.proofs.Places.Filling.{Filled, filled-next, filled-end, FilledOver, over-next}
+use Rattle.words.proofs.Codes.OuterWords.{outer-length, parity-below, ends-code, code-ends, remainder-roots}
 use Rattle.words.proofs.Codes.Packing.{shift-sum, parity-sum, joined-same, joined-lt, parity-joined, high-lt, packs-more, entry-is, six-digit, unpacked-is, packed-same, same-packed, joined-last}
 use Rattle.words.proofs.Steps.Loops.{dividedUpTo}
 
@@ -293,3 +295,23 @@ outer-packed w h m l r least most small p test =
     test
     ∙ tests-agree _ _ (λ t. ends-code w n long (omega arith) small (packed-same h m l cells (outer-length front) below packs w n long symbols t))
     (λ t. same-packed h m l cells (outer-length front) below packs w n long symbols (code-ends w n long (omega arith) small t))
+
+-- the remainder, stored over the parity of all but the last sixteen symbols
+unfoldable pub remainderCell : List ℕ → List ℕ → ℕ → ℕ → ℕ
+remainderCell cells w n i = xor (at cells i) (at w (n + i))
+
+module _ (parity w : List ℕ) (n i : ℕ) (cells : List ℕ) (so-far : FilledOver 16 (remainderCell parity w n) parity i cells) where
+  pub remainder-next : (v : ℕ) → i < 16 → v ≡ xor (getD cells i 0) (getD w (n + i) 0) → FilledOver 16 (remainderCell parity w n) parity (i + 1) (set cells i v)
+  unfolding remainderCell
+  remainder-next v b e = over-next so-far b (e ∙ ap (λ (x : ℕ). xor x (getD w (n + i) 0)) (so-far .ahead i (le-refl i)))
+
+  pub remainder-end : 16 ≤ i → n ≡ length w - 16 → parity ≡ outerParity (take (n - 0) w) → cells ≡ outerRemainder w
+  unfolding remainderCell outerRemainder
+  remainder-end b en ep =
+      let all : n - 0 ≡ n = omega arith in
+      rw (← en) (filled-end (so-far .filled) b ∙ rw (ep, all))
+
+pub root-values-made : (es ls w rest r : List ℕ) → es ≡ powersA → ls ≡ exponentsA → 16 ≤ length w → allBelow 1024 w ≡ true → rest ≡ outerRemainder w →
+    r ≡ rootValues es ls rest → r ≡ rootValues es ls w
+root-values-made es ls w rest r exp log least small erest er =
+    er ∙ rw (exp, log, erest) (remainder-roots w (length w - 16) refl least small)

@@ -1,6 +1,6 @@
 -- `words::check_outer` meets its contract. Assumes nothing.
 use borrow.Author.Needs.{needs}
-use Rattle.words.proofs.Steps.Entries.{outer-refused, outer-accepted, outer-no-code}
+use Rattle.words.proofs.Steps.Entries.{outer-refused, word-least, word-symbols, outer-accepted, outer-no-code}
 use Rattle.words.proofs.check_outer.Statement.{statement}
 use Rattle.words.proofs.check_outer.Tie as tie
 
@@ -23,7 +23,7 @@ slice-aggregate-root-values-2 : tie.Need-slice-aggregate-root-values-2
 slice-aggregate-root-values-2 c = search needs
 
 root-values-requires : tie.Need-root-values-requires
-root-values-requires c κs = search needs
+root-values-requires c κs = search (needs, word-least, word-symbols)
 
 slice-aggregate-all-below : tie.Need-slice-aggregate-all-below
 slice-aggregate-all-below c = search needs

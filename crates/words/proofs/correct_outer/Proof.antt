@@ -1,5 +1,6 @@
 -- `words::correct_outer` meets its contract. Assumes nothing.
 use borrow.Author.Needs.{needs}
+use Rattle.words.proofs.Steps.Entries.{word-least, word-symbols}
 use Rattle.words.proofs.Steps.Corrections.{correct-outer-refused, tables-lent, word-small, word-fits, correct-outer-fits, correct-outer-lost, correct-outer-found}
 use Rattle.words.proofs.correct_outer.Statement.{statement}
 use Rattle.words.proofs.correct_outer.Tie as tie
@@ -23,7 +24,7 @@ slice-aggregate-root-values-2 : tie.Need-slice-aggregate-root-values-2
 slice-aggregate-root-values-2 c = search needs
 
 root-values-requires : tie.Need-root-values-requires
-root-values-requires c κs = search needs
+root-values-requires c κs = search (needs, word-least, word-symbols)
 
 slice-aggregate-decode : tie.Need-slice-aggregate-decode
 slice-aggregate-decode c = search needs

@@ -1,18 +1,19 @@
 -- The parities of single bits are right by one test that is computed over the whole table: those of the last symbol by a step from the empty register, and
 -- each other one by a step from that of the same bit a symbol later. Assumes nothing.
 use mathlib.Core.Path.{_≡_, refl, sym, ap, ap₂, _∙_}
-use mathlib.Core.Bool.{Bool, true, _&&_, and-eq-true-iff}
+use mathlib.Core.Bool.{Bool, true, false, _&&_, and-eq-true-iff}
 use mathlib.Core.List.{List, [], _∷_}
 use Prim.Native.Nat.{ℕ, zero, suc, _+_, _-_, _*_, _/_, _%_, _^_, _<_}
 use native.Mathlib.Omega.{arith}
 use borrow.Author.Tests.{eqb-true}
-use lib.Dec.{eqb, lit<}
+use lib.Dec.{T, eqb, lit<}
 use lib.ListN.{length}
 use lib.Pow.{pow-add, pow-lt, shr-shr}
 use Rattle.fields.specs.Elements.{xor, scale, doubled, timesFrom, times, power, timesA}
 use Rattle.fields.specs.Lists.{tabulate}
 use Rattle.fields.proofs.Instances.{field-a}
 use Rattle.fields.proofs.Lists.{tabulate-at, tabulate-is, tabulate-same}
+use Rattle.fields.proofs.Rows.{rows, look, look-is, once, once-is}
 use Rattle.fields.proofs.Xor.{xor-zero-l, additive-zero}
 use Rattle.words.specs.Places.{at, every, horner}
 use Rattle.words.specs.OuterCode.{withRoot, withRoots, generator, shiftedIn, divided}
@@ -23,7 +24,7 @@ use Rattle.words.proofs.Codes.Packing.{symbol-at, divided-same, divided
 use Rattle.words.proofs.Codes.OuterWords.{generator-lt}
 
 -- the coefficients of the generator, written out so that a test computes them once
-abbrev pub coefficients : List ℕ
+abbrev coefficients : List ℕ
 coefficients = 1 ∷ 568 ∷ 550 ∷ 748 ∷ 724 ∷ 650 ∷ 1005 ∷ 744 ∷ 27 ∷ 204 ∷ 617 ∷ 218 ∷ 595 ∷ 461 ∷ 746 ∷ 960 ∷ 888 ∷ []
 
 coefficients-are : coefficients ≡ generator
@@ -79,18 +80,19 @@ six-symbol x k i h =
     let e : 10 * (5 - i) ≡ 10 * (6 - suc i) = omega arith in
     rw e (symbol-at (λ j. at (sixParity x) (k + j)) (λ j. parity-lt x (k + j)) 6 i h)
 
-module _ (g us : List ℕ) where
+-- a table, as it is read, and the coefficients of a generator
+module _ (g : List ℕ) (table : ℕ → ℕ) where
   -- the cells of the parity of bit i, as they stand in the table; and whether its three numbers are those of a register
-  abbrev pub cellsAt : ℕ → List ℕ
-  cellsAt i = tabulate 18 (λ j. symbolOf (at us (60 * (j / 6) + i)) (j % 6))
+  abbrev cellsAt : ℕ → List ℕ
+  cellsAt i = tabulate 18 (λ j. symbolOf (table (60 * (j / 6) + i)) (j % 6))
 
-  abbrev pub holds : ℕ → List ℕ → Bool
-  holds i r = every 3 (λ k. eqb (at us (60 * k + i)) (six r (6 * k)))
+  abbrev holds : ℕ → List ℕ → Bool
+  holds i r = every 3 (λ k. eqb (table (60 * k + i)) (six r (6 * k)))
 
-  abbrev pub begun : Bool
+  abbrev begun : Bool
   begun = every 10 (λ i. holds i (stepBy g [] (2 ^ i)))
 
-  abbrev pub continued : Bool
+  abbrev continued : Bool
   continued = every 50 (λ i. holds (10 + i) (stepBy g (cellsAt i) 0))
 
   -- the whole test
@@ -99,11 +101,11 @@ module _ (g us : List ℕ) where
 
   module _ (e : g ≡ generator) (b : begun ≡ true) (c : continued ≡ true) where
     abbrev Unit : ℕ → Type 0
-    Unit i = (k : ℕ) → k < 3 → at us (60 * k + i) ≡ six (sixParity (2 ^ i)) (6 * k)
+    Unit i = (k : ℕ) → k < 3 → table (60 * k + i) ≡ six (sixParity (2 ^ i)) (6 * k)
 
     unit-first : (i : ℕ) → i < 10 → Unit i
     unit-first i h k l =
-        eqb-true _ _ (every-at 3 (λ k. eqb (at us (60 * k + i)) (six (stepBy g [] (2 ^ i)) (6 * k))) (every-at 10 (λ i. holds i (stepBy g [] (2 ^ i))) b i h) k l)
+        eqb-true _ _ (every-at 3 (λ k. eqb (table (60 * k + i)) (six (stepBy g [] (2 ^ i)) (6 * k))) (every-at 10 (λ i. holds i (stepBy g [] (2 ^ i))) b i h) k l)
         ∙ ap (λ (r : List ℕ). six r (6 * k)) (rw e (sym (parity-one (2 ^ i) (pow-lt {i = i} {j = 10} h))))
 
     cell-same : (i : ℕ) → Unit i → (j : ℕ) → j < 17 → at (cellsAt i) j ≡ at (sixParity (2 ^ i)) j
@@ -117,7 +119,7 @@ module _ (g us : List ℕ) where
         let r = stepBy g (cellsAt i) 0 in
         let small : 2 ^ i < 2 ^ 50 = pow-lt {i = i} {j = 50} h in
         let p : 2 ^ (10 + i) ≡ 2 ^ i * 1024 = pow-add 2 10 i ∙ omega arith in
-        eqb-true _ _ (every-at 3 (λ k. eqb (at us (60 * k + (10 + i))) (six r (6 * k))) (every-at 50 (λ i. holds (10 + i) (stepBy g (cellsAt i) 0)) c i h) k l)
+        eqb-true _ _ (every-at 3 (λ k. eqb (table (60 * k + (10 + i))) (six r (6 * k))) (every-at 50 (λ i. holds (10 + i) (stepBy g (cellsAt i) 0)) c i h) k l)
         ∙ ap (λ (r : List ℕ). six r (6 * k)) (rw e (step-same (cellsAt i) (sixParity (2 ^ i)) 0 (cell-same i u)) ∙ sym (ap sixParity p ∙ parity-ahead (2 ^ i) small))
 
     unit-at : (q i : ℕ) → i < 10 → 10 * q + i < 60 → Unit (10 * q + i)
@@ -126,28 +128,25 @@ module _ (g us : List ℕ) where
         let z : 10 * suc q + i ≡ 10 + (10 * q + i) = omega arith in
         rw z (unit-next (10 * q + i) (omega arith) (unit-at q i h (omega arith)))
 
-    units-are : length us ≡ 180 → us ≡ unitParities
-    unfolding unitParities
-    units-are long = tabulate-is 180 _ us 0 long entry
-      where
-        entry : (n : ℕ) → n < 180 → at us n ≡ six (sixParity (2 ^ (n % 60))) (6 * (n / 60))
-        entry n h =
-            let i = n % 60 in
-            let z : 10 * (i / 10) + i % 10 ≡ i = omega arith in
-            let whole : 60 * (n / 60) + i ≡ n = omega arith in
-            let u : Unit i = rw z at (unit-at (i / 10) (i % 10) (omega arith) (omega arith)) in
-            ap (at us) (sym whole) ∙ u (n / 60) (omega arith)
+    entry-right : (n : ℕ) → n < 180 → table n ≡ six (sixParity (2 ^ (n % 60))) (6 * (n / 60))
+    entry-right n h =
+        let i = n % 60 in
+        let z : 10 * (i / 10) + i % 10 ≡ i = omega arith in
+        let whole : 60 * (n / 60) + i ≡ n = omega arith in
+        let u : Unit i = rw z at (unit-at (i / 10) (i % 10) (omega arith) (omega arith)) in
+        ap table (sym whole) ∙ u (n / 60) (omega arith)
 
--- the test of a table that is computed first, and once
-abbrev pub right : List ℕ → Bool
-right [] = tested coefficients []
-right (u ∷ us) = tested coefficients (u ∷ us)
+shown : (b : Bool) → T b → b ≡ true
+shown true t = refl
+shown false t = absurd t
 
-are-right : (us : List ℕ) → length us ≡ 180 → tested coefficients us ≡ true → us ≡ unitParities
-are-right us long t =
-    let both = and-eq-true-iff (begun coefficients us) (continued coefficients us) .0 t in
-    units-are coefficients us coefficients-are (both .0) (both .1) long
+-- the test of a table that is cut into rows
+abbrev test : List (List ℕ) → Bool
+test rs = tested coefficients (look rs)
 
-pub units-right : (us : List ℕ) → length us ≡ 180 → right us ≡ true → us ≡ unitParities
-units-right [] long t = are-right [] long t
-units-right (u ∷ us) long t = are-right (u ∷ us) long t
+pub units-right : (us : List ℕ) → length us ≡ 180 → T (once test (rows us)) → us ≡ unitParities
+unfolding unitParities
+units-right us long t =
+    let read = look (rows us) in
+    let both = and-eq-true-iff (begun coefficients read) (continued coefficients read) .0 (shown _ (once-is test (rows us) t)) in
+    tabulate-is 180 _ us 0 long (λ n h. sym (look-is us n (rw long h)) ∙ entry-right coefficients read coefficients-are (both .0) (both .1) n h)

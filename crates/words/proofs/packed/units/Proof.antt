@@ -11,7 +11,7 @@ use Rattle.words.proofs.packed.units.Tie as tie
 
 returns : tie.Need-returns
 unfolding every horner tabulate xor scale doubled times timesFrom joinedFrom joined symbolOf shiftedIn
-returns c = units-right _ refl refl
+returns c = units-right _ refl tt
 
 pub units-spec : {M : Type 1} → statement M
 units-spec = tie.close (tie.spec returns)

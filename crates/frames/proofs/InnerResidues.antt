@@ -4,7 +4,7 @@ use mathlib.Core.Bool.{cond}
 use mathlib.Core.List.{List, _∷_}
 use Prim.Native.Nat.{ℕ, zero, suc, _+_, _-_, _*_, _/_, _%_, _^_, _≤_, _<_}
 use native.Mathlib.Decide.{decLt}
-use native.Mathlib.Nat.{add-suc, add-zero, div-eq-of-lt, le-of-suc-le-suc}
+use native.Mathlib.Nat.{add-suc, add-zero, div-eq-of-lt}
 use native.Mathlib.Omega.{arith}
 use borrow.Author.Tests.{lt-ltb, le-ltb}
 use lib.Dec.{lit<, ltb}
@@ -17,7 +17,7 @@ use Rattle.fields.proofs.Xor.{xor-assoc, xor-bit, xor-high, xor-lt, xor-zero-l,
 use Rattle.words.specs.Places.{at, bitOf, numberOf, horner, bitAt}
 use Rattle.words.specs.InnerCode.{factors, remainder}
 use Rattle.words.proofs.Places.Bytes.{bitAt-lt}
-use Rattle.words.proofs.Places.Numbers.{bitOf-lt, bitOf-number, bitOf-zero, numberOf-bits, numberOf-lt, numberOf-same}
+use Rattle.words.proofs.Places.Numbers.{bitOf-number, bitOf-zero, numberOf-bits, numberOf-lt, numberOf-same}
 use Rattle.words.proofs.Codes.InnerParity.{remainder-short}
 use Rattle.words.proofs.Codes.ShiftedBits.{bitOf-sum, twice-high}
 use Rattle.frames.specs.SideBySide.{placeAt}

@@ -1,38 +1,30 @@
 -- What the functions on the inner words of a frame compute. Assumes nothing.
-use mathlib.Core.Path.{_≡_, refl, sym, ap, ap₂, _∙_}
+use mathlib.Core.Path.{_≡_, refl, sym, ap, _∙_}
 use mathlib.Core.Bool.{Bool, true, false, cond}
 use mathlib.Core.List.{List}
-use Prim.Native.Nat.{ℕ, zero, suc, _+_, _-_, _*_, _/_, _%_, _^_, _≤_, _<_, zero-le}
-use native.Mathlib.Numerals.{add-one}
+use Prim.Native.Nat.{ℕ, _+_, _-_, _*_, _/_, _%_, _^_, _≤_, _<_}
 use native.Mathlib.Omega.{arith}
 use borrow.Author.Tests.{eq-eqb, eqb-true}
-use lib.Bits.{bitAnd, bitOr, bitXor, and-mask, or-shifted}
+use lib.Bits.{bitAnd, bitOr, and-mask, or-shifted}
 use lib.Dec.{eqb, lit<}
-use lib.ListN.{length, getD, set, replicate, length-set, length-replicate}
+use lib.ListN.{length, getD, set}
 use lib.Pow.{pow-add, pow-pos, shl-exact, shl-lt}
 use mir.Facts.{fits-widen}
 use mir.Syntax.{w8, w64}
 use mir.Val.{Fits}
-use Rattle.fields.specs.Elements.{xor, scale}
-use Rattle.fields.proofs.Lists.{tabulate-at, tabulate-is, tabulate-length}
-use Rattle.fields.proofs.Ways.{past}
-use Rattle.fields.proofs.Xor.{xor-cancel, xor-lt, xor-self, xor-zero-r}
-use Rattle.words.specs.Places.{at, every, allBelow, bitOf, numberOf, bitAt, bytesOf}
-use Rattle.words.specs.OuterCode.{shiftedIn, divided}
-use Rattle.words.specs.InnerCode.{divisor, isInner, innerParity}
-use Rattle.words.specs.Limbs.{number, Holds}
-use Rattle.words.proofs.Places.Bytes.{bitAt-lt, places-read, number-of-bits}
-use Rattle.words.proofs.Places.Filling.{zeros-at, Filled, filled-next, filled-end, filled-last, FilledOver, over-next, over-after}
+use Rattle.fields.proofs.Lists.{tabulate-at, tabulate-length}
+use Rattle.words.specs.Places.{at, allBelow, bitOf, numberOf, bitAt, bytesOf}
+use Rattle.words.specs.InnerCode.{isInner}
+use Rattle.words.proofs.Places.Bytes.{places-read, number-of-bits}
 use Rattle.words.proofs.Places.Numbers.{bitOf-lt, bitOf-zero, bitOf-number, numberOf-same, number-parts, numberOf-bits}
 use Rattle.words.proofs.Places.Tests.{tests-agree, every-at, every-true, below-all}
-use Rattle.words.proofs.Codes.ShiftedBits.{bitOf-sum}
-use Rattle.frames.specs.Frames.{innerData, innerWord, parityPlace, withParity}
+use Rattle.frames.specs.Frames.{innerWord, withParity}
 use Rattle.frames.specs.Received.{innerCodes}
-use Rattle.frames.specs.SideBySide.{placeAt, ones, masks, stepped, swept, parities, byteOf64, parityBytes}
+use Rattle.frames.specs.SideBySide.{placeAt, parities, byteOf64, parityBytes}
 use Rattle.frames.specs.Symbols.{Placed}
 use Rattle.frames.specs.Passes.{wrongWords}
 use Rattle.frames.proofs.Placing.{Placing, placing-next, placing-end}
-use Rattle.frames.proofs.FrameBits.{bytes-same, places-code, code-places, parity-cases}
+use Rattle.frames.proofs.FrameBits.{bytes-same, parity-cases}
 use Rattle.frames.proofs.SideBySide.{parities-bits}
 
 -- ---- eight bytes as a number
@@ -84,72 +76,6 @@ module _ (bytes : List ℕ) (p : ℕ) (small : (i : ℕ) → Fits w8 (getD bytes
       let seven = next-byte 6 (lit< tt) (next-byte 5 (lit< tt) (next-byte 4 (lit< tt) (next-byte 3 (lit< tt) three))) in
       ap (λ (x : ℕ). bitOr x (byte 7)) seven ∙ or-shifted (numberOf 56 bits) 8 (byte 7) (omega (arith, small (8 * p + 7)))
       ∙ sym (number-parts 56 8 bits ∙ ap (λ (y : ℕ). numberOf 56 bits * 256 + y) (byte-bits 7))
-
--- ---- the divisor's coefficients
-
-pub ones-none : {c : ℕ} → c ≡ 0 → 0 ≡ ones c
-unfolding ones scale
-ones-none e = rw e
-
-pub ones-all : (c : ℕ) → (c ≡ 0 → ⊥) → 18446744073709551615 ≡ ones c
-unfolding ones scale
-ones-all zero n = absurd (n refl)
-ones-all (suc c) n = refl
-
-unfoldable pub maskAt : ℕ → ℕ
-maskAt i = ones (bitOf 88 divisor i)
-
-pub mask-next : {h l i c r : ℕ} {m : List ℕ} → Filled 88 maskAt i m → i < 88 → Holds h l divisor → c ≡ bitOf 88 (number h l) i → r ≡ ones c →
-    Filled 88 maskAt (i + 1) (set m i r)
-unfolding maskAt
-mask-next {h} {l} {i} f b d e q = filled-next f b (q ∙ ap ones (e ∙ ap (λ (x : ℕ). bitOf 88 x i) (d .value)))
-
-pub masks-end : {i : ℕ} {m : List ℕ} → Filled 88 maskAt i m → 88 ≤ i → m ≡ masks
-unfolding maskAt masks
-masks-end f b = filled-end f b
-
--- ---- one step of the register, stored cell by cell over the register before it
-
--- cell i of the register after reg; f is the leading coefficient
-unfoldable pub stepCell : List ℕ → List ℕ → ℕ → ℕ → ℕ
-stepCell ms reg f i = xor (at reg (suc i)) (bitAnd f (at ms i))
-
-module _ (ms reg cells : List ℕ) (f k : ℕ) (so-far : FilledOver 88 (stepCell ms reg f) reg k cells) where
-  pub stepping-next : k < 87 → FilledOver 88 (stepCell ms reg f) reg (k + 1) (set cells k (bitXor (getD cells (k + 1) 0) (bitAnd f (getD ms k 0))))
-  unfolding stepCell xor
-  stepping-next h = over-next so-far (omega arith) (ap (λ (x : ℕ). bitXor x (bitAnd f (getD ms k 0))) (over-after so-far))
-
-  pub stepping-long : (v : ℕ) → length reg ≡ 88 → length (set cells 87 v) ≡ length reg
-  stepping-long v e = length-set cells 87 v ∙ so-far .filled .long ∙ sym e
-
-  -- nothing moves up into the last cell
-  pub stepping-end : (x : ℕ) → f ≡ bitXor (getD reg 0 0) x → length reg ≡ 88 → 87 ≤ k → set cells 87 (bitAnd f (getD ms 87 0)) ≡ stepped ms reg x
-  unfolding stepped shiftedIn stepCell xor
-  stepping-end x ef long h =
-      rw (← ef) (filled-last (so-far .filled) h (ap (λ (y : ℕ). bitXor y (bitAnd f (getD ms 87 0))) (past reg 88 (omega arith))))
-
--- ---- the register after the places so far
-
-pub record Sweeping (bytes : List ℕ) (p : ℕ) (cells : List ℕ) : Type 0 where
-  pub within : p ≤ 1952
-  pub long : length cells ≡ 88
-  pub value : cells ≡ swept bytes p
-
-pub sweeping-start : {bytes : List ℕ} → Sweeping bytes 0 (replicate 88 0)
-unfolding swept divided
-sweeping-start =
-    let long : length {A = ℕ} (replicate 88 0) ≡ 88 = length-replicate {A = ℕ} 88 0 in
-    record { within = zero-le; long = long; value = tabulate-is 88 (λ i. 0) (replicate 88 0) 0 long (λ i l. zeros-at 88 i) }
-
-pub sweeping-next : {bytes cells ms next : List ℕ} {p x : ℕ} → Sweeping bytes p cells → p < 1952 → ms ≡ masks → x ≡ placeAt bytes p →
-    next ≡ stepped ms cells x → Sweeping bytes (p + 1) next
-unfolding swept divided stepped shiftedIn
-sweeping-next s h em ex en =
-    record { within = omega arith; long = ap length en ∙ tabulate-length 88 _; value = rw (add-one, ← s .value, ← em, ← ex) en }
-
-pub sweeping-end : {bytes cells : List ℕ} {p : ℕ} → Sweeping bytes p cells → 1952 ≤ p → cells ≡ parities bytes
-unfolding parities
-sweeping-end {p = p} s h = let q : p ≡ 1952 = omega (arith, s .within) in rw q at (s .value)
 
 -- ---- the bytes of the parity places
 

@@ -8,6 +8,9 @@ pub mod SideBySide
 pub mod InnerResidues
 pub mod ResidueSteps
 pub mod ResidueCodes
+pub mod ParityMatrix
+pub mod ParitySteps
+pub mod ParityBits
 pub mod InnerSteps
 pub mod InnerPass
 pub mod ReportCounts

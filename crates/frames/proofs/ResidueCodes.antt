@@ -2,18 +2,18 @@
 use mathlib.Core.Path.{_≡_, refl, sym, ap, _∙_}
 use mathlib.Core.Bool.{Bool, true, cond}
 use mathlib.Core.List.{List}
-use Prim.Native.Nat.{ℕ, zero, suc, _+_, _-_, _*_, _/_, _%_, _^_, _≤_, _<_}
+use Prim.Native.Nat.{ℕ, suc, _+_, _-_, _*_, _/_, _%_, _^_, _<_}
 use native.Mathlib.Nat.{div-eq-of-lt}
 use native.Mathlib.Omega.{arith}
 use borrow.Author.Tests.{eq-eqb, eqb-true}
 use lib.Dec.{eqb, lit<}
 use lib.ListN.{length}
 use lib.Pow.{pow-pos}
-use Rattle.fields.proofs.Lists.{tabulate-at, tabulate-length}
-use Rattle.words.specs.Places.{at, every, allBelow, bitOf, numberOf, horner, bitAt, value}
+use Rattle.fields.proofs.Lists.{tabulate-at}
+use Rattle.words.specs.Places.{at, every, allBelow, bitOf, bitAt, value}
 use Rattle.words.specs.InnerCode.{powerB, valueB, factors, remainder, isInner}
 use Rattle.words.proofs.Places.Bytes.{bitAt-lt}
-use Rattle.words.proofs.Places.Numbers.{bitOf-lt, bitOf-number, bitOf-zero, numberOf-bits, numberOf-lt, numberOf-same}
+use Rattle.words.proofs.Places.Numbers.{bitOf-number, bitOf-zero, numberOf-bits, numberOf-lt, numberOf-same}
 use Rattle.words.proofs.Places.Tests.{tests-agree, every-at, every-true, below-all, below-at}
 use Rattle.words.proofs.Codes.Horner.{horner-same, remainder-lt, valueOf-zero}
 use Rattle.words.proofs.Codes.LeastPolynomials.{factor-vanishes, none-lower, times-power-sum}

@@ -1,5 +1,5 @@
 -- What the functions on residues compute. Assumes nothing.
-use mathlib.Core.Path.{_≡_, refl, sym, ap, ap₂, _∙_}
+use mathlib.Core.Path.{_≡_, refl, sym, ap, _∙_}
 use mathlib.Core.List.{List, [], _∷_}
 use Prim.Native.Nat.{ℕ, _+_, _-_, _*_, _/_, _%_, _≤_, _<_}
 use native.Mathlib.Decide.{decLt}
@@ -7,7 +7,7 @@ use native.Mathlib.Nat.{add-zero}
 use native.Mathlib.Numerals.{add-one}
 use native.Mathlib.Omega.{arith}
 use lib.Bits.{bitOr}
-use lib.ListN.{length, getD, set, replicate, length-replicate}
+use lib.ListN.{length, getD, replicate, length-replicate}
 use Rattle.fields.specs.Lists.{tabulate}
 use Rattle.words.specs.Places.{at}
 use Rattle.words.specs.InnerCode.{factors}
@@ -15,7 +15,6 @@ use Rattle.words.proofs.Places.Filling.{Filled, filled-start, filled-end}
 use Rattle.frames.specs.Symbols.{Placed}
 use Rattle.frames.specs.SideBySide.{placeAt, orTo}
 use Rattle.frames.specs.InnerResidues.{residueOf, residuesOf, advanced, advancedBy, begun}
-use Rattle.frames.proofs.Placing.{Placing, placing-next, placing-end}
 use Rattle.frames.proofs.InnerResidues.{residue-more, begun-residue}
 
 -- ---- places
@@ -70,12 +69,17 @@ residue-end j i n b e l h = let q : i ≡ n = omega arith in rw q at e
 unfoldable pub residueAt : List ℕ → ℕ → ℕ → ℕ
 residueAt b n c = at (residueOf (c / 11) b n) (c % 11)
 
-pub put-next : (xs : List ℕ) (i k : ℕ) (before after : List ℕ) → Placing i xs k before after → k < 11 → length xs ≡ 11 → i + 11 ≤ length before →
-    Placing i xs (k + 1) before (set after (i + k) (getD xs k 0))
-put-next xs i k before after p h long room = placing-next p (omega arith) (omega arith) refl
-
-pub put-end : (xs : List ℕ) (i k : ℕ) (before after : List ℕ) → Placing i xs k before after → 11 ≤ k → length xs ≡ 11 → Placed i xs before after
-put-end xs i k before after p h long = placing-end p (omega arith)
+-- a list stored where others were stored before it
+pub filled-placed : {n i : ℕ} {f : ℕ → ℕ} {xs before after : List ℕ} → Filled n f i before → Placed i xs before after → i + length xs ≤ n →
+    ((k : ℕ) → k < length xs → at xs k ≡ f (i + k)) → Filled n f (i + length xs) after
+filled-placed {n} {i} {f} {xs} {before} {after} h p room e =
+    record { long = p .long ∙ h .long; within = room; done = λ c l. go c l (decLt c i) }
+  where
+    go : (c : ℕ) → c < i + length xs → Dec (c < i) → getD after c 0 ≡ f c
+    go c l (yes m) = p .below c m ∙ h .done c m
+    go c l (no m) =
+        let q : i + (c - i) ≡ c = omega arith in
+        rw q at (p .inside (c - i) (omega arith) ∙ e (c - i) (omega arith))
 
 pub residues-start : (b : List ℕ) (n : ℕ) → Filled 88 (residueAt b n) (11 * 0) (replicate 88 0)
 residues-start b n = filled-start (length-replicate {A = ℕ} 88 0)
@@ -84,15 +88,14 @@ pub residues-next : (b : List ℕ) (n j : ℕ) (s xs before after : List ℕ) �
     Placed (11 * j) xs before after → Filled 88 (residueAt b n) (11 * (j + 1)) after
 unfolding residueAt
 residues-next b n j s xs before after f h es ex long p =
-    record { long = p .long ∙ f .long; within = omega arith; done = λ c l. go c l (decLt c (11 * j)) }
+    let e : 11 * j + length xs ≡ 11 * (j + 1) = omega arith in
+    rw e at (filled-placed f p (omega arith) number)
   where
-    go : (c : ℕ) → c < 11 * (j + 1) → Dec (c < 11 * j) → getD after c 0 ≡ residueAt b n c
-    go c l (yes m) = p .below c m ∙ f .done c m
-    go c l (no m) =
-        let q : c / 11 ≡ j = omega arith in
-        let r : c % 11 ≡ c - 11 * j = omega arith in
-        let e : c ≡ 11 * j + (c - 11 * j) = omega arith in
-        ap (at after) e ∙ p .inside (c - 11 * j) (omega arith) ∙ rw (q, r) (ap (λ (x : List ℕ). at x (c - 11 * j)) (ex ∙ es))
+    number : (k : ℕ) → k < length xs → at xs k ≡ at (residueOf ((11 * j + k) / 11) b n) ((11 * j + k) % 11)
+    number k l =
+        let q : (11 * j + k) / 11 ≡ j = omega arith in
+        let r : (11 * j + k) % 11 ≡ k = omega arith in
+        rw (q, r) (ap (λ (x : List ℕ). at x k) (ex ∙ es))
 
 pub residues-end : (b : List ℕ) (n j : ℕ) (out : List ℕ) → Filled 88 (residueAt b n) (11 * j) out → 8 ≤ j → out ≡ residuesOf b n
 unfolding residueAt residuesOf

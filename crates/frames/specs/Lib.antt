@@ -10,5 +10,6 @@ pub mod Received
 pub mod Symbols
 pub mod SideBySide
 pub mod InnerResidues
+pub mod ParityMatrix
 pub mod Passes
 pub mod Proposals

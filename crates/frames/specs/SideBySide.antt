@@ -1,34 +1,19 @@
 -- The 64 inner words of a frame side by side: a number's bit k, the highest of 64 first, belongs to inner word k.
-use mathlib.Core.List.{List, _∷_}
-use Prim.Native.Nat.{ℕ, zero, suc, _+_, _-_, _*_, _/_, _%_, _^_}
-use lib.Bits.{bitAnd, bitOr}
+use mathlib.Core.List.{List}
+use Prim.Native.Nat.{ℕ, zero, suc, _+_, _*_, _/_, _%_}
+use lib.Bits.{bitOr}
 use Rattle.fields.specs.Lists.{tabulate}
-use Rattle.fields.specs.Elements.{scale}
 use Rattle.words.specs.Places.{at, bitOf, numberOf, bitAt}
-use Rattle.words.specs.OuterCode.{shiftedIn, divided}
-use Rattle.words.specs.InnerCode.{divisor}
+use Rattle.words.specs.InnerCode.{innerParity}
+use Rattle.frames.specs.Frames.{innerData}
 
 -- place p of every inner word
 unfoldable pub placeAt : List ℕ → ℕ → ℕ
 placeAt bytes p = numberOf 64 (λ k. bitAt bytes (64 * p + k))
 
--- all ones where the bit is 1; the divisor's coefficients below z^88, highest power first, for every inner word
-unfoldable pub ones : ℕ → ℕ
-ones c = scale c (2 ^ 64 - 1)
-
-unfoldable pub masks : List ℕ
-masks = tabulate 88 (λ i. ones (bitOf 88 divisor i))
-
--- One step of all divisions: bits multiply by `and`. The leading coefficient of the divisor, which no step uses, stands as 0
-unfoldable pub stepped : List ℕ → List ℕ → ℕ → List ℕ
-stepped ms cells x = shiftedIn bitAnd 88 (at (0 ∷ ms)) cells x
-
--- the register after the first n places, and after all data places
-unfoldable pub swept : List ℕ → ℕ → List ℕ
-swept bytes n = divided bitAnd 88 (at (0 ∷ masks)) (placeAt bytes) n
-
+-- parity place i of every inner word
 unfoldable pub parities : List ℕ → List ℕ
-parities bytes = swept bytes 1952
+parities bytes = tabulate 88 (λ i. numberOf 64 (λ k. at (innerParity (innerData (bitAt bytes) k)) i))
 
 -- byte j of a number, the highest first; the bytes of the parity places
 unfoldable pub byteOf64 : ℕ → ℕ → ℕ

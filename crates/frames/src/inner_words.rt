@@ -1,8 +1,9 @@
-// The 64 inner words of a frame, side by side: eight bytes are one place of them all, the bits of one number, so one register of 88 numbers holds 64
-// divisions by the divisor. It gives the parity bits. Residues tell which inner words of a block are no code words; many of
-// those are corrected at once, few one by one.
+// The 64 inner words of a frame, side by side: eight bytes are one place of them all, the bits of one number. Their residues (module residues) give the
+// parity bits (module parity), and tell which inner words of a block are no code words; many of those are corrected at once (module proposals), few one by
+// one.
 use crate::Frame;
 use crate::bits;
+use crate::parity;
 use crate::proposals;
 use crate::residues;
 use words::bch;
@@ -16,7 +17,7 @@ ghost use Rattle.frames.specs.Frames.{innerWord, withParity};
 ghost use Rattle.frames.specs.Correction.{innerRestored};
 ghost use Rattle.frames.specs.Received.{innerCodes};
 ghost use Rattle.frames.specs.Symbols.{Placed};
-ghost use Rattle.frames.specs.SideBySide.{placeAt, ones, masks, stepped, parities, byteOf64, parityBytes};
+ghost use Rattle.frames.specs.SideBySide.{placeAt, parities, byteOf64, parityBytes};
 ghost use Rattle.frames.specs.Passes.{wrongWords, wordByte, wordBytes, WordPut, InnerPassed};
 
 const PARITY_BYTES: usize = Frame::BYTES - Frame::DATA_BYTES;
@@ -37,54 +38,13 @@ pub fn place(bytes: &[u8], p: usize) -> u64
         | (bytes[i + 7] as u64)
 }
 
-// All ones for a coefficient 1.
-fn mask(c: u16) -> u64
-    ensures { λ r. ⌜ r ≡ ones c ⌝ }
-{
-    if c == 0 { 0 } else { 0xffff_ffff_ffff_ffff }
-}
-
-// The coefficients of the divisor below z^88, highest power first, each for every inner word.
-fn masks() -> [u64; words::Inner::PARITY]
-    ensures { λ r. ⌜ r ≡ masks ⌝ }
-{
-    let d = bch::divisor();
-    let mut m = [0u64; words::Inner::PARITY];
-    let mut i: usize = 0;
-    while i < words::Inner::PARITY {
-        m[i] = mask(bch::coefficient(d, i));
-        i += 1;
-    }
-    m
-}
-
-// The register after one more place: each number moves up a power, and where the leading coefficient is 1 the divisor is taken away.
-fn step(cells: &mut [u64], masks: &[u64], x: u64)
-    requires { ⌜ (length (now cells) ≡ 88) × (length (now masks) ≡ 88) ⌝ }
-    ensures { λ _. ⌜ now (cells .exit) ≡ stepped (now (masks .entry)) (now (cells .entry)) x ⌝ }
-{
-    let f = cells[0] ^ x;
-    let mut i: usize = 0;
-    while i < words::Inner::PARITY - 1 {
-        cells[i] = cells[i + 1] ^ (f & masks[i]);
-        i += 1;
-    }
-    cells[words::Inner::PARITY - 1] = f & masks[words::Inner::PARITY - 1];
-}
-
-// The register after the data places: what the parity places are to be.
+// What the parity places are to be, from the data places.
 fn parities(bytes: &[u8]) -> [u64; words::Inner::PARITY]
     requires { ⌜ length (now bytes) ≡ 16320 ⌝ }
     ensures { λ r. ⌜ r ≡ parities (now (bytes .entry)) ⌝ }
 {
-    let masks = masks();
-    let mut cells = [0u64; words::Inner::PARITY];
-    let mut p: usize = 0;
-    while p < Frame::DATA_PLACES {
-        step(&mut cells, &masks, place(bytes, p));
-        p += 1;
-    }
-    cells
+    let residues = residues::residues(bytes, residues::DATA_BLOCKS);
+    parity::parities(&residues)
 }
 
 // Byte j of a number, the highest first.

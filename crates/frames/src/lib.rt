@@ -29,6 +29,8 @@ pub mod c_entries;
 mod comparison;
 mod inner_words;
 mod outer_words;
+mod parity;
+mod parity_rows;
 mod proposals;
 mod residues;
 mod side_by_side;

@@ -16,8 +16,10 @@ const FACTORS: usize = 8;
 
 const DEGREE: usize = 11;
 
-// Blocks of eleven places that come after the first five in an inner word.
+// Blocks of eleven places that come after the first five in an inner word, and in its data.
 pub const WORD_BLOCKS: usize = 185;
+
+pub const DATA_BLOCKS: usize = WORD_BLOCKS - FACTORS;
 
 // The eleven coefficients of 64 residues, the lowest power first.
 pub struct Lanes {
@@ -409,13 +411,13 @@ fn numbers(s: Lanes) -> [u64; DEGREE]
     ]
 }
 
-// Stores the eleven numbers from place i on.
-fn put(numbers: &[u64], i: usize, out: &mut [u64])
-    requires { ⌜ (length (now numbers) ≡ 11) × (i + 11 ≤ length (now out)) ⌝ }
+// Stores the numbers from place i on.
+pub fn put(numbers: &[u64], i: usize, out: &mut [u64])
+    requires { ⌜ i + length (now numbers) ≤ length (now out) ⌝ }
     ensures { λ _. ⌜ Placed i (now (numbers .entry)) (now (out .entry)) (now (out .exit)) ⌝ }
 {
     let mut k: usize = 0;
-    while k < DEGREE {
+    while k < numbers.len() {
         out[i + k] = numbers[k];
         k += 1;
     }

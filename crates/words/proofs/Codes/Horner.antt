@@ -29,7 +29,7 @@ scale-one zero h = refl
 scale-one (suc zero) h = refl
 scale-one (suc (suc t)) h = absurd (omega arith)
 
-scale-zero : (t : ℕ) → scale t 0 ≡ 0
+pub scale-zero : (t : ℕ) → scale t 0 ≡ 0
 unfolding scale
 scale-zero zero = refl
 scale-zero (suc t) = refl

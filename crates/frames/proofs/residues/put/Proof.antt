@@ -1,8 +1,8 @@
 -- `frames::residues::put` meets its contract. Assumes nothing.
 use Prim.Native.Nat.{_-_}
 use borrow.Author.Needs.{needs}
-use Rattle.frames.proofs.Placing.{Placing, placing-start}
-use Rattle.frames.proofs.ResidueSteps.{put-next, put-end}
+use lib.ListN.{length}
+use Rattle.frames.proofs.Placing.{Placing, placing-start, placing-next, placing-end}
 use Rattle.frames.proofs.residues.put.Statement.{statement}
 use Rattle.frames.proofs.residues.put.Tie as tie
 
@@ -10,7 +10,7 @@ abbrev Inv-loop : tie.InvT-loop
 Inv-loop numbers i out₀ k₀ out k = Placing i numbers k out₀ out
 
 abbrev μ-loop : tie.MeasureT-loop
-μ-loop numbers i out₀ k₀ out k = 11 - k
+μ-loop numbers i out₀ k₀ out k = length numbers - k
 
 loop-holds : tie.Need-loop-holds Inv-loop μ-loop
 loop-holds c = search (needs, placing-start)
@@ -37,13 +37,13 @@ loop-less : tie.Need-loop-less Inv-loop μ-loop
 loop-less c = search needs
 
 loop-again : tie.Need-loop-again Inv-loop μ-loop
-loop-again c = search (needs, put-next)
+loop-again c = search (needs, placing-next)
 
 same-length : tie.Need-same-length Inv-loop μ-loop
 same-length c = search needs
 
 returns : tie.Need-returns Inv-loop μ-loop
-returns c = search (needs, put-end)
+returns c = search (needs, placing-end)
 
 pub put-spec : {M : Type 1} → statement M
 put-spec =

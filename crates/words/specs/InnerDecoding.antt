@@ -1,6 +1,6 @@
 -- What the functions give that decode an inner word by its remainder.
 use mathlib.Core.Path.{_≡_}
-use mathlib.Core.Bool.{Bool, _&&_, _||_}
+use mathlib.Core.Bool.{Bool, _&&_, _||_, cond}
 use mathlib.Core.List.{List}
 use Prim.Native.Nat.{ℕ, _+_, _-_, _*_, _<_}
 use lib.Dec.{eqb}
@@ -40,12 +40,20 @@ isBinary es places values k = every k (λ l. isBit (at values l) (locator es 204
 unfoldable pub flips : List ℕ → List ℕ
 flips values = tabulate 8 (λ k. differs (at values k) 0)
 
--- the errors found in the 2,040 places of a word lent as bytes
-pub record InnerErrors (w places values : List ℕ) (count : ℕ) (left : List ℕ) : Type 0 where
+-- the errors found in the 2,040 places of a word that has the values w at a, a^3, .. a^15
+pub record ErrorsOf (w places values : List ℕ) (count : ℕ) (left : List ℕ) : Type 0 where
   pub t : List ℕ
-  pub syndromes : Syndromes powersB exponentsB (oddValues powersB (remainder 88 divisor (bitAt w) 2040)) 8 t
+  pub syndromes : Syndromes powersB exponentsB w 8 t
   pub decoded : Decoded powersB exponentsB t 2040 places values count left
   pub left-long : length left ≡ 16
+
+-- and of a word lent as bytes
+pub record InnerErrors (w places values : List ℕ) (count : ℕ) (left : List ℕ) : Type 0 where
+  pub found : ErrorsOf (oddValues powersB (remainder 88 divisor (bitAt w) 2040)) places values count left
+
+-- what the errors invert of bit l of some bytes, where place i of the word stands at bit `step * i + first`
+unfoldable pub inverted : ℕ → ℕ → List ℕ → List ℕ → ℕ → ℕ → ℕ
+inverted step first places values k l = xorTo k (λ n. cond (eqb (step * at places n + first) l) (differs (at values n) 0) 0)
 
 -- they leave nothing of the syndromes, and each has the value of a wrong place
 unfoldable pub explains : List ℕ → List ℕ → List ℕ → ℕ → List ℕ → Bool

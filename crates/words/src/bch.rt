@@ -1,6 +1,6 @@
 // Inner words: binary polynomials, the divisor that the eight factors make, the remainder of a word after division by it, and correction: the syndromes
 // from the remainder, the errors that explain them, and the places inverted. `divisor`, `coefficient`,
-// `copy` and `flip` are for the crates above too.
+// `copy`, `flip`, `errors_of`, `explains` and `invert` are for the crates above too.
 use crate::Inner;
 use crate::decoder;
 use crate::decoder::Errors;
@@ -15,7 +15,7 @@ ghost use Rattle.words.specs.Places.{at, differs, bitAt, bitsOf, numberO
 ghost use Rattle.words.specs.InnerCode.{valueOf, factors, divisor, remainder};
 ghost use Rattle.words.specs.Limbs.{number, Holds, residue, Residues};
 ghost use Rattle.words.specs.Decoder.{withErrors};
-ghost use Rattle.words.specs.InnerDecoding.{oddValues, plusTerm, Syndromes, isBit, isBinary, flips, InnerErrors, explains};
+ghost use Rattle.words.specs.InnerDecoding.{oddValues, plusTerm, Syndromes, isBit, isBinary, flips, ErrorsOf, InnerErrors, inverted, explains};
 
 // Coefficients below z^48, the low ones, stand in one number, the others in another.
 const LOW_BITS: usize = 48;
@@ -250,9 +250,9 @@ pub fn coefficient(v: Polynomial, k: usize) -> u16
     ((v.high >> (shift - LOW_BITS)) % 2) as u16
 }
 
-// The values of a polynomial at a, a^3, .. a^15.
-struct OddValues {
-    at: [u16; decoder::RADIUS],
+// The values of a polynomial, or of a word, at a, a^3, .. a^15.
+pub struct OddValues {
+    pub at: [u16; decoder::RADIUS],
 }
 
 // The values w with those of the term c z^i added. A product by the bit c, not a branch on it: coefficients cannot be predicted.
@@ -286,12 +286,10 @@ fn odd_values(exp: &[u16], v: Polynomial) -> OddValues
     w
 }
 
-// The values of a word at a, a^2, .. a^16, from its remainder v: at the odd powers they are those of the remainder, at the even powers squares.
-fn syndromes(exp: &[u16], log: &[u16], v: Polynomial) -> [u16; decoder::SYNDROMES]
-    requires { ⌜ v .low < 2 ^ 48 ⌝ }
-    ensures { λ r. ⌜ Syndromes (now (exp .entry)) (now (log .entry)) (oddValues (now (exp .entry)) (number (v .high) (v .low))) 8 r ⌝ }
+// The values of a word at a, a^2, .. a^16, from those at the odd powers: at the even powers they are squares.
+fn syndromes(exp: &[u16], log: &[u16], odd: OddValues) -> [u16; decoder::SYNDROMES]
+    ensures { λ r. ⌜ Syndromes (now (exp .entry)) (now (log .entry)) (odd .at) 8 r ⌝ }
 {
-    let odd = odd_values(exp, v);
     let mut t = [0u16; decoder::SYNDROMES];
     let mut i: usize = 0;
     while i < decoder::RADIUS {
@@ -326,13 +324,22 @@ fn is_binary(exp: &[u16], e: Errors) -> bool
     true
 }
 
-// The errors in a word, which is a code word with at most eight places wrong only if they explain it.
+// The errors in a word that has these values, which is a code word with at most eight places wrong only if they explain it.
+pub fn errors_of(exp: &[u16], log: &[u16], odd: OddValues) -> Errors
+    requires { ⌜ (now exp ≡ powersB) × (now log ≡ exponentsB) ⌝ }
+    ensures { λ r. ⌜ ErrorsOf (odd .at) (r .places .at) (r .values) (r .places .count) (r .left) ⌝ }
+{
+    let t = syndromes(exp, log, odd);
+    decoder::decode_bits(exp, log, t, Inner::PLACES)
+}
+
+// The errors in a word: the values of its remainder are those of the word.
 pub fn errors(exp: &[u16], log: &[u16], word: &[u8]) -> Errors
     requires { ⌜ (now exp ≡ powersB) × (now log ≡ exponentsB) ⌝ }
     ensures { λ r. ⌜ InnerErrors (now (word .entry)) (r .places .at) (r .values) (r .places .count) (r .left) ⌝ }
 {
-    let t = syndromes(exp, log, remainder(divisor(), word));
-    decoder::decode_bits(exp, log, t, Inner::PLACES)
+    let odd = odd_values(exp, remainder(divisor(), word));
+    errors_of(exp, log, odd)
 }
 
 // The errors leave nothing of the syndromes, and each has the value of a wrong place.
@@ -371,16 +378,32 @@ pub fn flip(out: &mut [u8], i: usize, value: u16)
     }
 }
 
+// The bit at which place i of a word stands.
+fn bit_place(step: usize, i: u16, first: usize) -> usize
+    requires { ⌜ (step ≤ 64) × (first < 64) ⌝ }
+    ensures { λ r. ⌜ r ≡ step * i + first ⌝ }
+{
+    step * (i as usize) + first
+}
+
+// Inverts the wrong places in bytes in which place i of the word stands at bit `step * i + first`.
+pub fn invert(e: Errors, step: usize, first: usize, out: &mut [u8])
+    requires { ⌜ (e .places .count ≤ 8) × (step ≤ 64) × (first < 64) ⌝ }
+    ensures { λ _. ⌜ ((l : ℕ) → l < 8 * length (now (out .entry)) → bitAt (now (out .exit)) l ≡ xor (bitAt (now (out .entry)) l) (inverted step first (e .places .at) (e .values) (e .places .count) l)) ⌝ }
+{
+    let places = e.places;
+    let mut k: usize = 0;
+    while k < places.count {
+        flip(out, bit_place(step, places.at[k], first), e.values[k]);
+        k += 1;
+    }
+}
+
 // Writes the word with the wrong places inverted.
 pub fn correct(word: &[u8], e: Errors, out: &mut [u8])
     requires { ⌜ (length (now out) ≡ length (now word)) × (e .places .count ≤ 8) ⌝ }
     ensures { λ _. ⌜ bitsOf (now (out .exit)) ≡ withErrors (bitAt (now (word .entry))) (e .places .at) (flips (e .values)) (e .places .count) (8 * length (now (word .entry))) ⌝ }
 {
     copy(word, out);
-    let places = e.places;
-    let mut k: usize = 0;
-    while k < places.count {
-        flip(out, places.at[k] as usize, e.values[k]);
-        k += 1;
-    }
+    invert(e, 1, 0, out);
 }

@@ -43,7 +43,7 @@ error-here places values (suc k) l h ascending = go (ℕ-discrete l k) (error-he
         (before (omega arith) (λ l m b c. ascending l m b (omega arith)))
 
 -- the bits of the errors' values
-flip-at : (values : List ℕ) (l : ℕ) → l < 8 → at (flips values) l ≡ differs (at values l) 0
+pub flip-at : (values : List ℕ) (l : ℕ) → l < 8 → at (flips values) l ≡ differs (at values l) 0
 unfolding flips
 flip-at values l h = tabulate-at 8 _ l 0 h
 
@@ -62,13 +62,13 @@ flips-weight values k h = sum-same k _ _ (λ l b. ap (λ (x : ℕ). differs x 0)
 -- the errors found in a word lent as 255 bytes
 module _ (w : List ℕ) (long : length w ≡ 255) (places values : List ℕ) (count : ℕ) (left : List ℕ) (E : InnerErrors w places values count left) where
   abbrev t : List ℕ
-  t = E .t
+  t = E .found .t
 
   abbrev D : Decoded powersB exponentsB t 2040 places values count left
-  D = E .decoded
+  D = E .found .decoded
 
   t-is : (j : ℕ) → j < 16 → at t j ≡ syndrome powersB exponentsB 2040 (located (bitAt w)) j
-  t-is = syndromes-are (bitAt w) (bitAt-lt w) t (E .syndromes)
+  t-is = syndromes-are (bitAt w) (bitAt-lt w) t (E .found .syndromes)
 
   word-long : length (bitsOf w) ≡ 2040
   word-long = bits-length w ∙ omega arith
@@ -167,7 +167,7 @@ module _ (w : List ℕ) (long : length w ≡ 255) (places values : List ℕ) (co
     correctable = record { elements = located-lt d; syndromes = sums; few = few }
 
     near-leaves-none : allBelow 1 left ≡ true
-    near-leaves-none = few-leave-none powersB exponentsB 2040 t places values count left D (E .left-long) (located d) correctable
+    near-leaves-none = few-leave-none powersB exponentsB 2040 t places values count left D (E .found .left-long) (located d) correctable
 
     near-binary : isBinary powersB places values count ≡ true
     unfolding isBinary located

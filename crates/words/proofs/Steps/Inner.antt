@@ -1,8 +1,8 @@
 -- The ways through the functions that decode an inner word, and a step of each of their loops. Assumes nothing.
-use mathlib.Core.Path.{_≡_, refl, sym, ap, _∙_}
+use mathlib.Core.Path.{_≡_, refl, sym, ap, ap₂, _∙_}
 use mathlib.Core.Bool.{Bool, true, false, not, cond}
 use mathlib.Core.List.{List}
-use Prim.Native.Nat.{ℕ, suc, _+_, _-_, _*_, _/_, _%_, _^_, _≤_, _<_}
+use Prim.Native.Nat.{ℕ, zero, suc, _+_, _-_, _*_, _/_, _%_, _^_, _≤_, _<_}
 use native.Mathlib.Decide.{ℕ-discrete}
 use native.Mathlib.Nat.{mul-le-mul-right, not-suc-le-zero}
 use native.Mathlib.Numerals.{add-one}
@@ -13,6 +13,8 @@ use lib.Dec.{eqb}
 use lib.ListN.{length, getD, set, replicate, length-set}
 use lib.Pow.{field, mod-mod-pow, shr-shr}
 use lib.Seq.{getD-set-same, getD-set-other}
+use mir.Syntax.{w16, w64}
+use mir.Val.{Fits}
 use Rattle.fields.specs.Elements.{xor, powersB, exponentsB}
 use Rattle.fields.specs.ByTables.{tableProduct, tablePower}
 use Rattle.fields.specs.Lists.{tabulate}
@@ -23,11 +25,12 @@ use Rattle.words.specs.Places.{at, every, allBelow, bitOf, bitAt, bitsOf
 use Rattle.words.specs.InnerCode.{divisor, remainder}
 use Rattle.words.specs.Limbs.{number, Holds}
 use Rattle.words.specs.Decoder.{Tables, locator, xorTo, errorAt, Decoded, withErrors}
-use Rattle.words.specs.InnerDecoding.{powersValue, oddValues, plusTerm, Syndromes, isBit, isBinary, flips, InnerErrors, explains}
+use Rattle.words.specs.InnerDecoding.{powersValue, oddValues, plusTerm, Syndromes, isBit, isBinary, flips, ErrorsOf, InnerErrors, inverted, explains}
 use Rattle.words.proofs.Places.Filling.{Filled, filled-next, filled-end}
 use Rattle.words.proofs.Places.Tests.{every-at, every-false}
 use Rattle.words.proofs.Algebra.Tables.{powers-length}
 use Rattle.words.proofs.Decoding.InnerSyndromes.{tables-b}
+use Rattle.words.proofs.Decoding.Inner.{flip-at}
 
 -- coefficient k of 88, the highest first: where it is one of the 48 low ones, and where it is not
 module _ (h l k : ℕ) (split : l < 2 ^ 48) (bound : k < 88) where
@@ -168,10 +171,14 @@ module _ (es ls : List ℕ) (exp : es ≡ powersB) (log : ls ≡ exponentsB) whe
   pub powers-fit : (n : ℕ) → 2047 ≤ n → length es ≤ n
   powers-fit n h = rw (exp, powers-length 11 2053 field-b) h
 
-  pub errors-are : (w : List ℕ) (h l : ℕ) (t places values : List ℕ) (count : ℕ) (left : List ℕ) → Holds h l (remainder 88 divisor (bitAt w) 2040) → Syndromes es ls (oddValues es (number h l)) 8 t →
-      Decoded es ls t 2040 places values count left → length left ≡ 16 → InnerErrors w places values count left
-  errors-are w h l t places values count left r S D n =
-      record { t = t; syndromes = rw (exp, log, r .value) at S; decoded = rw (exp, log) at D; left-long = n }
+  pub errors-are : (odd t places values : List ℕ) (count : ℕ) (left : List ℕ) → Syndromes es ls odd 8 t →
+      Decoded es ls t 2040 places values count left → length left ≡ 16 → ErrorsOf odd places values count left
+  errors-are odd t places values count left S D n =
+      record { t = t; syndromes = rw (exp, log) at S; decoded = rw (exp, log) at D; left-long = n }
+
+  pub word-errors : (w : List ℕ) (h l : ℕ) (odd places values : List ℕ) (count : ℕ) (left : List ℕ) → Holds h l (remainder 88 divisor (bitAt w) 2040) →
+      odd ≡ oddValues es (number h l) → ErrorsOf odd places values count left → InnerErrors w places values count left
+  word-errors w h l odd places values count left r e E = record { found = rw (e, exp, r .value) at E }
 
 module _ (es places values : List ℕ) (count : ℕ) (left : List ℕ) (t : Bool) (tested : t ≡ allBelow 1 left) where
   pub explains-rest : t ≡ true → (b : Bool) → b ≡ isBinary es places values count → b ≡ explains es places values count left
@@ -228,28 +235,55 @@ module _ (out : List ℕ) (i value : ℕ) where
             ∙ ap (xor (bitOf 8 (getD out (i / 8) 0) (l % 8))) (place-one (i % 8) (l % 8) (omega arith) (omega arith) ∙ within e (ℕ-discrete (i % 8) (l % 8))))
         go (no n) = rw (getD-set-other out (i / 8) (l / 8) v 0 n, ne-eqb i l (λ e. n (omega arith))) (sym (xor-zero-r _))
 
--- the bytes of the word w with the first k of the errors added
-pub record Flipped (w places values : List ℕ) (k : ℕ) (out : List ℕ) : Type 0 where
-  pub long : length out ≡ length w
-  pub places-are : (l : ℕ) → l < 8 * length w → bitAt out l ≡ xor (bitAt w l) (errorAt places (flips values) k l)
+-- the bit at which a place stands
+module _ (step i first : ℕ) (small : step ≤ 64) (known : Fits w16 i) where
+  step-lt : step * i ≤ 64 * 65535
+  step-lt = let l : step * i ≤ 64 * i = mul-le-mul-right i small in omega (arith, known)
 
-module _ (w places values out : List ℕ) where
-  pub flipped-none : out ≡ w → Flipped w places values 0 out
-  unfolding errorAt xorTo
-  flipped-none e = record { long = ap length e; places-are = λ l h. ap (λ (x : List ℕ). bitAt x l) e ∙ sym (xor-zero-r (bitAt w l)) }
+  pub step-fits : Fits w64 (step * i)
+  step-fits = record { fits = omega (arith, step-lt) }
 
-  module _ (k n : ℕ) (so-far : Flipped w places values k out) where
-    pub flipped-next : k < n → n ≤ 8 → (next : List ℕ) → length next ≡ length out →
-        ((l : ℕ) → l < 8 * length out → bitAt next l ≡ xor (bitAt out l) (cond (eqb (getD places k 0) l) (differs (getD values k 0) 0) 0)) → Flipped w places values (k + 1) next
-    unfolding errorAt xorTo flips
-    flipped-next h m next same one =
-        let value : getD (tabulate 8 (λ k. differs (at values k) 0)) k 0 ≡ differs (getD values k 0) 0 = tabulate-at 8 (λ k. differs (at values k) 0) k 0 (omega arith) in
+  pub place-fits : first < 64 → Fits w64 (step * i + first)
+  place-fits h = record { fits = omega (arith, step-lt) }
+
+-- the bytes before, with the first k of the errors added
+pub record Inverted (step first : ℕ) (before places values : List ℕ) (k : ℕ) (out : List ℕ) : Type 0 where
+  pub long : length out ≡ length before
+  pub bits : (l : ℕ) → l < 8 * length before → bitAt out l ≡ xor (bitAt before l) (inverted step first places values k l)
+
+module _ (step first : ℕ) (before places values : List ℕ) where
+  pub inverted-none : Inverted step first before places values 0 before
+  unfolding inverted xorTo
+  inverted-none = record { long = refl; bits = λ l h. sym (xor-zero-r (bitAt before l)) }
+
+  module _ (k : ℕ) (out : List ℕ) (so-far : Inverted step first before places values k out) where
+    pub inverted-next : (i : ℕ) → i ≡ step * getD places k 0 + first → (next : List ℕ) → length next ≡ length out →
+        ((l : ℕ) → l < 8 * length out → bitAt next l ≡ xor (bitAt out l) (cond (eqb i l) (differs (getD values k 0) 0) 0)) →
+        Inverted step first before places values (k + 1) next
+    unfolding inverted xorTo
+    inverted-next i e next same one =
         record {
           long = same ∙ so-far .long;
-          places-are = λ l b. one l (rw (so-far .long) b) ∙ ap (λ (x : ℕ). xor x (cond (eqb (getD places k 0) l) (differs (getD values k 0) 0) 0)) (so-far .places-are l b)
-              ∙ xor-assoc _ _ _ ∙ rw (add-one, value);
+          bits = λ l b. one l (rw (so-far .long) b)
+              ∙ ap (λ (x : ℕ). xor x (cond (eqb i l) (differs (getD values k 0) 0) 0)) (so-far .bits l b) ∙ xor-assoc _ _ _ ∙ rw (add-one, e);
         }
 
-    pub flipped-end : k ≤ n → n ≤ k → bitsOf out ≡ withErrors (bitAt w) places (flips values) n (8 * length w)
-    unfolding bitsOf withErrors
-    flipped-end l h = let e : k ≡ n = omega arith in rw (← e, so-far .long) (tabulate-same (8 * length w) (bitAt out) _ (so-far .places-are))
+    pub inverted-end : (n : ℕ) → k ≤ n → n ≤ k → (l : ℕ) → l < 8 * length before → bitAt out l ≡ xor (bitAt before l) (inverted step first places values n l)
+    inverted-end n l h = let e : k ≡ n = omega arith in rw e at (so-far .bits)
+
+-- a step of 1 from bit 0 on: the errors of the word itself
+inverted-errors : (places values : List ℕ) (n l : ℕ) → n ≤ 8 → inverted 1 0 places values n l ≡ errorAt places (flips values) n l
+unfolding inverted errorAt xorTo
+inverted-errors places values zero l h = refl
+inverted-errors places values (suc n) l h =
+    let e : 1 * at places n + 0 ≡ at places n = omega arith in
+    ap₂ xor (inverted-errors places values n l (omega arith)) (rw (e, flip-at values n (omega arith)))
+
+pub corrected-word : (w places values copied out : List ℕ) (n : ℕ) → n ≤ 8 → copied ≡ w → length out ≡ length copied →
+    ((l : ℕ) → l < 8 * length copied → bitAt out l ≡ xor (bitAt copied l) (inverted 1 0 places values n l)) →
+    bitsOf out ≡ withErrors (bitAt w) places (flips values) n (8 * length w)
+unfolding bitsOf withErrors
+corrected-word w places values copied out n few e same bits =
+    let long : length out ≡ length w = same ∙ ap length e in
+    rw long (tabulate-same (8 * length w) (bitAt out) _ (λ l h.
+    bits l (rw e h) ∙ ap₂ xor (ap (λ (x : List ℕ). bitAt x l) e) (inverted-errors places values n l few)))

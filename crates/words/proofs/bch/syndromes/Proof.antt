@@ -1,8 +1,8 @@
 -- `words::bch::syndromes` meets its contract. Assumes nothing.
-use Prim.Native.Nat.{_-_, _≤_}
 use borrow.Author.Needs.{needs}
-use Rattle.words.specs.InnerDecoding.{Syndromes}
 use Rattle.words.proofs.Steps.Inner.{syndromes-none, syndromes-next, syndromes-end}
+use Rattle.words.specs.InnerDecoding.{Syndromes}
+use Prim.Native.Nat.{_-_, _≤_}
 use Rattle.words.proofs.bch.syndromes.Statement.{statement}
 use Rattle.words.proofs.bch.syndromes.Tie as tie
 
@@ -11,9 +11,6 @@ Inv-loop exp log odd t₀ i₀ t i = (i ≤ 8) × Syndromes exp log (odd .at) i 
 
 abbrev μ-loop : tie.MeasureT-loop
 μ-loop exp log odd t₀ i₀ t i = 8 - i
-
-odd-values-requires : tie.Need-odd-values-requires Inv-loop μ-loop
-odd-values-requires c κs = search needs
 
 loop-holds : tie.Need-loop-holds Inv-loop μ-loop
 loop-holds c = search (needs, syndromes-none)
@@ -78,7 +75,6 @@ syndromes-spec =
     (tie.spec
     Inv-loop
     μ-loop
-    odd-values-requires
     loop-holds
     mul-t
     element-copy-out-t

@@ -4,6 +4,7 @@ pub mod Elimination
 pub mod RootPlaces
 pub mod Search
 pub mod LinearRoot
+pub mod RowSearch
 pub mod Values
 pub mod Changes
 pub mod Completeness

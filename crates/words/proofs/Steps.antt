@@ -11,6 +11,8 @@ pub mod Search
 pub mod RootsFound
 pub mod Errors
 pub mod Flips
+pub mod RowSearch
+pub mod RowRoots
 pub mod Inner
 pub mod Refusals
 pub mod Entries

@@ -12,4 +12,5 @@ pub mod SixSymbols
 pub mod Limbs
 pub mod Decoder
 pub mod DecoderSteps
+pub mod RowSearch
 pub mod InnerDecoding

@@ -2,7 +2,8 @@
 //
 //     annihilator   a polynomial of degree at most 8 that annihilates the syndromes, by elimination: the locators of up to eight errors are its roots
 //     roots         the places of the word, never of the omitted front, whose locators are roots: from place to place each term of the polynomial is
-//                   divided by a power of a, which lowers its exponent, and a root that is found is divided out; the last by the table of exponents
+//                   divided by a power of a, which lowers its exponent, and a root that is found is divided out; the last by the table of exponents.
+//                   Or the terms' values at many places are read from rows of powers, which a caller with many words to decode lends
 //     values        the value of the error at each of them, the last first: the locators before it are filtered out of the syndromes, which leaves a
 //                   multiple of the value; then the error's own syndromes are taken away. In a word of bits the values are known, and tried first
 //     test          if nothing is left of the syndromes, the word less these errors is a code word, near enough; else there is none
@@ -11,7 +12,10 @@
 // roots are errors.
 use crate::reed_solomon;
 ghost use mathlib.Core.Path.{_≡_};
-ghost use Prim.Native.Nat.{ℕ, _+_, _%_, _≤_, _<_};
+ghost use mathlib.Core.Bool.{cond};
+ghost use mathlib.Core.List.{List};
+ghost use Prim.Native.Nat.{ℕ, _+_, _-_, _*_, _%_, _≤_, _<_};
+ghost use lib.Dec.{eqb};
 ghost use lib.ListN.{length};
 ghost use Rattle.fields.specs.Lists.{tabulate};
 ghost use Rattle.fields.specs.Elements.{xor};
@@ -19,6 +23,7 @@ ghost use Rattle.fields.specs.ByTables.{tableProduct};
 ghost use Rattle.words.specs.Places.{at, differs};
 ghost use Rattle.words.specs.Decoder.{Tables, locator, Decoded, weightOf};
 ghost use Rattle.words.specs.DecoderSteps.{Annihilates, powerRow, plusScaled, cleared, reduced, FirstNonzero, kept, Roots, withTerm, termsTo, lessModulo, Exponents, powersTo, lowered, FirstRoot, quotientOf, filtered, errorValue, lessError, resolved, Located, lessPowers, flipped, flippedTo};
+ghost use Rattle.words.specs.RowSearch.{Rows, reciprocals, rowBase, rowStart, rowBases, rowStarts, rowPosition, Inside, fourAt, eightAt, rowsSum, keptTo, RowsFor};
 
 // Errors in up to so many places are found.
 pub const RADIUS: usize = 8;
@@ -202,6 +207,14 @@ fn less(n: usize, e: usize, d: usize) -> usize
     if e < d { e + (n - d) } else { e - d }
 }
 
+// e + d, counted modulo n.
+fn plus(n: usize, e: usize, d: usize) -> usize
+    requires { ⌜ (e < n) × (d < n) × (n ≤ 65536) ⌝ }
+    ensures { λ r. ⌜ r ≡ (e + d) % n ⌝ }
+{
+    if e + d < n { e + d } else { e + d - n }
+}
+
 // The sum of the terms, which are moved on to the next place.
 fn next_value(exp: &[u16], exponents: &mut [usize], steps: &[usize], count: usize) -> u16
     requires { ⌜ Exponents (now exp) count (now exponents) ⌝ }
@@ -364,6 +377,299 @@ fn roots(exp: &[u16], log: &[u16], polynomial: [u16; COEFFICIENTS], n: usize) ->
     p
 }
 
+// The order of a in the field that the rows of powers serve, and the number of places that are tested at once.
+const ORDER: usize = 2047;
+
+const BLOCK: usize = 40;
+
+// A row has its start again behind its end: a block may start at any of its entries.
+const ROW: usize = ORDER + BLOCK;
+
+// Rows of powers as `Rows` says, lent by the caller: row d has from its entry ROW * d on the powers of 1 / a^d, row 0 has zeros. The last entry of all
+// says how many there are; a row is filled when it is first needed.
+pub const ROWS: usize = COEFFICIENTS * ROW + 1;
+
+// 1 / d modulo ORDER.
+const RECIPROCALS: [usize; COEFFICIENTS] = [0, 1, 1024, 1365, 512, 819, 1706, 585, 256];
+
+// No row is there yet.
+pub fn empty_rows(rows: &mut [u16])
+    requires { ⌜ length (now rows) ≡ 18784 ⌝ }
+    ensures { λ _. ⌜ ((es : List ℕ) → Rows es (now (rows .exit))) ⌝ }
+{
+    let mut m: usize = 0;
+    while m < ROW {
+        rows[m] = 0;
+        m += 1;
+    }
+    rows[ROWS - 1] = 0;
+}
+
+// Fills row d, the first that is missing.
+fn fill_row(exp: &[u16], rows: &mut [u16], d: usize)
+    requires { ⌜ length (now exp) ≡ 2047 ⌝ }
+    requires { ⌜ Rows (now exp) (now rows) × (d ≤ 8) × (d ≡ at (now rows) 18783 + 1) ⌝ }
+    ensures { λ _. ⌜ Rows (now (exp .entry)) (now (rows .exit)) × (at (now (rows .exit)) 18783 ≡ d) ⌝ }
+{
+    let mut k: usize = 0;
+    let mut m: usize = 0;
+    while m < ROW {
+        rows[ROW * d + m] = exp[k];
+        k = less(ORDER, k, d);
+        m += 1;
+    }
+    rows[ROWS - 1] = d as u16;
+}
+
+// Fills the rows up to that of the degree that are missing.
+fn need_rows(exp: &[u16], rows: &mut [u16], degree: usize)
+    requires { ⌜ length (now exp) ≡ 2047 ⌝ }
+    requires { ⌜ Rows (now exp) (now rows) × (degree ≤ 8) ⌝ }
+    ensures { λ _. ⌜ Rows (now (exp .entry)) (now (rows .exit)) × (degree ≤ at (now (rows .exit)) 18783) ⌝ }
+{
+    let mut d = rows[ROWS - 1] as usize;
+    while d < degree {
+        d += 1;
+        fill_row(exp, rows, d);
+    }
+}
+
+fn reciprocal(d: usize) -> usize
+    requires { ⌜ d < 9 ⌝ }
+    ensures { λ r. ⌜ (r ≡ at reciprocals d) × (r < 2047) ⌝ }
+{
+    RECIPROCALS[d]
+}
+
+fn complement(e: usize) -> usize
+    ensures { λ r. ⌜ (r ≡ 2047 - e) × (r ≤ 2047) ⌝ }
+{
+    if e < ORDER { ORDER - e } else { 0 }
+}
+
+fn multiplied(e: usize, r: usize) -> usize
+    requires { ⌜ (e ≤ 2047) × (r < 2047) ⌝ }
+    ensures { λ p. ⌜ (p ≡ e * r) × (p ≤ 4190209) ⌝ }
+{
+    e * r
+}
+
+fn row_base(c: u16, d: usize) -> usize
+    requires { ⌜ d < 9 ⌝ }
+    ensures { λ r. ⌜ r ≡ rowBase c d ⌝ }
+{
+    if c == 0 { 0 } else { ROW * d }
+}
+
+fn row_start(log: &[u16], c: u16, d: usize, n: usize) -> usize
+    requires { ⌜ (d < 9) × (n ≤ 2047) ⌝ }
+    ensures { λ r. ⌜ r ≡ rowStart (now (log .entry)) c d n ⌝ }
+{
+    if c == 0 {
+        return 0;
+    }
+    let e = complement(reed_solomon::symbol(log, c as usize) as usize);
+    (multiplied(e, reciprocal(d)) + (ORDER + 1 - n)) % ORDER
+}
+
+// For the terms of degree 1, 2, .. 8 of a polynomial: the first entry of its row, and which entry from there on is its value at place 0.
+struct TermRows {
+    bases: [usize; RADIUS],
+    starts: [usize; RADIUS],
+}
+
+fn rows_of(log: &[u16], polynomial: [u16; COEFFICIENTS], n: usize) -> TermRows
+    requires { ⌜ n ≤ 2047 ⌝ }
+    ensures { λ r. ⌜ (r .bases ≡ rowBases polynomial) × (r .starts ≡ rowStarts (now (log .entry)) polynomial n) ⌝ }
+{
+    let mut bases = [0usize; RADIUS];
+    let mut starts = [0usize; RADIUS];
+    let mut d: usize = 0;
+    while d < RADIUS {
+        let c = polynomial[RADIUS - 1 - d];
+        bases[d] = row_base(c, d + 1);
+        starts[d] = row_start(log, c, d + 1, n);
+        d += 1;
+    }
+    TermRows { bases, starts }
+}
+
+// Where the values of term d from place i on stand.
+fn position(s: TermRows, i: usize, d: usize) -> usize
+    requires { ⌜ (d < 8) × (i < 2047) ⌝ }
+    requires { ⌜ ((k : ℕ) → at (s .bases) k ≤ 16696) × ((k : ℕ) → at (s .starts) k < 2047) ⌝ }
+    ensures { λ r. ⌜ (r ≡ rowPosition (s .bases) (s .starts) i d) × (r + 40 ≤ 18784) ⌝ }
+{
+    s.bases[d] + plus(ORDER, s.starts[d], i)
+}
+
+fn four(rows: &[u16], a: usize, b: usize, c: usize, d: usize, l: usize) -> u16
+    requires { ⌜ Inside (now rows) a b c d × (l < 40) ⌝ }
+    ensures { λ r. ⌜ r ≡ fourAt (now (rows .entry)) a b c d l ⌝ }
+{
+    reed_solomon::sum(
+        reed_solomon::sum(rows[a + l], rows[b + l]),
+        reed_solomon::sum(rows[c + l], rows[d + l]),
+    )
+}
+
+fn eight(
+    rows: &[u16],
+    a: usize,
+    b: usize,
+    c: usize,
+    d: usize,
+    e: usize,
+    f: usize,
+    g: usize,
+    h: usize,
+    l: usize,
+) -> u16
+    requires { ⌜ Inside (now rows) a b c d × Inside (now rows) e f g h × (l < 40) ⌝ }
+    ensures { λ r. ⌜ r ≡ eightAt (now (rows .entry)) a b c d e f g h l ⌝ }
+{
+    reed_solomon::sum(four(rows, a, b, c, d, l), four(rows, e, f, g, h, l))
+}
+
+// 1, if v is x; else z.
+fn noted(z: u16, v: u16, x: u16) -> u16
+    ensures { λ r. ⌜ (r ≡ 0 → (z ≡ 0) × (v ≡ x → ⊥)) ⌝ }
+{
+    if v == x { 1 } else { z }
+}
+
+// 0, if none of the 40 sums from the positions on is x. No branch: the places are read many at a time.
+fn any(
+    rows: &[u16],
+    a: usize,
+    b: usize,
+    c: usize,
+    d: usize,
+    e: usize,
+    f: usize,
+    g: usize,
+    h: usize,
+    x: u16,
+) -> u16
+    requires { ⌜ Inside (now rows) a b c d × Inside (now rows) e f g h ⌝ }
+    ensures { λ r. ⌜ (r ≡ 0 → (l : ℕ) → l < 40 → eightAt (now (rows .entry)) a b c d e f g h l ≡ x → ⊥) ⌝ }
+{
+    let mut z: u16 = 0;
+    let mut l: usize = 0;
+    while l < BLOCK {
+        z = noted(z, eight(rows, a, b, c, d, e, f, g, h, l), x);
+        l += 1;
+    }
+    z
+}
+
+fn keep_if(p: Places, v: u16, x: u16, i: usize) -> Places
+    requires { ⌜ (p .count ≤ 8) × (i < 65536) ⌝ }
+    ensures { λ r. ⌜ (r ≡ cond (eqb v x) (kept i p) p) × (r .count ≤ 8) ⌝ }
+{
+    if v == x {
+        return keep(p, i as u16);
+    }
+    p
+}
+
+// The places of the 40 from i on where the sum is x are kept.
+fn kept_of(
+    rows: &[u16],
+    a: usize,
+    b: usize,
+    c: usize,
+    d: usize,
+    e: usize,
+    f: usize,
+    g: usize,
+    h: usize,
+    x: u16,
+    places: Places,
+    i: usize,
+) -> Places
+    requires { ⌜ Inside (now rows) a b c d × Inside (now rows) e f g h ⌝ }
+    requires { ⌜ (places .count ≤ 8) × (i < 2047) ⌝ }
+    ensures { λ r. ⌜ r ≡ keptTo (eightAt (now (rows .entry)) a b c d e f g h) x i places 40 ⌝ }
+{
+    let mut p = places;
+    let mut l: usize = 0;
+    while l < BLOCK {
+        p = keep_if(p, eight(rows, a, b, c, d, e, f, g, h, l), x, i + l);
+        l += 1;
+    }
+    p
+}
+
+// The same for the rows of a polynomial; few blocks have such a place.
+fn block(rows: &[u16], s: TermRows, x: u16, places: Places, i: usize) -> Places
+    requires { ⌜ (length (now rows) ≡ 18784) × (places .count ≤ 8) × (i < 2047) ⌝ }
+    requires { ⌜ ((k : ℕ) → at (s .bases) k ≤ 16696) × ((k : ℕ) → at (s .starts) k < 2047) ⌝ }
+    ensures { λ r. ⌜ r ≡ keptTo (rowsSum (now (rows .entry)) (s .bases) (s .starts) i) x i places 40 ⌝ }
+{
+    let a = position(s, i, 0);
+    let b = position(s, i, 1);
+    let c = position(s, i, 2);
+    let d = position(s, i, 3);
+    let e = position(s, i, 4);
+    let f = position(s, i, 5);
+    let g = position(s, i, 6);
+    let h = position(s, i, 7);
+    if any(rows, a, b, c, d, e, f, g, h, x) == 0 {
+        return places;
+    }
+    kept_of(rows, a, b, c, d, e, f, g, h, x, places, i)
+}
+
+// The same as `roots`, block by block.
+fn scanned(
+    exp: &[u16],
+    log: &[u16],
+    rows: &[u16],
+    polynomial: [u16; COEFFICIENTS],
+    n: usize,
+) -> Places
+    requires { ⌜ Tables (now exp) (now log) ⌝ }
+    requires { ⌜ RowsFor (now exp) (now log) polynomial n (now rows) ⌝ }
+    ensures { λ r. ⌜ Roots (now (exp .entry)) (now (log .entry)) polynomial n n (r .at) (r .count) ⌝ }
+{
+    let s = rows_of(log, polynomial, n);
+    let x = polynomial[COEFFICIENTS - 1];
+    let mut p = Places {
+        at: [0u16; RADIUS],
+        count: 0,
+    };
+    let mut i: usize = 0;
+    while i < n {
+        p = block(rows, s, x, p, i);
+        i += BLOCK;
+    }
+    p
+}
+
+// The same as `roots`. A polynomial of degree at most 1 needs no rows.
+fn roots_by_rows(
+    exp: &[u16],
+    log: &[u16],
+    rows: &mut [u16],
+    polynomial: [u16; COEFFICIENTS],
+    n: usize,
+) -> Places
+    requires { ⌜ Tables (now exp) (now log) ⌝ }
+    requires { ⌜ (n ≤ length (now exp)) × (n < 65536) × (n % 40 ≡ 0) × (length (now exp) ≡ 2047) ⌝ }
+    requires { ⌜ ((k : ℕ) → at polynomial k < length (now log)) ⌝ }
+    requires { ⌜ Rows (now exp) (now rows) ⌝ }
+    ensures { λ r. ⌜ Roots (now (exp .entry)) (now (log .entry)) polynomial n n (r .at) (r .count) ⌝ }
+    ensures { λ _. ⌜ Rows (now (exp .entry)) (now (rows .exit)) ⌝ }
+{
+    let z = leading_zeros(polynomial);
+    if COEFFICIENTS - 2 <= z {
+        return roots(exp, log, polynomial, n);
+    }
+    need_rows(exp, rows, RADIUS - z);
+    scanned(exp, log, rows, polynomial, n)
+}
+
 // The powers of x are filtered out of the sequence t.
 fn filtered(exp: &[u16], log: &[u16], x: u16, t: [u16; SYNDROMES]) -> [u16; SYNDROMES]
     ensures { λ r. ⌜ r ≡ filtered (now (exp .entry)) (now (log .entry)) x t ⌝ }
@@ -484,14 +790,6 @@ fn valued(exp: &[u16], log: &[u16], n: usize, t: [u16; SYNDROMES], places: Place
     e
 }
 
-// e + d, counted modulo n.
-fn plus(n: usize, e: usize, d: usize) -> usize
-    requires { ⌜ (e < n) × (d < n) × (n ≤ 65536) ⌝ }
-    ensures { λ r. ⌜ r ≡ (e + d) % n ⌝ }
-{
-    if e + d < n { e + d } else { e + d - n }
-}
-
 // The syndromes t, with those of the error a^e at the locator a^e taken away.
 fn less_powers(exp: &[u16], e: usize, t: [u16; SYNDROMES]) -> [u16; SYNDROMES]
     requires { ⌜ (e < length (now exp)) × (length (now exp) ≤ 65536) ⌝ }
@@ -580,6 +878,25 @@ pub fn decode_bits(exp: &[u16], log: &[u16], t: [u16; SYNDROMES], n: usize) -> E
 {
     let polynomial = annihilator(exp, log, t);
     let places = roots(exp, log, polynomial, n);
+    bits_valued(exp, log, n, t, places)
+}
+
+// The same by rows of powers, which the caller lends from word to word.
+pub fn decode_bits_by_rows(
+    exp: &[u16],
+    log: &[u16],
+    rows: &mut [u16],
+    t: [u16; SYNDROMES],
+    n: usize,
+) -> Errors
+    requires { ⌜ Tables (now exp) (now log) ⌝ }
+    requires { ⌜ (n ≤ length (now exp)) × (n < 65536) × (n % 40 ≡ 0) × (length (now exp) ≡ 2047) ⌝ }
+    requires { ⌜ Rows (now exp) (now rows) ⌝ }
+    ensures { λ r. ⌜ Decoded (now (exp .entry)) (now (log .entry)) t n (r .places .at) (r .values) (r .places .count) (r .left) ⌝ }
+    ensures { λ _. ⌜ Rows (now (exp .entry)) (now (rows .exit)) ⌝ }
+{
+    let polynomial = annihilator(exp, log, t);
+    let places = roots_by_rows(exp, log, rows, polynomial, n);
     bits_valued(exp, log, n, t, places)
 }
 

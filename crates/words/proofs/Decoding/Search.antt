@@ -185,7 +185,7 @@ module _ (es ls : List ℕ) (T : Tables es ls) where
 
     module _ (v : List ℕ) (elements : (k : ℕ) → at v k < length ls) where
       -- one coefficient more
-      value-more : (x d : ℕ) → d < 9 → valueAt O x (λ i. at v (9 - suc d + i)) (suc d) ≡ xor (valueAt O x (λ i. at v (9 - d + i)) d) (term x (at v (8 - d)) d)
+      pub value-more : (x d : ℕ) → d < 9 → valueAt O x (λ i. at v (9 - suc d + i)) (suc d) ≡ xor (valueAt O x (λ i. at v (9 - d + i)) d) (term x (at v (8 - d)) d)
       unfolding timesPower
       value-more x d h =
           let q : 9 - suc d + 0 ≡ 8 - d = omega arith in

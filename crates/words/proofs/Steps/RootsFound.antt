@@ -56,7 +56,7 @@ module _ (i : ℕ) (p : Places) where
   unfolding kept
   kept-new h = rw (lt-ltb (p .count) 8 h)
 
-  kept-long : length (p .at) ≡ 8 → length (kept i p .at) ≡ 8
+  pub kept-long : length (p .at) ≡ 8 → length (kept i p .at) ≡ 8
   unfolding kept
   kept-long long = go (ltb (p .count) 8)
     where
@@ -75,7 +75,7 @@ unfolding backwards
 backwards-set l c i zero h = refl
 backwards-set l c i (suc k) h = ap₂ (λ (a : ℕ) (r : List ℕ). a ∷ r) (getD-set-other l c k i 0 (λ e. omega arith)) (backwards-set l c i k (omega arith))
 
-roots-none : (es ls v : List ℕ) (n : ℕ) (places : List ℕ) → Roots es ls v n 0 places 0
+pub roots-none : (es ls v : List ℕ) (n : ℕ) (places : List ℕ) → Roots es ls v n 0 places 0
 unfolding backwards rootPlaces
 roots-none es ls v n places =
     record { few = omega arith; below = λ k h. absurd (not-suc-le-zero h); ascending = λ k l h b. absurd (not-suc-le-zero b); all = λ h. refl }
@@ -124,7 +124,7 @@ module _ (es ls v : List ℕ) (n i : ℕ) (p : Places) (so-far : Roots es ls v n
       ascending′ k l h b (yes y) = rw (before k (omega arith), before l y) (so-far .ascending k l h y)
       ascending′ k l h b (no y) = rw (before k (omega arith), after l b y) (so-far .below k (omega arith))
 
-  roots-kept : length (p .at) ≡ 8 → RootAt es ls v n i → Roots es ls v n (suc i) (kept i p .at) (kept i p .count)
+  pub roots-kept : length (p .at) ≡ 8 → RootAt es ls v n i → Roots es ls v n (suc i) (kept i p .at) (kept i p .count)
   unfolding rootPlaces
   roots-kept long z = go (decLt (p .count) 8)
     where
@@ -135,7 +135,7 @@ module _ (es ls v : List ℕ) (n i : ℕ) (p : Places) (so-far : Roots es ls v n
           let b : suc (length (rootPlaces es ls v n i)) ≤ 8 = rw (eq-eqb (lentValue es ls v (locator es n i)) 0 z) at h in
           omega (arith, backwards-length (p .at) (p .count), ap length (so-far .all (omega arith))))))
 
-  roots-other : ¬ RootAt es ls v n i → Roots es ls v n (suc i) (p .at) (p .count)
+  pub roots-other : ¬ RootAt es ls v n i → Roots es ls v n (suc i) (p .at) (p .count)
   unfolding rootPlaces
   roots-other z = stays (λ h. rw (ne-eqb (lentValue es ls v (locator es n i)) 0 z))
 

@@ -40,6 +40,18 @@ powerRow es ls t d = tabulate 17 (λ i. cond (ltb i 8) (tableProduct es ls 1 (at
 unfoldable pub plusScaled : List ℕ → List ℕ → List ℕ → ℕ → List ℕ → List ℕ
 plusScaled es ls u c v = tabulate 17 (λ i. xor (at u i) (tableProduct es ls c (at v i)))
 
+-- r is u plus c times v in the cells from `from` to below `to`, and u in the others
+pub record PlusPart (es ls u : List ℕ) (c : ℕ) (v : List ℕ) (from to : ℕ) (r : List ℕ) : Type 0 where
+  pub long : length r ≡ 17
+  pub before : (k : ℕ) → k < from → at r k ≡ at u k
+  pub added : (k : ℕ) → from ≤ k → k < to → at r k ≡ xor (at u k) (tableProduct es ls c (at v k))
+  pub after : (k : ℕ) → to ≤ k → at r k ≡ at u k
+
+-- a row whose cells before cell j are zero, and so are its coefficients before cell `top`
+pub record Zeros (v : List ℕ) (j top : ℕ) : Type 0 where
+  pub before : (k : ℕ) → k < j → at v k ≡ 0
+  pub above : (k : ℕ) → 8 ≤ k → k < top → at v k ≡ 0
+
 -- u with cell j made zero by the pivot v, where cell j of v is not zero; u itself, where v is zero
 unfoldable pub cleared : List ℕ → List ℕ → List ℕ → List ℕ → ℕ → List ℕ
 cleared es ls u v j = plusScaled es ls u (tableProduct es ls (at u j) (tableInverse es ls (at v j))) v

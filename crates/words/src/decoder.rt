@@ -22,7 +22,7 @@ ghost use Rattle.fields.specs.Elements.{xor};
 ghost use Rattle.fields.specs.ByTables.{tableProduct};
 ghost use Rattle.words.specs.Places.{at, differs};
 ghost use Rattle.words.specs.Decoder.{Tables, locator, Decoded, weightOf};
-ghost use Rattle.words.specs.DecoderSteps.{Annihilates, powerRow, plusScaled, cleared, reduced, FirstNonzero, kept, Roots, withTerm, termsTo, lessModulo, Exponents, powersTo, lowered, FirstRoot, quotientOf, filtered, errorValue, lessError, resolved, Located, lessPowers, flipped, flippedTo};
+ghost use Rattle.words.specs.DecoderSteps.{Annihilates, powerRow, PlusPart, Zeros, cleared, cellsOf, reduced, FirstNonzero, kept, Roots, withTerm, termsTo, lessModulo, Exponents, powersTo, lowered, FirstRoot, quotientOf, filtered, errorValue, lessError, resolved, Located, lessPowers, flipped, flippedTo};
 ghost use Rattle.words.specs.RowSearch.{Rows, reciprocals, rowBase, rowStart, rowBases, rowStarts, rowPosition, Inside, fourAt, eightAt, rowsSum, keptTo, RowsFor};
 
 // Errors in up to so many places are found.
@@ -55,38 +55,44 @@ fn power_row(exp: &[u16], log: &[u16], t: [u16; SYNDROMES], d: usize) -> Row
     Row { cells }
 }
 
-// u plus c times v.
-fn plus_scaled(exp: &[u16], log: &[u16], u: Row, c: u16, v: Row) -> Row
-    ensures { λ r. ⌜ r .cells ≡ plusScaled (now (exp .entry)) (now (log .entry)) (u .cells) c (v .cells) ⌝ }
+// u plus c times v, in the cells from `from` to below `to`.
+fn plus_scaled(exp: &[u16], log: &[u16], u: Row, c: u16, v: Row, from: usize, to: usize) -> Row
+    requires { ⌜ (from ≤ to) × (to ≤ 17) ⌝ }
+    ensures { λ r. ⌜ PlusPart (now (exp .entry)) (now (log .entry)) (u .cells) c (v .cells) from to (r .cells) ⌝ }
 {
-    let mut cells = [0u16; CELLS];
-    let mut i: usize = 0;
-    while i < CELLS {
-        cells[i] = reed_solomon::sum(u.cells[i], fields::product(exp, log, c, v.cells[i]));
+    let mut cells = u.cells;
+    let mut i = from;
+    while i < to {
+        cells[i] = reed_solomon::sum(cells[i], fields::product(exp, log, c, v.cells[i]));
         i += 1;
     }
     Row { cells }
 }
 
-// Cell j of u is made zero by the pivot v of that cell. A pivot that is missing is all zero and changes nothing, and so does one of a cell that is zero.
-fn cleared(exp: &[u16], log: &[u16], u: Row, v: Row, j: usize) -> Row
-    requires { ⌜ j < 8 ⌝ }
+// Cell j of u is made zero by the pivot v of that cell, whose coefficients before cell `top` are zero. A pivot that is missing is all zero and changes
+// nothing, and so does one of a cell that is zero.
+fn cleared(exp: &[u16], log: &[u16], u: Row, v: Row, j: usize, top: usize) -> Row
+    requires { ⌜ (j < 8) × (8 ≤ top) × (top ≤ 17) ⌝ }
+    requires { ⌜ Zeros (v .cells) j top ⌝ }
     ensures { λ r. ⌜ r .cells ≡ cleared (now (exp .entry)) (now (log .entry)) (u .cells) (v .cells) j ⌝ }
 {
     let c = fields::product(exp, log, u.cells[j], fields::inverse(exp, log, v.cells[j]));
     if c == 0 {
         return u;
     }
-    plus_scaled(exp, log, u, c, v)
+    let row = plus_scaled(exp, log, u, c, v, j, RADIUS);
+    plus_scaled(exp, log, row, c, v, top, CELLS)
 }
 
-fn reduced(exp: &[u16], log: &[u16], u: Row, pivots: [Row; RADIUS]) -> Row
+fn reduced(exp: &[u16], log: &[u16], u: Row, pivots: [Row; RADIUS], top: usize) -> Row
+    requires { ⌜ (8 ≤ top) × (top ≤ 17) ⌝ }
+    requires { ⌜ ((j : ℕ) → j < 8 → Zeros (cellsOf pivots j) j top) ⌝ }
     ensures { λ r. ⌜ r .cells ≡ reduced (now (exp .entry)) (now (log .entry)) (u .cells) pivots 8 ⌝ }
 {
     let mut row = u;
     let mut j: usize = 0;
     while j < RADIUS {
-        row = cleared(exp, log, row, pivots[j], j);
+        row = cleared(exp, log, row, pivots[j], j, top);
         j += 1;
     }
     row
@@ -129,7 +135,7 @@ fn annihilator(exp: &[u16], log: &[u16], t: [u16; SYNDROMES]) -> [u16; COEFFICIE
     }; RADIUS];
     let mut d: usize = 0;
     while d < COEFFICIENTS {
-        let row = reduced(exp, log, power_row(exp, log, t, d), pivots);
+        let row = reduced(exp, log, power_row(exp, log, t, d), pivots, CELLS - d);
         let j = first_nonzero(row);
         if j == RADIUS {
             return coefficients(row);

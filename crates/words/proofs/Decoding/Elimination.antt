@@ -17,7 +17,7 @@ use Rattle.fields.proofs.Lists.{tabulate-at, tabulate-lt}
 use Rattle.words.specs.declared.decoder.Row.{Row}
 use Rattle.words.specs.Places.{at, sumTo, differs}
 use Rattle.words.specs.Decoder.{Tables}
-use Rattle.words.specs.DecoderSteps.{Annihilates, powerRow, plusScaled, cleared, noRow, cellsOf, reduced, FirstNonzero}
+use Rattle.words.specs.DecoderSteps.{Annihilates, powerRow, plusScaled, Zeros, cleared, noRow, cellsOf, reduced, FirstNonzero}
 use Rattle.words.proofs.Places.Counting.{differs-most, sum-most, sum-one-more}
 use Rattle.words.proofs.Places.Filling.{zeros-at}
 use Rattle.words.proofs.Algebra.Field.{Ops, Laws, add-self, add-zero, mul-comm, mul-assoc, mul-zero}
@@ -185,6 +185,9 @@ module _ (es ls t : List ℕ) where
             }
 
     module _ (d : ℕ) (pivots : List Row) (so-far : Pivots d pivots) where
+      pub pivots-zeros : d < 9 → (j : ℕ) → j < 8 → Zeros (cellsOf pivots j) j (17 - d)
+      pivots-zeros small j h = record { before = so-far .each j h .before; above = λ k lo hi. so-far .each j h .above k lo (omega arith) }
+
       -- there is no place for a ninth pivot
       pub pivots-end : (r : List ℕ) → 9 ≤ d → Annihilates es ls t r
       pivots-end r h =

@@ -1,14 +1,14 @@
 -- A step of each loop over the rows of the elimination. Assumes nothing.
-use mathlib.Core.Path.{_≡_, refl, sym, ap, _∙_}
-use mathlib.Core.Bool.{cond}
+use mathlib.Core.Path.{_≡_, refl, sym, ap, ap₂, _∙_}
+use mathlib.Core.Bool.{Bool, true, false, cond}
 use mathlib.Core.List.{List}
 use Prim.Native.Nat.{ℕ, _+_, _-_, _≤_, _<_, zero-le}
 use native.Mathlib.Decide.{ℕ-discrete, decLt}
-use native.Mathlib.Nat.{not-suc-le-zero}
+use native.Mathlib.Nat.{le-refl, not-suc-le-zero}
 use native.Mathlib.Numerals.{add-one}
 use native.Mathlib.Omega.{arith}
 use borrow.Author.Tests.{eq-eqb, ne-eqb, lt-ltb, le-ltb}
-use lib.Bits.{and-zero-l}
+use lib.Bits.{bitAnd, and-zero-l}
 use lib.Dec.{eqb, ltb}
 use lib.ListN.{length, getD, set, replicate, length-set}
 use lib.Seq.{getD-set-same, getD-set-other}
@@ -18,8 +18,8 @@ use Rattle.fields.proofs.Lists.{tabulate-is}
 use Rattle.fields.proofs.Xor.{xor-zero-r}
 use Rattle.words.specs.declared.decoder.Row.{Row}
 use Rattle.words.specs.Places.{at}
-use Rattle.words.specs.DecoderSteps.{powerRow, plusScaled, cleared, noRow, cellsOf, reduced, FirstNonzero}
-use Rattle.words.proofs.Places.Filling.{zeros-at, Filled, filled-next, filled-end}
+use Rattle.words.specs.DecoderSteps.{powerRow, plusScaled, PlusPart, Zeros, cleared, noRow, cellsOf, reduced, FirstNonzero}
+use Rattle.words.proofs.Places.Filling.{zeros-at}
 
 -- the first i cells are those of the row of x^d, the others zero
 pub record PowerRow (es ls t : List ℕ) (d i : ℕ) (cells : List ℕ) : Type 0 where
@@ -64,23 +64,50 @@ module _ (es ls t : List ℕ) (d : ℕ) where
             rw (le-ltb k 8 (omega arith), eq-eqb (k + d) 16 e, q) (getD-set-same cells k 1 0 (omega (arith, so-far .long)))
         go k b (no c) (no e) = rw (le-ltb k 8 (omega arith), ne-eqb (k + d) 16 e) (other k (λ q. e (omega arith)) ∙ so-far .rest k (omega arith))
 
--- cell i of u plus c times v
-unfoldable pub plusCell : List ℕ → List ℕ → List ℕ → ℕ → List ℕ → ℕ → ℕ
-plusCell es ls u c v i = xor (at u i) (tableProduct es ls c (at v i))
+-- u plus c times v, cell by cell
+module _ (es ls u v : List ℕ) (c from : ℕ) where
+  pub plus-none : length u ≡ 17 → PlusPart es ls u c v from from u
+  plus-none long = record { long = long; before = λ k h. refl; added = λ k h b. absurd (omega arith); after = λ k h. refl }
 
-module _ (es ls u v cells : List ℕ) (c i : ℕ) (so-far : Filled 17 (plusCell es ls u c v) i cells) where
-  pub plus-next : (p r : ℕ) → i < 17 → p ≡ tableProduct es ls c (getD v i 0) → r ≡ xor (getD u i 0) p → Filled 17 (plusCell es ls u c v) (i + 1) (set cells i r)
-  unfolding plusCell
-  plus-next p r l ep er = filled-next so-far l (rw ep at er)
+  module _ (i : ℕ) (cells : List ℕ) (so-far : PlusPart es ls u c v from i cells) where
+    pub plus-next : (p r : ℕ) → from ≤ i → i < 17 → p ≡ tableProduct es ls c (getD v i 0) → r ≡ xor (getD cells i 0) p → PlusPart es ls u c v from (i + 1) (set cells i r)
+    plus-next p r lo h ep er =
+        record {
+          long = length-set cells i r ∙ so-far .long;
+          before = λ k b. getD-set-other cells i k r 0 (λ q. omega arith) ∙ so-far .before k b;
+          added = λ k b l. go k b l (ℕ-discrete k i);
+          after = λ k b. getD-set-other cells i k r 0 (λ q. omega arith) ∙ so-far .after k (omega arith);
+        }
+      where
+        go : (k : ℕ) → from ≤ k → k < i + 1 → Dec (k ≡ i) → at (set cells i r) k ≡ xor (at u k) (tableProduct es ls c (at v k))
+        go k b l (yes q) = rw q (getD-set-same cells i r 0 (omega (arith, so-far .long)) ∙ er ∙ ap₂ xor (so-far .after i (le-refl i)) ep)
+        go k b l (no q) = getD-set-other cells i k r 0 q ∙ so-far .added k b (omega arith)
 
-  pub plus-end : 17 ≤ i → cells ≡ plusScaled es ls u c v
-  unfolding plusCell plusScaled
-  plus-end l = filled-end so-far l
+    pub plus-end : (to : ℕ) → i ≤ to → to ≤ i → PlusPart es ls u c v from to cells
+    plus-end to lo hi = let q : i ≡ to = omega arith in rw q at so-far
 
-pub cleared-is : (es ls u v r : List ℕ) (j i c : ℕ) → i ≡ tableInverse es ls (getD v j 0) → c ≡ tableProduct es ls (getD u j 0) i →
-    r ≡ plusScaled es ls u c v → r ≡ cleared es ls u v j
-unfolding cleared
-cleared-is es ls u v r j i c ei ec er = rw (← ei, ← ec) er
+product-zero : (es ls : List ℕ) (x : ℕ) → tableProduct es ls x 0 ≡ 0
+unfolding tableProduct productAt placeIn
+product-zero es ls x = rw (and-zero-l (length ls - 1)) (go (eqb (bitAnd x (length ls - 1)) 0))
+  where
+    go : (b : Bool) → _≡_ {A = ℕ} (cond b 0 0) 0
+    go true = refl
+    go false = refl
+
+-- v is added in its cells that may be other than zero
+pub cleared-is : (es ls u v p r : List ℕ) (j top i c : ℕ) → j < 8 → 8 ≤ top → Zeros v j top → i ≡ tableInverse es ls (getD v j 0) → c ≡ tableProduct es ls (getD u j 0) i →
+    PlusPart es ls u c v j 8 p → PlusPart es ls p c v top 17 r → r ≡ cleared es ls u v j
+unfolding cleared plusScaled
+cleared-is es ls u v p r j top i c h high Z ei ec low all = rw (← ei, ← ec) (tabulate-is 17 _ r 0 (all .long) (λ k l. go k l (decLt k j) (decLt k 8) (decLt k top)))
+  where
+    none : (k : ℕ) → at v k ≡ 0 → at u k ≡ xor (at u k) (tableProduct es ls c (at v k))
+    none k z = sym (ap (λ (y : ℕ). xor (at u k) (tableProduct es ls c y)) z ∙ ap (xor (at u k)) (product-zero es ls c) ∙ xor-zero-r (at u k))
+
+    go : (k : ℕ) → k < 17 → Dec (k < j) → Dec (k < 8) → Dec (k < top) → at r k ≡ xor (at u k) (tableProduct es ls c (at v k))
+    go k l (yes a) _ _ = all .before k (omega arith) ∙ low .before k a ∙ none k (Z .before k a)
+    go k l (no a) (yes b) _ = all .before k (omega arith) ∙ low .added k (omega arith) b
+    go k l (no a) (no b) (yes d) = all .before k d ∙ low .after k (omega arith) ∙ none k (Z .above k (omega arith) d)
+    go k l (no a) (no b) (no d) = all .added k (omega arith) l ∙ ap (λ (y : ℕ). xor y (tableProduct es ls c (at v k))) (low .after k (omega arith))
 
 -- a coefficient that is zero changes nothing
 zero-product : (es ls : List ℕ) (y : ℕ) → tableProduct es ls 0 y ≡ 0
@@ -101,6 +128,10 @@ module _ (es ls u : List ℕ) (pivots : List Row) (row : List ℕ) (j : ℕ) (so
   pub reduced-next : (r : List ℕ) → r ≡ cleared es ls row (getD pivots j noRow .cells) j → r ≡ reduced es ls u pivots (j + 1)
   unfolding reduced cellsOf
   reduced-next r e = rw (add-one, ← so-far) e
+
+  pub reduced-zeros : (top : ℕ) → ((k : ℕ) → k < 8 → Zeros (cellsOf pivots k) k top) → j < 8 → Zeros (getD pivots j noRow .cells) j top
+  unfolding cellsOf
+  reduced-zeros top each h = each j h
 
   pub reduced-end : j ≤ 8 → 8 ≤ j → row ≡ reduced es ls u pivots 8
   reduced-end l h = let e : j ≡ 8 = omega arith in rw e at so-far

@@ -1,7 +1,7 @@
 -- `words::decoder::annihilator` meets its contract. Assumes nothing.
 use Prim.Native.Nat.{_-_}
 use borrow.Author.Needs.{needs}
-use Rattle.words.proofs.Decoding.Elimination.{Pivots, pivots-start, pivots-end, row-annihilates, pivots-next}
+use Rattle.words.proofs.Decoding.Elimination.{Pivots, pivots-start, pivots-zeros, pivots-end, row-annihilates, pivots-next}
 use Rattle.words.proofs.decoder.annihilator.Statement.{statement}
 use Rattle.words.proofs.decoder.annihilator.Tie as tie
 
@@ -17,8 +17,11 @@ loop-holds c = search (needs, pivots-start)
 power-row-requires : tie.Need-power-row-requires Inv-loop μ-loop
 power-row-requires c κs = search needs
 
+sub-reduced : tie.Need-sub-reduced Inv-loop μ-loop
+sub-reduced c = search needs
+
 reduced-requires : tie.Need-reduced-requires Inv-loop μ-loop
-reduced-requires c κs = search needs
+reduced-requires c κs = search (needs, pivots-zeros)
 
 first-nonzero-requires : tie.Need-first-nonzero-requires Inv-loop μ-loop
 first-nonzero-requires c κs = search needs
@@ -55,6 +58,7 @@ annihilator-spec =
     μ-loop
     loop-holds
     power-row-requires
+    sub-reduced
     reduced-requires
     first-nonzero-requires
     coefficients-requires

@@ -28,6 +28,9 @@ returns c = search (needs, cleared-same)
 plus-scaled-requires : tie.Need-plus-scaled-requires
 plus-scaled-requires c κs = search needs
 
+plus-scaled-requires-2 : tie.Need-plus-scaled-requires-2
+plus-scaled-requires-2 c κs = search needs
+
 returns-2 : tie.Need-returns-2
 returns-2 c = search (needs, cleared-is)
 
@@ -43,4 +46,5 @@ cleared-spec =
     product-requires
     returns
     plus-scaled-requires
+    plus-scaled-requires-2
     returns-2)

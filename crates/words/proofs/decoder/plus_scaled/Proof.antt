@@ -1,25 +1,26 @@
 -- `words::decoder::plus_scaled` meets its contract. Assumes nothing.
-use Prim.Native.Nat.{_-_}
+use Prim.Native.Nat.{_-_, _≤_}
+use native.Mathlib.Omega.{arith}
 use borrow.Author.Needs.{needs}
-use Rattle.words.proofs.Places.Filling.{Filled, filled-start}
-use Rattle.words.proofs.Steps.Rows.{plusCell, plus-next, plus-end}
+use Rattle.words.specs.DecoderSteps.{PlusPart}
+use Rattle.words.proofs.Steps.Rows.{plus-none, plus-next, plus-end}
 use Rattle.words.proofs.decoder.plus_scaled.Statement.{statement}
 use Rattle.words.proofs.decoder.plus_scaled.Tie as tie
 
 abbrev Inv-loop : tie.InvT-loop
-Inv-loop exp log c u v cells₀ i₀ cells i = Filled 17 (plusCell exp log (u .cells) c (v .cells)) i cells
+Inv-loop exp log c from to v cells₀ i₀ cells i = (from ≤ i) × (i ≤ to) × PlusPart exp log cells₀ c (v .cells) from i cells
 
 abbrev μ-loop : tie.MeasureT-loop
-μ-loop exp log c u v cells₀ i₀ cells i = 17 - i
+μ-loop exp log c from to v cells₀ i₀ cells i = to - i
 
 loop-holds : tie.Need-loop-holds Inv-loop μ-loop
-loop-holds c = search (needs, filled-start)
+loop-holds c = search (needs, plus-none)
 
 mul-sum : tie.Need-mul-sum Inv-loop μ-loop
 mul-sum c = search needs
 
-element-copy-out-sum : tie.Need-element-copy-out-sum Inv-loop μ-loop
-element-copy-out-sum c = search needs
+array-read-sum : tie.Need-array-read-sum Inv-loop μ-loop
+array-read-sum c = search needs
 
 mul-product : tie.Need-mul-product Inv-loop μ-loop
 mul-product c = search needs
@@ -46,7 +47,7 @@ loop-less : tie.Need-loop-less Inv-loop μ-loop
 loop-less c = search needs
 
 loop-again : tie.Need-loop-again Inv-loop μ-loop
-loop-again c = search (needs, plus-next)
+loop-again c = (omega arith, omega arith, plus-next _ _ _ _ _ _ _ _ (c .before .before .before .before .loop .inv .2) _ _ (omega arith) (omega arith) (c .before .product .ensures .0) (c .sum .ensures))
 
 returns : tie.Need-returns Inv-loop μ-loop
 returns c = search (needs, plus-end)
@@ -59,7 +60,7 @@ plus-scaled-spec =
     μ-loop
     loop-holds
     mul-sum
-    element-copy-out-sum
+    array-read-sum
     mul-product
     element-copy-out-product
     product-requires

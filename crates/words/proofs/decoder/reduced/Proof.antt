@@ -3,15 +3,15 @@ use mathlib.Core.Path.{_≡_}
 use Prim.Native.Nat.{_-_, _≤_}
 use borrow.Author.Needs.{needs}
 use Rattle.words.specs.DecoderSteps.{reduced}
-use Rattle.words.proofs.Steps.Rows.{reduced-none, reduced-next, reduced-end}
+use Rattle.words.proofs.Steps.Rows.{reduced-none, reduced-zeros, reduced-next, reduced-end}
 use Rattle.words.proofs.decoder.reduced.Statement.{statement}
 use Rattle.words.proofs.decoder.reduced.Tie as tie
 
 abbrev Inv-loop : tie.InvT-loop
-Inv-loop exp log pivots row₀ j₀ row j = (j ≤ 8) × (row .cells ≡ reduced exp log (row₀ .cells) pivots j)
+Inv-loop exp log top pivots row₀ j₀ row j = (j ≤ 8) × (row .cells ≡ reduced exp log (row₀ .cells) pivots j)
 
 abbrev μ-loop : tie.MeasureT-loop
-μ-loop exp log pivots row₀ j₀ row j = 8 - j
+μ-loop exp log top pivots row₀ j₀ row j = 8 - j
 
 loop-holds : tie.Need-loop-holds Inv-loop μ-loop
 loop-holds c = search (needs, reduced-none)
@@ -23,7 +23,7 @@ array-copy-out-cleared : tie.Need-array-copy-out-cleared Inv-loop μ-loop
 array-copy-out-cleared c = search needs
 
 cleared-requires : tie.Need-cleared-requires Inv-loop μ-loop
-cleared-requires c κs = search needs
+cleared-requires c κs = search (needs, reduced-zeros)
 
 add-j : tie.Need-add-j Inv-loop μ-loop
 add-j c = search needs

@@ -1,15 +1,14 @@
 -- Groups of 40 bits, four symbols or five bytes: made into a number, and stored part by part. Assumes nothing.
 use mathlib.Core.Path.{_≡_, refl, sym, ap, ap₂, _∙_}
 use mathlib.Core.List.{List, [], _∷_}
-use Prim.Native.Nat.{ℕ, suc, _+_, _-_, _*_, _/_, _%_, _^_, _≤_, _<_}
+use Prim.Native.Nat.{ℕ, _+_, _-_, _*_, _/_, _%_, _^_, _≤_, _<_}
 use native.Mathlib.Nat.{add-mul, add-zero, mul-add, mul-assoc, mul-le-mul-left, mul-zero}
 use native.Mathlib.Omega.{arith}
 use lib.Bits.{bitAnd, bitOr, and-mask, mask-lt, or-shifted}
 use lib.Dec.{lit<, lit≤}
 use lib.ListN.{length, getD, set}
 use lib.Pow.{pow-add, shl-exact, shl-lt}
-use mir.Facts.{fits-widen}
-use mir.Syntax.{w8, w16, w64}
+use mir.Syntax.{w8, w64}
 use mir.Val.{Fits}
 use Rattle.fields.specs.Lists.{tabulate}
 use Rattle.fields.proofs.Lists.{tabulate-at, tabulate-append, tabulate-length, tabulate-same}
@@ -50,9 +49,6 @@ module _ (w n : ℕ) (bits digit : ℕ → ℕ) (small : (m : ℕ) → digit m <
   last-digit m e = ap (λ (y : ℕ). bitOr y (digit m)) e ∙ or-shifted (numberOf (n * m) bits) n (digit m) (small m) ∙ digits-and m
 
 -- ---- two bytes, and a symbol in them
-
-pub byte-fits : {x : ℕ} → Fits w8 x → Fits w16 x
-byte-fits h = fits-widen tt h
 
 module _ (bytes : List ℕ) (p : ℕ) (fits : (i : ℕ) → Fits w8 (getD bytes i 0)) where
   abbrev byte : ℕ → ℕ
@@ -146,8 +142,9 @@ pub parts-at : (n m : ℕ) (b : ℕ → ℕ) (i s : ℕ) → s < m → at (parts
 unfolding partsOf
 parts-at n m b i s l = tabulate-at m _ s 0 l
 
-pub byte-cut : (x : ℕ) → Fits w8 (bitAnd x 255)
-byte-cut x = record { fits = omega (arith, and-mask x 8) }
+pub parts-end : (n m : ℕ) (b : ℕ → ℕ) (i : ℕ) {t s : ℕ} {before row : List ℕ} → Placing t (partsOf n m b i) s before row → m ≤ s →
+    Placed t (partsOf n m b i) before row
+parts-end n m b i p l = placing-end p (omega (arith, parts-length n m b i))
 
 -- one part more
 module _ (n m : ℕ) (x t : ℕ) (before : List ℕ) (room : t + m ≤ length before) where
@@ -200,7 +197,7 @@ module _ (n g w : ℕ) (whole : n * g ≡ w) (b : ℕ → ℕ) where
 
 pub groups-end : (n g : ℕ) (b : ℕ → ℕ) (i : ℕ) {t m q : ℕ} {before row : List ℕ} → Placing t (partsOf n (g * m) b i) (g * q) before row → m ≤ q →
     Placed t (partsOf n (g * m) b i) before row
-groups-end n g b i {t} {m} {q} p l = placing-end p (omega (arith, parts-length n (g * m) b i, mul-le-mul-left g l))
+groups-end n g b i {t} {m} {q} p l = parts-end n (g * m) b i p (mul-le-mul-left g l)
 
 pub bytes-next : (symbols : List ℕ) (t : ℕ) {k m q x : ℕ} {before out after : List ℕ} →
     Placing k (partsOf 8 (5 * m) (symbolBit (at symbols)) (10 * t)) (5 * q) before out → q < m → x ≡ numberAt 40 (symbolBit (at symbols)) (10 * (t + 4 * q)) →
@@ -251,10 +248,6 @@ unfolding symbolAt numberAt
 each-next bytes i {t} {n} {s} p l room e =
     placing-next p (omega (arith, parts-length 10 n (bitAt bytes) i)) (omega (arith, parts-length 10 n (bitAt bytes) i))
     (e ∙ sym (parts-at 10 n (bitAt bytes) i s l))
-
-pub each-end : (n m : ℕ) (b : ℕ → ℕ) (i : ℕ) {t s : ℕ} {before row : List ℕ} → Placing t (partsOf n m b i) s before row → m ≤ s →
-    Placed t (partsOf n m b i) before row
-each-end n m b i p l = placing-end p (omega (arith, parts-length n m b i))
 
 -- numbers after numbers
 parts-append : (n m k : ℕ) (b : ℕ → ℕ) (i : ℕ) {t : ℕ} {before mid after : List ℕ} → Placed t (partsOf n m b i) before mid →

@@ -13,6 +13,11 @@ const TEN_BITS: u32 = 1023;
 
 const EIGHT_BITS: u32 = 255;
 
+// The same of a symbol, and of a group.
+const SYMBOL_MASK: u16 = 1023;
+
+const BYTE_MASK: u64 = 255;
+
 // The byte at place k; 0 past the end.
 fn byte(bytes: &[u8], k: usize) -> u32
     ensures { λ r. ⌜ (r ≡ at (now (bytes .entry)) k) × (r < 256) ⌝ }
@@ -63,7 +68,7 @@ fn symbol_in(bytes: &[u8], k: usize, j: usize) -> u16
     requires { ⌜ (k + 2 ≤ length (now bytes)) × (j ≤ 6) ⌝ }
     ensures { λ r. ⌜ r ≡ numberAt 10 (bitAt (now (bytes .entry))) (8 * k + j) ⌝ }
 {
-    (two_bytes(bytes, k) >> (6 - j)) & 1023
+    (two_bytes(bytes, k) >> (6 - j)) & SYMBOL_MASK
 }
 
 // The eight symbols of ten bytes, from byte k on.
@@ -138,7 +143,7 @@ pub fn write_from_byte(bytes: &[u8], k: usize, n: usize, row: &mut [u16], t: usi
     );
 }
 
-// The same from bit i on: one by one up to the symbol that begins with a byte.
+// The same from bit i on: one by one up to the symbol that begins with a byte. Each begins two bits further in its byte than the one before.
 pub fn write_from_bit(bytes: &[u8], i: usize, n: usize, row: &mut [u16], t: usize)
     requires { ⌜ (length (now bytes) ≤ 16320) × (i + 10 * n ≤ 8 * length (now bytes) + 2) × (i % 2 ≡ 0) × (3 ≤ n) × (t + n ≤ length (now row)) ⌝ }
     ensures { λ _. ⌜ Placed t (partsOf 10 n (bitAt (now (bytes .entry))) i) (now (row .entry)) (now (row .exit)) ⌝ }
@@ -154,7 +159,7 @@ pub fn write_from_bit(bytes: &[u8], i: usize, n: usize, row: &mut [u16], t: usiz
     );
 }
 
-// Four symbols are five bytes.
+// A group: four symbols are five bytes.
 pub const GROUP: usize = 4;
 
 pub const GROUP_BYTES: usize = 5;
@@ -164,10 +169,10 @@ fn four_symbols(row: &[u16], t: usize) -> u64
     requires { ⌜ t + 4 ≤ length (now row) ⌝ }
     ensures { λ r. ⌜ r ≡ numberAt 40 (symbolBit (at (now (row .entry)))) (10 * t) ⌝ }
 {
-    (((row[t] & 1023) as u64) << 30)
-        | (((row[t + 1] & 1023) as u64) << 20)
-        | (((row[t + 2] & 1023) as u64) << 10)
-        | ((row[t + 3] & 1023) as u64)
+    (((row[t] & SYMBOL_MASK) as u64) << 30)
+        | (((row[t + 1] & SYMBOL_MASK) as u64) << 20)
+        | (((row[t + 2] & SYMBOL_MASK) as u64) << 10)
+        | ((row[t + 3] & SYMBOL_MASK) as u64)
 }
 
 // Writes the five bytes of 40 bits into the buffer from byte k on.
@@ -175,14 +180,14 @@ fn put_bytes(x: u64, out: &mut [u8], k: usize)
     requires { ⌜ k + 5 ≤ length (now out) ⌝ }
     ensures { λ _. ⌜ Placed k (partsOf 8 5 (bitOf 40 x) 0) (now (out .entry)) (now (out .exit)) ⌝ }
 {
-    out[k] = ((x >> 32) & 255) as u8;
-    out[k + 1] = ((x >> 24) & 255) as u8;
-    out[k + 2] = ((x >> 16) & 255) as u8;
-    out[k + 3] = ((x >> 8) & 255) as u8;
-    out[k + 4] = (x & 255) as u8;
+    out[k] = ((x >> 32) & BYTE_MASK) as u8;
+    out[k + 1] = ((x >> 24) & BYTE_MASK) as u8;
+    out[k + 2] = ((x >> 16) & BYTE_MASK) as u8;
+    out[k + 3] = ((x >> 8) & BYTE_MASK) as u8;
+    out[k + 4] = (x & BYTE_MASK) as u8;
 }
 
-// Writes the bytes of n groups of symbols, those of the row from place t on, into the buffer from byte k on.
+// Writes the bytes of n groups of four symbols, those of the row from place t on, into the buffer from byte k on.
 pub fn write_bytes(row: &[u16], t: usize, n: usize, out: &mut [u8], k: usize)
     requires { ⌜ (t + 4 * n ≤ length (now row)) × (k + 5 * n ≤ length (now out)) ⌝ }
     ensures { λ _. ⌜ Placed k (partsOf 8 (5 * n) (symbolBit (at (now (row .entry)))) (10 * t)) (now (out .entry)) (now (out .exit)) ⌝ }

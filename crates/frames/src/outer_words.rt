@@ -283,7 +283,7 @@ fn extract_each(row: &[u16], k: usize, n: usize, out: &mut [u8])
     }
 }
 
-// Writes the payload bytes of outer word w: those of the four symbols that begin before it, if it does not begin four, and then by groups.
+// Writes the payload bytes that end with outer word w: one by one those of a group that begins in the word before, the others by groups.
 fn extract_word(row: &[u16], w: usize, out: &mut [u8])
     requires { ⌜ (w < 16) × (length (now row) ≡ 12496) × (length (now out) ≡ 15296) ⌝ }
     ensures { λ _. ⌜ Placed (startOf w) (payloadPart (now (row .entry)) (startOf w) (endOf w - startOf w)) (now (out .entry)) (now (out .exit)) ⌝ }
@@ -302,7 +302,7 @@ fn extract_word(row: &[u16], w: usize, out: &mut [u8])
     );
 }
 
-// Writes the payload in the row. The last byte is in no four symbols of the payload alone.
+// Writes the payload in the row. The last byte belongs to the group that the row's last data symbol begins.
 pub fn extract(row: &[u16], out: &mut [u8])
     requires { ⌜ (length (now row) ≡ 12496) × (length (now out) ≡ 15296) ⌝ }
     ensures { λ _. ⌜ now (out .exit) ≡ payloadInRow (now (row .entry)) ⌝ }

@@ -1,6 +1,7 @@
 -- `frames::bits::two_bytes` meets its contract. Assumes nothing.
 use borrow.Author.Needs.{needs}
-use Rattle.frames.proofs.Groups.{byte-fits, two-made}
+use mir.Facts.{fits-widen}
+use Rattle.frames.proofs.Groups.{two-made}
 use Rattle.frames.proofs.bits.two_bytes.Statement.{statement}
 use Rattle.frames.proofs.bits.two_bytes.Tie as tie
 
@@ -8,7 +9,7 @@ shared-slice-read-result : tie.Need-shared-slice-read-result
 shared-slice-read-result c = search needs
 
 cast-result : tie.Need-cast-result
-cast-result c = byte-fits (c .shared-slice-known .given _)
+cast-result c = fits-widen tt (c .shared-slice-known .given _)
 
 add-result : tie.Need-add-result
 add-result c = search needs
@@ -17,7 +18,7 @@ shared-slice-read-result-2 : tie.Need-shared-slice-read-result-2
 shared-slice-read-result-2 c = search needs
 
 cast-result-2 : tie.Need-cast-result-2
-cast-result-2 c = byte-fits (c .shared-slice-known2 .given _)
+cast-result-2 c = fits-widen tt (c .shared-slice-known2 .given _)
 
 returns : tie.Need-returns
 returns c = two-made _ _ (c .shared-slice-known2 .given)

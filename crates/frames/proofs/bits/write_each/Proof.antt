@@ -4,7 +4,7 @@ use borrow.Author.Needs.{needs}
 use Rattle.words.specs.Places.{bitAt}
 use Rattle.frames.specs.Symbols.{partsOf}
 use Rattle.frames.proofs.Placing.{Placing, placing-start}
-use Rattle.frames.proofs.Groups.{each-next, each-end}
+use Rattle.frames.proofs.Groups.{each-next, parts-end}
 use Rattle.frames.proofs.bits.write_each.Statement.{statement}
 use Rattle.frames.proofs.bits.write_each.Tie as tie
 
@@ -48,7 +48,7 @@ same-length : tie.Need-same-length Inv-loop μ-loop
 same-length c = search needs
 
 returns : tie.Need-returns Inv-loop μ-loop
-returns c = search (needs, each-end)
+returns c = search (needs, parts-end)
 
 pub write-each-spec : {M : Type 1} → statement M
 write-each-spec =

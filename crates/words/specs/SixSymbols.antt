@@ -1,9 +1,7 @@
 -- Symbols of ten bits packed six in a number, and the table by which a word is divided by the generator six symbols at a step.
 use mathlib.Core.Path.{_≡_}
-use mathlib.Core.Bool.{Bool, _&&_}
 use mathlib.Core.List.{List}
 use Prim.Native.Nat.{ℕ, zero, suc, _+_, _-_, _*_, _/_, _%_, _^_, _<_}
-use lib.Dec.{eqb}
 use lib.ListN.{length}
 use Rattle.fields.specs.Lists.{tabulate}
 use Rattle.fields.specs.Elements.{timesA}
@@ -30,7 +28,7 @@ pub record Packs (high middle low : ℕ) (cells : List ℕ) : Type 0 where
   pub middle-six : middle ≡ six cells 6
   pub low-six : low ≡ six cells 12
 
--- number k of the three; the sixteen cells that they are; and the sixteen symbols of a word from place i on are these numbers
+-- number k of the three; and the sixteen cells that they are
 unfoldable pub numberAt : ℕ → ℕ → ℕ → ℕ → ℕ
 numberAt high middle low zero = high
 numberAt high middle low (suc zero) = middle
@@ -38,9 +36,6 @@ numberAt high middle low (suc (suc k)) = low
 
 unfoldable pub unpacked : ℕ → ℕ → ℕ → List ℕ
 unpacked high middle low = tabulate 16 (λ i. symbolOf (numberAt high middle low (i / 6)) (i % 6))
-
-unfoldable pub endsPacked : List ℕ → ℕ → ℕ → ℕ → ℕ → Bool
-endsPacked w i high middle low = eqb (joinedFrom w i 6) high && (eqb (joinedFrom w (i + 6) 6) middle && eqb (joinedFrom w (i + 12) 6) low)
 
 -- the parity of six symbols in a number
 unfoldable pub sixParity : ℕ → List ℕ

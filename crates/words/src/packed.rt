@@ -3,7 +3,6 @@
 // of the parities of ten digits of six bits, and these stand in a table that is made once.
 use crate::Outer;
 use crate::reed_solomon;
-use crate::reed_solomon::sum;
 ghost use mathlib.Core.Path.{_≡_};
 ghost use mathlib.Core.Bool.{true};
 ghost use Prim.Native.Nat.{_+_, _*_, _/_, _%_, _^_, _≤_, _<_};
@@ -13,7 +12,7 @@ ghost use Rattle.words.specs.Places.{at, allBelow};
 ghost use Rattle.words.specs.OuterCode.{isOuter, outerParity};
 ghost use Rattle.words.specs.ByTables.{rootValues};
 ghost use Rattle.words.specs.Division.{outerRemainder};
-ghost use Rattle.words.specs.SixSymbols.{joinedFrom, symbolOf, six, Packs, numberAt, unpacked, endsPacked, sixParity, parityEntry, parities, unitParities, Stored};
+ghost use Rattle.words.specs.SixSymbols.{joinedFrom, symbolOf, six, Packs, numberAt, unpacked, sixParity, parityEntry, parities, unitParities, Stored};
 
 // So many symbols are taken at a step.
 const SYMBOLS: usize = 6;
@@ -436,43 +435,31 @@ pub fn parity(table: &[u64], data: &[u16]) -> [u16; Outer::PARITY]
     unpacked(divide(table, data))
 }
 
-// The sixteen symbols of the word from place `from` on are the cells of the register.
-fn ends_with(word: &[u16], from: usize, p: Packed) -> bool
-    requires { ⌜ (from + 16 ≡ length (now word)) × (allBelow 1024 (now word) ≡ true) ⌝ }
-    ensures { λ r. ⌜ r ≡ endsPacked (now (word .entry)) from (p .high) (p .middle) (p .low) ⌝ }
+// The remainder of a word after division by the generator: the parity of all but the last sixteen symbols, and these, added.
+fn remainder(table: &[u64], word: &[u16]) -> Packed
+    requires { ⌜ (now table ≡ parities) × (16 ≤ length (now word)) × (allBelow 1024 (now word) ≡ true) ⌝ }
+    ensures { λ r. ⌜ Packs (r .high) (r .middle) (r .low) (outerRemainder (now (word .entry))) ⌝ }
 {
-    if join(word, from, SYMBOLS) != p.high {
-        return false;
+    let from = word.len() - Outer::PARITY;
+    let p = divide(table, &word[0..from]);
+    Packed {
+        high: plus(p.high, join(word, from, SYMBOLS)),
+        middle: plus(p.middle, join(word, from + SYMBOLS, SYMBOLS)),
+        low: plus(
+            p.low,
+            join(word, from + 2 * SYMBOLS, LAST_SYMBOLS) << LAST_ZEROS,
+        ),
     }
-    if join(word, from + SYMBOLS, SYMBOLS) != p.middle {
-        return false;
-    }
-    join(word, from + 2 * SYMBOLS, LAST_SYMBOLS) << LAST_ZEROS == p.low
 }
 
-// Whether a word is a code word: its last sixteen symbols are the parity of the others.
+// Whether a word is a code word: its remainder is zero.
 pub fn is_code_word(table: &[u64], word: &[u16]) -> bool
     requires { ⌜ now table ≡ parities ⌝ }
     requires { ⌜ (16 ≤ length (now word)) × (length (now word) ≤ 1023) × (allBelow 1024 (now word) ≡ true) ⌝ }
     ensures { λ r. ⌜ r ≡ isOuter (now (word .entry)) ⌝ }
 {
-    let from = word.len() - Outer::PARITY;
-    ends_with(word, from, divide(table, &word[0..from]))
-}
-
-// The remainder of a word after division by the generator.
-fn remainder(table: &[u64], word: &[u16]) -> [u16; Outer::PARITY]
-    requires { ⌜ (now table ≡ parities) × (16 ≤ length (now word)) × (allBelow 1024 (now word) ≡ true) ⌝ }
-    ensures { λ r. ⌜ r ≡ outerRemainder (now (word .entry)) ⌝ }
-{
-    let from = word.len() - Outer::PARITY;
-    let mut cells = parity(table, &word[0..from]);
-    let mut i: usize = 0;
-    while i < Outer::PARITY {
-        cells[i] = sum(cells[i], word[from + i]);
-        i += 1;
-    }
-    cells
+    let p = remainder(table, word);
+    (p.high | p.middle | p.low) == 0
 }
 
 // The word's values at the sixteen roots: those of its remainder, since the generator vanishes there.
@@ -481,6 +468,6 @@ pub fn root_values(exp: &[u16], log: &[u16], word: &[u16]) -> [u16; Outer::PARIT
     ensures { λ r. ⌜ r ≡ rootValues (now (exp .entry)) (now (log .entry)) (now (word .entry)) ⌝ }
 {
     let table = table();
-    let rest = remainder(&table, word);
+    let rest = unpacked(remainder(&table, word));
     reed_solomon::root_values(exp, log, &rest)
 }

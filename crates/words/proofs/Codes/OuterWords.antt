@@ -1,5 +1,5 @@
 -- The outer code: what the test tells, parity symbols, and the minimum distance of 17. Assumes nothing.
-use mathlib.Core.Path.{_≡_, refl, sym, ap, _∙_}
+use mathlib.Core.Path.{_≡_, refl, sym, ap, ap₂, _∙_}
 use mathlib.Core.Bool.{true, and-eq-true-iff}
 use mathlib.Core.List.{List, _++_}
 use Prim.Native.Nat.{ℕ, _+_, _-_, _≤_, _<_}
@@ -7,13 +7,14 @@ use native.Mathlib.Nat.{zero-add}
 use native.Mathlib.Omega.{arith}
 use borrow.Author.Tests.{eq-eqb, eqb-true}
 use lib.Dec.{eqb, lit<}
-use lib.ListN.{length, take, drop, length-append, length-drop, take-append-drop, List·getD-append}
+use lib.ListN.{length, take, drop, length-append, length-drop, take-append-drop, List·getD-append, List·getD-eq-default}
 use lib.Seq.{drop-append-seam, ext-getD, getD-drop, getD-take, length-take-le}
 use Rattle.fields.specs.Elements.{xor, scale, doubled, timesFrom, times, power, timesA, powersA, exponentsA}
 use Rattle.fields.specs.Lists.{tabulate}
 use Rattle.fields.proofs.ByTables.{table-power}
 use Rattle.fields.proofs.Instances.{field-a}
 use Rattle.fields.proofs.Lists.{tabulate-at, tabulate-length, tabulate-lt, tabulate-same}
+use Rattle.fields.proofs.Xor.{xor-zero-r, xor-self, xor-cancel}
 use Rattle.words.specs.Places.{at, every, allBelow, horner, value, apart}
 use Rattle.words.specs.OuterCode.{powerA, outerValue, isOuter, withRoot, withRoots, generator, outerParity}
 use Rattle.words.specs.ByTables.{lentValue, rootValue, rootValues}
@@ -115,14 +116,14 @@ module _ (w : List ℕ) (n : ℕ) (long : length w ≡ n + 16) (short : n ≤ 10
   back-length : length back ≡ 16
   back-length = length-drop n w ∙ omega arith
 
-  pub ends-code : ((j : ℕ) → j < 16 → at w (n + j) ≡ at (outerParity front) j) → isOuter w ≡ true
+  ends-code : ((j : ℕ) → j < 16 → at w (n + j) ≡ at (outerParity front) j) → isOuter w ≡ true
   ends-code same =
       let p = outerParity front in
       let long-as : length back ≡ length p = back-length ∙ sym (outer-length front) in
       let e : back ≡ p = ext-getD 0 back p long-as (λ i l. getD-drop n w i 0 ∙ same i (omega (arith, back-length))) in
       ap isOuter (sym (take-append-drop n w) ∙ ap (λ (r : List ℕ). front ++ r) e) ∙ outer-made front (below-take 1024 n w h)
 
-  pub code-ends : isOuter w ≡ true → (j : ℕ) → j < 16 → at w (n + j) ≡ at (outerParity front) j
+  code-ends : isOuter w ≡ true → (j : ℕ) → j < 16 → at w (n + j) ≡ at (outerParity front) j
   code-ends t j l =
       let few : length front ≤ 1007 = omega (arith, length-take-le n w (omega arith)) in
       let e : back ≡ outerParity front = outer-only front back few back-length (ap isOuter (take-append-drop n w) ∙ t) in
@@ -140,7 +141,30 @@ module _ (w : List ℕ) (n : ℕ) (cut : n ≡ length w - 16) (least : 16 ≤ le
   unfolding outerRemainder
   remainder-is = rw (← cut)
 
-  remainder-below : allBelow 1024 (outerRemainder w) ≡ true
+  pub remainder-cell : (i : ℕ) → Dec (i < 16) → at (outerRemainder w) i ≡ rest i
+  remainder-cell i (yes b) = ap (λ (r : List ℕ). at r i) remainder-is ∙ tabulate-at 16 rest i 0 b
+  remainder-cell i (no b) =
+      let p : at (outerParity others) i ≡ 0 = List·getD-eq-default (outerParity others) 0 {n = i} (omega (arith, outer-length others)) in
+      let q : at w (n + i) ≡ 0 = List·getD-eq-default w 0 {n = n + i} (omega arith) in
+      ap (λ (r : List ℕ). at r i) remainder-is ∙ List·getD-eq-default (tabulate 16 rest) 0 {n = i} (rw tabulate-length (omega arith)) ∙ sym (ap₂ xor p q ∙ xor-self 0)
+
+  pub remainder-length : length (outerRemainder w) ≡ 16
+  remainder-length = ap length remainder-is ∙ tabulate-length 16 rest
+
+  -- it is zero just where the word is a code word
+  module _ (most : length w ≤ 1023) where
+    whole : length w ≡ n + 16
+    whole = omega arith
+
+    pub zero-code : ((i : ℕ) → i < 16 → at (outerRemainder w) i ≡ 0) → isOuter w ≡ true
+    zero-code z =
+        ends-code w n whole (omega arith) h
+        (λ i b. sym (xor-cancel (at (outerParity others) i) (at w (n + i))) ∙ ap (xor (at (outerParity others) i)) (sym (remainder-cell i (yes b)) ∙ z i b) ∙ xor-zero-r _)
+
+    pub code-zero : isOuter w ≡ true → (i : ℕ) → i < 16 → at (outerRemainder w) i ≡ 0
+    code-zero t i b = remainder-cell i (yes b) ∙ ap (xor (at (outerParity others) i)) (code-ends w n whole (omega arith) h t i b) ∙ xor-self _
+
+  pub remainder-below : allBelow 1024 (outerRemainder w) ≡ true
   remainder-below =
       let parity = below-at 1024 (outerParity others) (lit< tt) (parity-below others (below-take 1024 n w h)) in
       rw remainder-is

@@ -1,15 +1,14 @@
 -- Symbols packed in numbers: packing respects sums, and a division takes six symbols at a step. Assumes nothing.
 use mathlib.Core.Path.{_≡_, refl, sym, ap, ap₂, _∙_}
-use mathlib.Core.Bool.{true, _&&_, and-eq-true-iff}
+use mathlib.Core.Bool.{true}
 use mathlib.Core.List.{List}
 use mathlib.Core.Logic.{_⊎_, inl, inr}
 use Prim.Native.Nat.{ℕ, zero, suc, _+_, _-_, _*_, _/_, _%_, _^_, _≤_, _<_}
 use native.Mathlib.Decide.{decLt}
 use native.Mathlib.Nat.{add-suc, add-zero, div-eq-of-lt, eq-or-lt-of-le, le-of-suc-le-suc, le-refl, mod-lt, not-suc-le-zero, zero-add, add-assoc}
 use native.Mathlib.Omega.{arith}
-use borrow.Author.Tests.{eq-eqb, eqb-true}
 use lib.Bits as Bits
-use lib.Dec.{eqb, lit<}
+use lib.Dec.{lit<}
 use lib.ListN.{length, List·getD-eq-default}
 use lib.Pow.{pow-pos, pow-add, pow-mono, shr-shr, shl-lt, mod-pow-add}
 use Rattle.fields.specs.Elements.{xor, timesA}
@@ -19,7 +18,7 @@ use Rattle.fields.proofs.Lists.{tabulate-at, tabulate-is, tabulate-same, tabula
 use Rattle.fields.proofs.Xor.{xor-zero-l, xor-zero-r, xor-self, xor-assoc, xor-comm, xor-four, xor-lt, xor-high, xor-shifted, additive-zero}
 use Rattle.words.specs.Places.{at, allBelow, horner}
 use Rattle.words.specs.OuterCode.{generator, shiftedIn, divided}
-use Rattle.words.specs.SixSymbols.{joined, joinedFrom, symbolOf, six, Packs, numberAt, unpacked, endsPacked, sixParity, parityEntry, parities}
+use Rattle.words.specs.SixSymbols.{joined, joinedFrom, symbolOf, six, Packs, numberAt, unpacked, sixParity, parityEntry, parities}
 use Rattle.words.proofs.Places.Tests.{below-at}
 use Rattle.words.proofs.Codes.Horner.{Additive, horner-same, horner-sum, horner-zero}
 use Rattle.words.proofs.Codes.Lent.{divided-lt}
@@ -155,7 +154,7 @@ unfolding joined
 joined-sum b c n = horner-sum (λ v. v * 1024) (shift-sum 10) b c n
 
 -- numbers of cells that are added
-six-sum : (p q r : List ℕ) (j k : ℕ) → ((i : ℕ) → at r i ≡ xor (at p (j + i)) (at q i)) → six r k ≡ xor (six p (j + k)) (six q k)
+pub six-sum : (p q r : List ℕ) (j k : ℕ) → ((i : ℕ) → at r i ≡ xor (at p (j + i)) (at q i)) → six r k ≡ xor (six p (j + k)) (six q k)
 unfolding joinedFrom
 six-sum p q r j k h =
     joined-same _ (λ i. xor (at p (j + k + i)) (at q (k + i))) 6 (λ i l. h (k + i) ∙ ap (λ (m : ℕ). xor (at p m) (at q (k + i))) (sym (add-assoc j k i)))
@@ -288,49 +287,24 @@ module _ (h m l : ℕ) (cells : List ℕ) (long : length cells ≡ 16) (small : 
   unfolding unpacked
   unpacked-is = sym (tabulate-is 16 _ cells 0 long (λ i b. sym (cell-at i (omega arith))))
 
-  -- a word's last sixteen symbols are the cells just where they make the three numbers
-  module _ (w : List ℕ) (n : ℕ) (whole : length w ≡ n + 16) (symbols : (i : ℕ) → at w i < 1024) where
-    abbrev Same : Type 0
-    Same = (j : ℕ) → j < 16 → at w (n + j) ≡ at cells j
+  -- the cells are zeros just where the three numbers are
+  pub cells-zero : h ≡ 0 → m ≡ 0 → l ≡ 0 → (i : ℕ) → i < 16 → at cells i ≡ 0
+  unfolding symbolOf numberAt
+  cells-zero eh em el i b =
+      sym (cell-at i (omega arith)) ∙ ap (λ (x : ℕ). x / 2 ^ (10 * (5 - i % 6)) % 1024) (none (i / 6)) ∙ ap (λ (x : ℕ). x % 1024) (div-eq-of-lt (pow-pos (10 * (5 - i % 6))))
+    where
+      none : (k : ℕ) → numberAt h m l k ≡ 0
+      none zero = eh
+      none (suc zero) = em
+      none (suc (suc k)) = el
 
-    same-everywhere : Same → (j : ℕ) → Dec (j < 16) → at w (n + j) ≡ at cells j
-    same-everywhere s j (yes b) = s j b
-    same-everywhere s j (no b) = List·getD-eq-default w 0 {n = n + j} (omega arith) ∙ sym (List·getD-eq-default cells 0 {n = j} (omega arith))
-
-    numbers-same : Same → (i k : ℕ) → k < 3 → i ≡ n + 6 * k → joinedFrom w i 6 ≡ numberAt h m l k
-    unfolding joinedFrom
-    numbers-same s i k b e =
-        joined-same (λ j. at w (i + j)) (λ j. at cells (6 * k + j)) 6
-        (λ j l. let q : i + j ≡ n + (6 * k + j) = omega arith in rw q (same-everywhere s (6 * k + j) (decLt (6 * k + j) 16)))
-        ∙ sym (number-six k b)
-
-    symbols-same : ((k : ℕ) → k < 3 → joinedFrom w (n + 6 * k) 6 ≡ numberAt h m l k) → Same
-    unfolding joinedFrom symbolOf
-    symbols-same s j b =
-        let i = n + 6 * (j / 6) in
-        let e : 10 * (5 - j % 6) ≡ 10 * (6 - suc (j % 6)) = omega arith in
-        let here : i + j % 6 ≡ n + j = omega arith in
-        sym (ap (at w) here) ∙ sym (symbol-at (λ k. at w (i + k)) (λ k. symbols (i + k)) 6 (j % 6) (omega arith))
-        ∙ ap₂ (λ (x y : ℕ). x / 2 ^ y % 1024) (s (j / 6) (omega arith)) (sym e) ∙ cell-at j (omega arith)
-
-    pub packed-same : endsPacked w n h m l ≡ true → Same
-    unfolding endsPacked numberAt
-    packed-same t =
-        let both = and-eq-true-iff (eqb (joinedFrom w n 6) h) (eqb (joinedFrom w (n + 6) 6) m && eqb (joinedFrom w (n + 12) 6) l) .0 t in
-        let rest = and-eq-true-iff (eqb (joinedFrom w (n + 6) 6) m) (eqb (joinedFrom w (n + 12) 6) l) .0 (both .1) in
-        symbols-same (three (eqb-true _ _ (both .0)) (eqb-true _ _ (rest .0)) (eqb-true _ _ (rest .1)))
-      where
-        three : joinedFrom w n 6 ≡ h → joinedFrom w (n + 6) 6 ≡ m → joinedFrom w (n + 12) 6 ≡ l → (k : ℕ) → k < 3 → joinedFrom w (n + 6 * k) 6 ≡ numberAt h m l k
-        three eh em el zero b = ap (λ (i : ℕ). joinedFrom w i 6) (add-zero n) ∙ eh
-        three eh em el (suc zero) b = em
-        three eh em el (suc (suc zero)) b = el
-        three eh em el (suc (suc (suc k))) b = absurd (omega arith)
-
-    pub same-packed : Same → endsPacked w n h m l ≡ true
-    unfolding endsPacked numberAt
-    same-packed s =
-        rw (eq-eqb (joinedFrom w n 6) h (numbers-same s n 0 (lit< tt) (sym (add-zero n))), eq-eqb (joinedFrom w (n + 6) 6) m (numbers-same s (n + 6) 1 (lit< tt) refl))
-        (eq-eqb (joinedFrom w (n + 12) 6) l (numbers-same s (n + 12) 2 (lit< tt) refl))
+  pub numbers-zero : ((i : ℕ) → i < 16 → at cells i ≡ 0) → (k : ℕ) → k < 3 → numberAt h m l k ≡ 0
+  unfolding joinedFrom joined
+  numbers-zero z k b = number-six k b ∙ horner-zero (λ v. v * 1024) (shift-sum 10) (λ i. at cells (6 * k + i)) (λ i. everywhere (6 * k + i) (decLt (6 * k + i) 16)) 6
+    where
+      everywhere : (i : ℕ) → Dec (i < 16) → at cells i ≡ 0
+      everywhere i (yes c) = z i c
+      everywhere i (no c) = List·getD-eq-default cells 0 {n = i} (omega arith)
 
 -- the last four symbols of a word, and two zeros after them
 pub joined-last : (w : List ℕ) (i : ℕ) → allBelow 1024 w ≡ true → length w ≡ i + 4 → joinedFrom w i 6 ≡ joinedFrom w i 4 * 2 ^ 20 % 2 ^ 64

@@ -1,13 +1,13 @@
 -- Division six symbols at a step: the table is stored, symbols are joined, and the register moves on. Assumes nothing.
 use mathlib.Core.Path.{_≡_, refl, sym, ap, ap₂, _∙_}
-use mathlib.Core.Bool.{Bool, true, false}
+use mathlib.Core.Bool.{true}
 use mathlib.Core.List.{List}
 use Prim.Native.Nat.{ℕ, zero, suc, _+_, _-_, _*_, _/_, _%_, _^_, _≤_, _<_}
-use native.Mathlib.Decide.{ℕ-discrete}
-use native.Mathlib.Nat.{le-refl, mod-eq-of-lt, mod-lt, not-suc-le-zero, zero-add}
+use native.Mathlib.Decide.{ℕ-discrete, decLt}
+use native.Mathlib.Nat.{add-zero, mod-eq-of-lt, mod-lt, not-suc-le-zero, zero-add}
 use native.Mathlib.Numerals.{add-one}
 use native.Mathlib.Omega.{arith}
-use borrow.Author.Tests.{eq-eqb, ne-eqb}
+use borrow.Author.Tests.{eq-eqb, eqb-true}
 use lib.Bits as Bits
 use lib.Dec.{eqb, lit<}
 use lib.ListN.{length, getD, set, take, length-set}
@@ -20,11 +20,11 @@ use Rattle.words.specs.Places.{at, allBelow, horner}
 use Rattle.words.specs.OuterCode.{isOuter, generator, divided, outerParity}
 use Rattle.words.specs.ByTables.{rootValues}
 use Rattle.words.specs.Division.{outerRemainder}
-use Rattle.words.specs.SixSymbols.{joined, joinedFrom, symbolOf, six, Packs, numberAt, unpacked, endsPacked, sixParity, parityEntry, parities, unitParities, Stored}
-use Rattle.words.proofs.Places.Tests.{tests-agree, below-at, below-take}
-use Rattle.words.proofs.Places.Filling.{Filled, filled-next, filled-end, FilledOver, over-next}
-use Rattle.words.proofs.Codes.OuterWords.{outer-length, parity-below, ends-code, code-ends, remainder-roots}
-use Rattle.words.proofs.Codes.Packing.{shift-sum, parity-sum, joined-same, joined-lt, parity-joined, high-lt, packs-more, entry-is, six-digit, unpacked-is, packed-same, same-packed, joined-last}
+use Rattle.words.specs.SixSymbols.{joined, joinedFrom, symbolOf, six, Packs, numberAt, unpacked, sixParity, parityEntry, parities, unitParities, Stored}
+use Rattle.words.proofs.Places.Tests.{tests-agree, below-at}
+use Rattle.words.proofs.Places.Filling.{Filled, filled-next, filled-end}
+use Rattle.words.proofs.Codes.OuterWords.{outer-length, parity-below, remainder-cell, remainder-length, remainder-below, zero-code, code-zero, remainder-roots}
+use Rattle.words.proofs.Codes.Packing.{shift-sum, parity-sum, joined-same, joined-lt, parity-joined, high-lt, packs-more, entry-is, six-digit, six-sum, unpacked-is, cells-zero, numbers-zero, joined-last}
 use Rattle.words.proofs.Steps.Loops.{dividedUpTo}
 
 module _ (w : List ℕ) (i : ℕ) where
@@ -264,54 +264,51 @@ module _ (d : List ℕ) (small : allBelow 1024 d ≡ true) (h m l : ℕ) (p : Pa
   pub parity-unpacked : (r : List ℕ) → r ≡ unpacked h m l → r ≡ outerParity d
   parity-unpacked r e = e ∙ unpacked-is h m l (outerParity d) (outer-length d) (below-at 1024 (outerParity d) (lit< tt) (parity-below d small)) p
 
--- the tests of a word's end
-module _ (w : List ℕ) (i h m l : ℕ) where
-  pub ends-not-high : (x : ℕ) → x ≡ joinedFrom w i 6 → (x ≡ h → ⊥) → false ≡ endsPacked w i h m l
-  unfolding endsPacked
-  ends-not-high x e n = sym (rw (← e, ne-eqb x h n))
+-- the remainder of a word, all but sixteen symbols of which are divided
+module _ (w : List ℕ) (least : 16 ≤ length w) (small : allBelow 1024 w ≡ true) where
+  pub packs-remainder : (h m l a b c : ℕ) → Packs h m l (outerParity (take (length w - 16 - 0) w)) → (x y z : ℕ) →
+      x ≡ joinedFrom w (length w - 16) 6 → y ≡ joinedFrom w (length w - 16 + 6) 6 → z ≡ joinedFrom w (length w - 16 + 12) 4 →
+      a ≡ xor h x → b ≡ xor m y → c ≡ xor l (z * 2 ^ 20 % 2 ^ 64) → Packs a b c (outerRemainder w)
+  packs-remainder h m l a b c p x y z ex ey ez ea eb ec =
+      let n = length w - 16 in
+      let all : length w - 16 - 0 ≡ n = omega arith in
+      let packs : Packs h m l (outerParity (take n w)) = rw all at p in
+      let last : z * 2 ^ 20 % 2 ^ 64 ≡ joinedFrom w (n + 12) 6 = ap (λ (v : ℕ). v * 2 ^ 20 % 2 ^ 64) ez ∙ sym (joined-last w (n + 12) small (omega arith)) in
+      record {
+        high-six = ea ∙ ap₂ xor (packs .high-six) (ex ∙ ap (λ (i : ℕ). joinedFrom w i 6) (sym (add-zero n))) ∙ sum 0;
+        middle-six = eb ∙ ap₂ xor (packs .middle-six) ey ∙ sum 6;
+        low-six = ec ∙ ap₂ xor (packs .low-six) last ∙ sum 12;
+      }
+    where
+      sum : (k : ℕ) → xor (six (outerParity (take (length w - 16) w)) k) (six w (length w - 16 + k)) ≡ six (outerRemainder w) k
+      sum k =
+          xor-comm _ _
+          ∙ sym (six-sum w (outerParity (take (length w - 16) w)) (outerRemainder w) (length w - 16) k
+          (λ i. remainder-cell w (length w - 16) refl least small i (decLt i 16) ∙ xor-comm _ _))
 
-  module _ (x : ℕ) (ex : x ≡ joinedFrom w i 6) (eh : x ≡ h) where
-    pub ends-not-middle : (y : ℕ) → y ≡ joinedFrom w (i + 6) 6 → (y ≡ m → ⊥) → false ≡ endsPacked w i h m l
-    unfolding endsPacked
-    ends-not-middle y ey n = sym (rw (← ex, ← ey, eq-eqb x h eh, ne-eqb y m n))
+  module _ (h m l : ℕ) (p : Packs h m l (outerRemainder w)) where
+    remainder-lt : (i : ℕ) → at (outerRemainder w) i < 1024
+    remainder-lt = below-at 1024 (outerRemainder w) (lit< tt) (remainder-below w (length w - 16) refl least small)
 
-    pub ends-low : (y z : ℕ) → y ≡ joinedFrom w (i + 6) 6 → y ≡ m → i + 16 ≡ length w → allBelow 1024 w ≡ true → z ≡ joinedFrom w (i + 12) 4 →
-        eqb (z * 2 ^ 20 % 2 ^ 64) l ≡ endsPacked w i h m l
-    unfolding endsPacked
-    ends-low y z ey em long small ez = sym (rw (← ex, ← ey, eq-eqb x h eh, eq-eqb y m em, joined-last w (i + 12) small (omega arith), ← ez))
+    long : length (outerRemainder w) ≡ 16
+    long = remainder-length w (length w - 16) refl least small
 
--- a code word by division: the part from place 0 on, all but sixteen symbols, is divided, and these are compared
-pub outer-packed : (w : List ℕ) (h m l : ℕ) (r : Bool) → 16 ≤ length w → length w ≤ 1023 → allBelow 1024 w ≡ true →
-    Packs h m l (outerParity (take (length w - 16 - 0) w)) → r ≡ endsPacked w (length w - 16) h m l → r ≡ isOuter w
-outer-packed w h m l r least most small p test =
-    let n = length w - 16 in
-    let all : length w - 16 - 0 ≡ n = omega arith in
-    let front : List ℕ = take n w in
-    let cells = outerParity front in
-    let below = below-at 1024 cells (lit< tt) (parity-below front (below-take 1024 n w small)) in
-    let symbols = below-at 1024 w (lit< tt) small in
-    let packs : Packs h m l cells = rw all at p in
-    let long : length w ≡ n + 16 = omega arith in
-    test
-    ∙ tests-agree _ _ (λ t. ends-code w n long (omega arith) small (packed-same h m l cells (outer-length front) below packs w n long symbols t))
-    (λ t. same-packed h m l cells (outer-length front) below packs w n long symbols (code-ends w n long (omega arith) small t))
+    pub outer-zero : length w ≤ 1023 → eqb (Bits.bitOr (Bits.bitOr h m) l) 0 ≡ isOuter w
+    unfolding numberAt
+    outer-zero most =
+        tests-agree _ _
+        (λ t. let z = none (eqb-true (Bits.bitOr (Bits.bitOr h m) l) 0 t) in
+        zero-code w (length w - 16) refl least small most (cells-zero h m l (outerRemainder w) long remainder-lt p (z .0) (z .1) (z .2)))
+        (λ t. let z = numbers-zero h m l (outerRemainder w) long remainder-lt p (code-zero w (length w - 16) refl least small most t) in
+        eq-eqb _ 0 (ap₂ (λ (x y : ℕ). Bits.bitOr (Bits.bitOr x y) l) (z 0 (lit< tt)) (z 1 (lit< tt)) ∙ z 2 (lit< tt)))
+      where
+        none : Bits.bitOr (Bits.bitOr h m) l ≡ 0 → (h ≡ 0) × (m ≡ 0) × (l ≡ 0)
+        none e =
+            let s = Bits.or-add-and (Bits.bitOr h m) l in
+            let t = Bits.or-add-and h m in
+            let some : (Bits.bitOr h m ≡ 0) = omega (arith, s, Bits.and-le-l (Bits.bitOr h m) l, Bits.and-le-r (Bits.bitOr h m) l) in
+            (omega (arith, t, some, Bits.and-le-l h m, Bits.and-le-r h m), omega (arith, t, some, Bits.and-le-l h m, Bits.and-le-r h m), omega (arith, s, Bits.and-le-l (Bits.bitOr h m) l, Bits.and-le-r (Bits.bitOr h m) l))
 
--- the remainder, stored over the parity of all but the last sixteen symbols
-unfoldable pub remainderCell : List ℕ → List ℕ → ℕ → ℕ → ℕ
-remainderCell cells w n i = xor (at cells i) (at w (n + i))
-
-module _ (parity w : List ℕ) (n i : ℕ) (cells : List ℕ) (so-far : FilledOver 16 (remainderCell parity w n) parity i cells) where
-  pub remainder-next : (v : ℕ) → i < 16 → v ≡ xor (getD cells i 0) (getD w (n + i) 0) → FilledOver 16 (remainderCell parity w n) parity (i + 1) (set cells i v)
-  unfolding remainderCell
-  remainder-next v b e = over-next so-far b (e ∙ ap (λ (x : ℕ). xor x (getD w (n + i) 0)) (so-far .ahead i (le-refl i)))
-
-  pub remainder-end : 16 ≤ i → n ≡ length w - 16 → parity ≡ outerParity (take (n - 0) w) → cells ≡ outerRemainder w
-  unfolding remainderCell outerRemainder
-  remainder-end b en ep =
-      let all : n - 0 ≡ n = omega arith in
-      rw (← en) (filled-end (so-far .filled) b ∙ rw (ep, all))
-
-pub root-values-made : (es ls w rest r : List ℕ) → es ≡ powersA → ls ≡ exponentsA → 16 ≤ length w → allBelow 1024 w ≡ true → rest ≡ outerRemainder w →
-    r ≡ rootValues es ls rest → r ≡ rootValues es ls w
-root-values-made es ls w rest r exp log least small erest er =
-    er ∙ rw (exp, log, erest) (remainder-roots w (length w - 16) refl least small)
+    pub root-values-made : (es ls rest r : List ℕ) → es ≡ powersA → ls ≡ exponentsA → rest ≡ unpacked h m l → r ≡ rootValues es ls rest → r ≡ rootValues es ls w
+    root-values-made es ls rest r exp log erest er =
+        er ∙ rw (exp, log, erest, unpacked-is h m l (outerRemainder w) long remainder-lt p) (remainder-roots w (length w - 16) refl least small)

@@ -13,6 +13,9 @@ slice-aggregate-remainder c = search needs
 remainder-requires : tie.Need-remainder-requires
 remainder-requires c κs = search needs
 
+unpacked-requires : tie.Need-unpacked-requires
+unpacked-requires c κs = search needs
+
 slice-aggregate-root-values : tie.Need-slice-aggregate-root-values
 slice-aggregate-root-values c = search needs
 
@@ -29,6 +32,7 @@ root-values-spec =
     table-requires
     slice-aggregate-remainder
     remainder-requires
+    unpacked-requires
     slice-aggregate-root-values
     root-values-requires
     returns)

@@ -8,6 +8,8 @@ use native.Mathlib.Numerals.{add-one}
 use native.Mathlib.Omega.{arith}
 use lib.Bits.{bitOr}
 use lib.ListN.{length, getD, replicate, length-replicate}
+use mir.Syntax.{w64}
+use mir.Val.{Fits}
 use Rattle.fields.specs.Lists.{tabulate}
 use Rattle.words.specs.Places.{at}
 use Rattle.words.specs.InnerCode.{factors}
@@ -23,6 +25,16 @@ pub five-places : (b : List ℕ) {x0 x1 x2 x3 x4 : ℕ} → x4 ≡ placeAt b 4 �
     x4 ∷ x3 ∷ x2 ∷ x1 ∷ x0 ∷ 0 ∷ 0 ∷ 0 ∷ 0 ∷ 0 ∷ 0 ∷ [] ≡ begun b
 unfolding begun tabulate
 five-places b e4 e3 e2 e1 e0 = rw (e4, e3, e2, e1, e0)
+
+-- place i of the eleven is inside
+pub place-first : (p n : ℕ) → (p + 11 ≤ 2040) × (8 * p + 88 ≤ n) → (p < 2040) × (8 * p + 8 ≤ n)
+place-first p n h = (omega arith, omega arith)
+
+pub place-inside : (i p n : ℕ) → i < 11 → (p + 11 ≤ 2040) × (8 * p + 88 ≤ n) → (p + i < 2040) × (8 * (p + i) + 8 ≤ n)
+place-inside i p n l h = (omega arith, omega arith)
+
+pub place-fits : (i p n : ℕ) → i < 11 → (p + 11 ≤ 2040) × (8 * p + 88 ≤ n) → Fits w64 (p + i)
+place-fits i p n l h = record { fits = omega arith }
 
 pub eleven-places : (p q : ℕ) (b s : List ℕ) {s1 s2 s3 s4 s5 s6 s7 s8 s9 s10 s11 : List ℕ} → s1 ≡ advanced p s (placeAt b q) → s2 ≡ advanced p s1 (placeAt b (q + 1)) →
     s3 ≡ advanced p s2 (placeAt b (q + 2)) → s4 ≡ advanced p s3 (placeAt b (q + 3)) → s5 ≡ advanced p s4 (placeAt b (q + 4)) →

@@ -1,6 +1,6 @@
 -- `frames::residues::eleven_0` meets its contract. Assumes nothing.
-use borrow.Author.Needs.{needs}
-use Rattle.frames.proofs.ResidueSteps.{eleven-places}
+use lib.Dec.{lit<}
+use Rattle.frames.proofs.ResidueSteps.{place-first, place-inside, place-fits, eleven-places}
 use Rattle.frames.proofs.residues.eleven_0.Statement.{statement}
 use Rattle.frames.proofs.residues.eleven_0.Tie as tie
 
@@ -23,15 +23,15 @@ pub eleven-0-spec : {M : Type 1} → statement M
 eleven-0-spec =
     tie.close
     (tie.spec
-    (λ c κs. search needs)
-    (λ c. search needs) (λ c κs. search needs)
-    (λ c. search needs) (λ c κs. search needs)
-    (λ c. search needs) (λ c κs. search needs)
-    (λ c. search needs) (λ c κs. search needs)
-    (λ c. search needs) (λ c κs. search needs)
-    (λ c. search (needs, c .before .before .before .before .before .before .before .pre)) (λ c κs. search (needs, c .before .before .before .before .before .before .before .pre))
-    (λ c. search (needs, c .before .before .before .before .before .before .before .before .pre)) (λ c κs. search (needs, c .before .before .before .before .before .before .before .before .pre))
-    (λ c. search (needs, c .before .before .before .before .before .before .before .before .before .pre)) (λ c κs. search (needs, c .before .before .before .before .before .before .before .before .before .pre))
-    (λ c. search (needs, c .before .before .before .before .before .before .before .before .before .before .pre)) (λ c κs. search (needs, c .before .before .before .before .before .before .before .before .before .before .pre))
-    (λ c. search (needs, c .before .before .before .before .before .before .before .before .before .before .before .pre)) (λ c κs. search (needs, c .before .before .before .before .before .before .before .before .before .before .before .pre))
+    (λ c κs. place-first _ _ (c .before .pre))
+    (λ c. place-fits 1 _ _ (lit< tt) (c .before .before .pre)) (λ c κs. place-inside 1 _ _ (lit< tt) (c .before .before .pre))
+    (λ c. place-fits 2 _ _ (lit< tt) (c .before .before .before .pre)) (λ c κs. place-inside 2 _ _ (lit< tt) (c .before .before .before .pre))
+    (λ c. place-fits 3 _ _ (lit< tt) (c .before .before .before .before .pre)) (λ c κs. place-inside 3 _ _ (lit< tt) (c .before .before .before .before .pre))
+    (λ c. place-fits 4 _ _ (lit< tt) (c .before .before .before .before .before .pre)) (λ c κs. place-inside 4 _ _ (lit< tt) (c .before .before .before .before .before .pre))
+    (λ c. place-fits 5 _ _ (lit< tt) (c .before .before .before .before .before .before .pre)) (λ c κs. place-inside 5 _ _ (lit< tt) (c .before .before .before .before .before .before .pre))
+    (λ c. place-fits 6 _ _ (lit< tt) (c .before .before .before .before .before .before .before .pre)) (λ c κs. place-inside 6 _ _ (lit< tt) (c .before .before .before .before .before .before .before .pre))
+    (λ c. place-fits 7 _ _ (lit< tt) (c .before .before .before .before .before .before .before .before .pre)) (λ c κs. place-inside 7 _ _ (lit< tt) (c .before .before .before .before .before .before .before .before .pre))
+    (λ c. place-fits 8 _ _ (lit< tt) (c .before .before .before .before .before .before .before .before .before .pre)) (λ c κs. place-inside 8 _ _ (lit< tt) (c .before .before .before .before .before .before .before .before .before .pre))
+    (λ c. place-fits 9 _ _ (lit< tt) (c .before .before .before .before .before .before .before .before .before .before .pre)) (λ c κs. place-inside 9 _ _ (lit< tt) (c .before .before .before .before .before .before .before .before .before .before .pre))
+    (λ c. place-fits 10 _ _ (lit< tt) (c .before .before .before .before .before .before .before .before .before .before .before .pre)) (λ c κs. place-inside 10 _ _ (lit< tt) (c .before .before .before .before .before .before .before .before .before .before .before .pre))
     returns)

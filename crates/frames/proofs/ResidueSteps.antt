@@ -26,15 +26,26 @@ pub five-places : (b : List ℕ) {x0 x1 x2 x3 x4 : ℕ} → x4 ≡ placeAt b 4 �
 unfolding begun tabulate
 five-places b e4 e3 e2 e1 e0 = rw (e4, e3, e2, e1, e0)
 
--- place i of the eleven is inside
-pub place-first : (p n : ℕ) → (p + 11 ≤ 2040) × (8 * p + 88 ≤ n) → (p < 2040) × (8 * p + 8 ≤ n)
-place-first p n h = (omega arith, omega arith)
+-- place k of the eleven in block i
+module _ (i blocks n : ℕ) (taken : i < blocks) (pre : (blocks ≤ 185) × (40 + 88 * blocks ≤ n)) where
+  pub place-first : (5 + 11 * i < 2040) × (8 * (5 + 11 * i) + 8 ≤ n)
+  place-first = (omega arith, omega arith)
 
-pub place-inside : (i p n : ℕ) → i < 11 → (p + 11 ≤ 2040) × (8 * p + 88 ≤ n) → (p + i < 2040) × (8 * (p + i) + 8 ≤ n)
-place-inside i p n l h = (omega arith, omega arith)
+  pub place-inside : (k : ℕ) → k < 11 → (5 + 11 * i + k < 2040) × (8 * (5 + 11 * i + k) + 8 ≤ n)
+  place-inside k l = (omega arith, omega arith)
 
-pub place-fits : (i p n : ℕ) → i < 11 → (p + 11 ≤ 2040) × (8 * p + 88 ≤ n) → Fits w64 (p + i)
-place-fits i p n l h = record { fits = omega arith }
+  pub place-fits : (k : ℕ) → k < 11 → Fits w64 (5 + 11 * i + k)
+  place-fits k l = record { fits = omega arith }
+
+  -- the next block
+  pub block-within : i + 1 ≤ blocks
+  block-within = omega arith
+
+  pub block-fits : Fits w64 (i + 1)
+  block-fits = record { fits = omega arith }
+
+  pub block-less : blocks - (i + 1) < blocks - i
+  block-less = omega arith
 
 pub eleven-places : (p q : ℕ) (b s : List ℕ) {s1 s2 s3 s4 s5 s6 s7 s8 s9 s10 s11 : List ℕ} → s1 ≡ advanced p s (placeAt b q) → s2 ≡ advanced p s1 (placeAt b (q + 1)) →
     s3 ≡ advanced p s2 (placeAt b (q + 2)) → s4 ≡ advanced p s3 (placeAt b (q + 3)) → s5 ≡ advanced p s4 (placeAt b (q + 4)) →
@@ -48,8 +59,8 @@ eleven-places p q b s e1 e2 e3 e4 e5 e6 e7 e8 e9 e10 e11 =
     let f8 = e8 ∙ next _ _ _ (e7 ∙ next _ _ _ (e6 ∙ next _ _ _ (e5 ∙ next _ _ _ f4))) in
     e11 ∙ next _ _ _ (e10 ∙ next _ _ _ (e9 ∙ next _ _ _ f8))
 
-pub by-factor : (i j q : ℕ) (b s : List ℕ) {t : List ℕ} → j ≡ i → t ≡ advancedBy (at factors i) b q 11 s → t ≡ advancedBy (at factors j) b q 11 s
-by-factor i j q b s e h = rw e h
+pub by-factor : (i j : ℕ) (b : List ℕ) (n : ℕ) {t : List ℕ} → j ≡ i → t ≡ residueOf i b n → t ≡ residueOf j b n
+by-factor i j b n e h = rw e h
 
 -- the last of the eight
 past-four : (j : ℕ) → (j ≡ 0 → ⊥) → (j ≡ 1 → ⊥) → (j ≡ 2 → ⊥) → (j ≡ 3 → ⊥) → 4 ≤ j

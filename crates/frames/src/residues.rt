@@ -6,10 +6,9 @@ ghost use mathlib.Core.Path.{_≡_};
 ghost use Prim.Native.Nat.{_+_, _*_, _≤_, _<_};
 ghost use lib.ListN.{length};
 ghost use Rattle.words.specs.Places.{at};
-ghost use Rattle.words.specs.InnerCode.{factors};
 ghost use Rattle.frames.specs.Symbols.{Placed};
 ghost use Rattle.frames.specs.SideBySide.{placeAt, orTo};
-ghost use Rattle.frames.specs.InnerResidues.{cells, advanced, advancedBy, begun, residueOf, residuesOf};
+ghost use Rattle.frames.specs.InnerResidues.{cells, advanced, begun, residueOf, residuesOf};
 
 // Factors of the divisor, and the degree of each.
 const FACTORS: usize = 8;
@@ -225,172 +224,215 @@ fn step_7(bytes: &[u8], p: usize, s: Lanes) -> Lanes
     }
 }
 
-// Eleven places: after them each coefficient is back where it stood, so that none has to move.
-fn eleven_0(bytes: &[u8], p: usize, s: Lanes) -> Lanes
-    requires { ⌜ (p + 11 ≤ 2040) × (8 * p + 88 ≤ length (now bytes)) ⌝ }
-    ensures { λ r. ⌜ cells r ≡ advancedBy 2053 (now (bytes .entry)) p 11 (cells s) ⌝ }
-{
-    let s1 = step_0(bytes, p, s);
-    let s2 = step_0(bytes, p + 1, s1);
-    let s3 = step_0(bytes, p + 2, s2);
-    let s4 = step_0(bytes, p + 3, s3);
-    let s5 = step_0(bytes, p + 4, s4);
-    let s6 = step_0(bytes, p + 5, s5);
-    let s7 = step_0(bytes, p + 6, s6);
-    let s8 = step_0(bytes, p + 7, s7);
-    let s9 = step_0(bytes, p + 8, s8);
-    let s10 = step_0(bytes, p + 9, s9);
-    step_0(bytes, p + 10, s10)
-}
-
-fn eleven_1(bytes: &[u8], p: usize, s: Lanes) -> Lanes
-    requires { ⌜ (p + 11 ≤ 2040) × (8 * p + 88 ≤ length (now bytes)) ⌝ }
-    ensures { λ r. ⌜ cells r ≡ advancedBy 2341 (now (bytes .entry)) p 11 (cells s) ⌝ }
-{
-    let s1 = step_1(bytes, p, s);
-    let s2 = step_1(bytes, p + 1, s1);
-    let s3 = step_1(bytes, p + 2, s2);
-    let s4 = step_1(bytes, p + 3, s3);
-    let s5 = step_1(bytes, p + 4, s4);
-    let s6 = step_1(bytes, p + 5, s5);
-    let s7 = step_1(bytes, p + 6, s6);
-    let s8 = step_1(bytes, p + 7, s7);
-    let s9 = step_1(bytes, p + 8, s8);
-    let s10 = step_1(bytes, p + 9, s9);
-    step_1(bytes, p + 10, s10)
-}
-
-fn eleven_2(bytes: &[u8], p: usize, s: Lanes) -> Lanes
-    requires { ⌜ (p + 11 ≤ 2040) × (8 * p + 88 ≤ length (now bytes)) ⌝ }
-    ensures { λ r. ⌜ cells r ≡ advancedBy 2189 (now (bytes .entry)) p 11 (cells s) ⌝ }
-{
-    let s1 = step_2(bytes, p, s);
-    let s2 = step_2(bytes, p + 1, s1);
-    let s3 = step_2(bytes, p + 2, s2);
-    let s4 = step_2(bytes, p + 3, s3);
-    let s5 = step_2(bytes, p + 4, s4);
-    let s6 = step_2(bytes, p + 5, s5);
-    let s7 = step_2(bytes, p + 6, s6);
-    let s8 = step_2(bytes, p + 7, s7);
-    let s9 = step_2(bytes, p + 8, s8);
-    let s10 = step_2(bytes, p + 9, s9);
-    step_2(bytes, p + 10, s10)
-}
-
-fn eleven_3(bytes: &[u8], p: usize, s: Lanes) -> Lanes
-    requires { ⌜ (p + 11 ≤ 2040) × (8 * p + 88 ≤ length (now bytes)) ⌝ }
-    ensures { λ r. ⌜ cells r ≡ advancedBy 2093 (now (bytes .entry)) p 11 (cells s) ⌝ }
-{
-    let s1 = step_3(bytes, p, s);
-    let s2 = step_3(bytes, p + 1, s1);
-    let s3 = step_3(bytes, p + 2, s2);
-    let s4 = step_3(bytes, p + 3, s3);
-    let s5 = step_3(bytes, p + 4, s4);
-    let s6 = step_3(bytes, p + 5, s5);
-    let s7 = step_3(bytes, p + 6, s6);
-    let s8 = step_3(bytes, p + 7, s7);
-    let s9 = step_3(bytes, p + 8, s8);
-    let s10 = step_3(bytes, p + 9, s9);
-    step_3(bytes, p + 10, s10)
-}
-
-fn eleven_4(bytes: &[u8], p: usize, s: Lanes) -> Lanes
-    requires { ⌜ (p + 11 ≤ 2040) × (8 * p + 88 ≤ length (now bytes)) ⌝ }
-    ensures { λ r. ⌜ cells r ≡ advancedBy 3085 (now (bytes .entry)) p 11 (cells s) ⌝ }
-{
-    let s1 = step_4(bytes, p, s);
-    let s2 = step_4(bytes, p + 1, s1);
-    let s3 = step_4(bytes, p + 2, s2);
-    let s4 = step_4(bytes, p + 3, s3);
-    let s5 = step_4(bytes, p + 4, s4);
-    let s6 = step_4(bytes, p + 5, s5);
-    let s7 = step_4(bytes, p + 6, s6);
-    let s8 = step_4(bytes, p + 7, s7);
-    let s9 = step_4(bytes, p + 8, s8);
-    let s10 = step_4(bytes, p + 9, s9);
-    step_4(bytes, p + 10, s10)
-}
-
-fn eleven_5(bytes: &[u8], p: usize, s: Lanes) -> Lanes
-    requires { ⌜ (p + 11 ≤ 2040) × (8 * p + 88 ≤ length (now bytes)) ⌝ }
-    ensures { λ r. ⌜ cells r ≡ advancedBy 3851 (now (bytes .entry)) p 11 (cells s) ⌝ }
-{
-    let s1 = step_5(bytes, p, s);
-    let s2 = step_5(bytes, p + 1, s1);
-    let s3 = step_5(bytes, p + 2, s2);
-    let s4 = step_5(bytes, p + 3, s3);
-    let s5 = step_5(bytes, p + 4, s4);
-    let s6 = step_5(bytes, p + 5, s5);
-    let s7 = step_5(bytes, p + 6, s6);
-    let s8 = step_5(bytes, p + 7, s7);
-    let s9 = step_5(bytes, p + 8, s8);
-    let s10 = step_5(bytes, p + 9, s9);
-    step_5(bytes, p + 10, s10)
-}
-
-fn eleven_6(bytes: &[u8], p: usize, s: Lanes) -> Lanes
-    requires { ⌜ (p + 11 ≤ 2040) × (8 * p + 88 ≤ length (now bytes)) ⌝ }
-    ensures { λ r. ⌜ cells r ≡ advancedBy 2147 (now (bytes .entry)) p 11 (cells s) ⌝ }
-{
-    let s1 = step_6(bytes, p, s);
-    let s2 = step_6(bytes, p + 1, s1);
-    let s3 = step_6(bytes, p + 2, s2);
-    let s4 = step_6(bytes, p + 3, s3);
-    let s5 = step_6(bytes, p + 4, s4);
-    let s6 = step_6(bytes, p + 5, s5);
-    let s7 = step_6(bytes, p + 6, s6);
-    let s8 = step_6(bytes, p + 7, s7);
-    let s9 = step_6(bytes, p + 8, s8);
-    let s10 = step_6(bytes, p + 9, s9);
-    step_6(bytes, p + 10, s10)
-}
-
-fn eleven_7(bytes: &[u8], p: usize, s: Lanes) -> Lanes
-    requires { ⌜ (p + 11 ≤ 2040) × (8 * p + 88 ≤ length (now bytes)) ⌝ }
-    ensures { λ r. ⌜ cells r ≡ advancedBy 2419 (now (bytes .entry)) p 11 (cells s) ⌝ }
-{
-    let s1 = step_7(bytes, p, s);
-    let s2 = step_7(bytes, p + 1, s1);
-    let s3 = step_7(bytes, p + 2, s2);
-    let s4 = step_7(bytes, p + 3, s3);
-    let s5 = step_7(bytes, p + 4, s4);
-    let s6 = step_7(bytes, p + 5, s5);
-    let s7 = step_7(bytes, p + 6, s6);
-    let s8 = step_7(bytes, p + 7, s7);
-    let s9 = step_7(bytes, p + 8, s8);
-    let s10 = step_7(bytes, p + 9, s9);
-    step_7(bytes, p + 10, s10)
-}
-
-// Eleven places modulo factor j.
-fn eleven(j: usize, bytes: &[u8], p: usize, s: Lanes) -> Lanes
-    requires { ⌜ (j < 8) × (p + 11 ≤ 2040) × (8 * p + 88 ≤ length (now bytes)) ⌝ }
-    ensures { λ r. ⌜ cells r ≡ advancedBy (at factors j) (now (bytes .entry)) p 11 (cells s) ⌝ }
-{
-    match j {
-        0 => return eleven_0(bytes, p, s),
-        1 => return eleven_1(bytes, p, s),
-        2 => return eleven_2(bytes, p, s),
-        3 => return eleven_3(bytes, p, s),
-        4 => return eleven_4(bytes, p, s),
-        5 => return eleven_5(bytes, p, s),
-        6 => return eleven_6(bytes, p, s),
-        _ => return eleven_7(bytes, p, s),
-    }
-}
-
-// The residues modulo factor j of the first 5 + 11 * blocks places of the inner words.
-pub fn residue(j: usize, bytes: &[u8], blocks: usize) -> Lanes
-    requires { ⌜ (j < 8) × (blocks ≤ 185) × (40 + 88 * blocks ≤ length (now bytes)) ⌝ }
-    ensures { λ r. ⌜ cells r ≡ residueOf j (now (bytes .entry)) (5 + 11 * blocks) ⌝ }
+// The residues modulo each of the eight factors of the first 5 + 11 * blocks places of the inner words. After eleven places each coefficient is back where
+// it stood, so that none has to move.
+fn residue_0(bytes: &[u8], blocks: usize) -> Lanes
+    requires { ⌜ (blocks ≤ 185) × (40 + 88 * blocks ≤ length (now bytes)) ⌝ }
+    ensures { λ r. ⌜ cells r ≡ residueOf 0 (now (bytes .entry)) (5 + 11 * blocks) ⌝ }
 {
     let mut s = first_five(bytes);
     let mut i: usize = 0;
     while i < blocks {
-        s = eleven(j, bytes, 5 + DEGREE * i, s);
+        let p = 5 + DEGREE * i;
+        let s1 = step_0(bytes, p, s);
+        let s2 = step_0(bytes, p + 1, s1);
+        let s3 = step_0(bytes, p + 2, s2);
+        let s4 = step_0(bytes, p + 3, s3);
+        let s5 = step_0(bytes, p + 4, s4);
+        let s6 = step_0(bytes, p + 5, s5);
+        let s7 = step_0(bytes, p + 6, s6);
+        let s8 = step_0(bytes, p + 7, s7);
+        let s9 = step_0(bytes, p + 8, s8);
+        let s10 = step_0(bytes, p + 9, s9);
+        s = step_0(bytes, p + 10, s10);
         i += 1;
     }
     s
+}
+
+fn residue_1(bytes: &[u8], blocks: usize) -> Lanes
+    requires { ⌜ (blocks ≤ 185) × (40 + 88 * blocks ≤ length (now bytes)) ⌝ }
+    ensures { λ r. ⌜ cells r ≡ residueOf 1 (now (bytes .entry)) (5 + 11 * blocks) ⌝ }
+{
+    let mut s = first_five(bytes);
+    let mut i: usize = 0;
+    while i < blocks {
+        let p = 5 + DEGREE * i;
+        let s1 = step_1(bytes, p, s);
+        let s2 = step_1(bytes, p + 1, s1);
+        let s3 = step_1(bytes, p + 2, s2);
+        let s4 = step_1(bytes, p + 3, s3);
+        let s5 = step_1(bytes, p + 4, s4);
+        let s6 = step_1(bytes, p + 5, s5);
+        let s7 = step_1(bytes, p + 6, s6);
+        let s8 = step_1(bytes, p + 7, s7);
+        let s9 = step_1(bytes, p + 8, s8);
+        let s10 = step_1(bytes, p + 9, s9);
+        s = step_1(bytes, p + 10, s10);
+        i += 1;
+    }
+    s
+}
+
+fn residue_2(bytes: &[u8], blocks: usize) -> Lanes
+    requires { ⌜ (blocks ≤ 185) × (40 + 88 * blocks ≤ length (now bytes)) ⌝ }
+    ensures { λ r. ⌜ cells r ≡ residueOf 2 (now (bytes .entry)) (5 + 11 * blocks) ⌝ }
+{
+    let mut s = first_five(bytes);
+    let mut i: usize = 0;
+    while i < blocks {
+        let p = 5 + DEGREE * i;
+        let s1 = step_2(bytes, p, s);
+        let s2 = step_2(bytes, p + 1, s1);
+        let s3 = step_2(bytes, p + 2, s2);
+        let s4 = step_2(bytes, p + 3, s3);
+        let s5 = step_2(bytes, p + 4, s4);
+        let s6 = step_2(bytes, p + 5, s5);
+        let s7 = step_2(bytes, p + 6, s6);
+        let s8 = step_2(bytes, p + 7, s7);
+        let s9 = step_2(bytes, p + 8, s8);
+        let s10 = step_2(bytes, p + 9, s9);
+        s = step_2(bytes, p + 10, s10);
+        i += 1;
+    }
+    s
+}
+
+fn residue_3(bytes: &[u8], blocks: usize) -> Lanes
+    requires { ⌜ (blocks ≤ 185) × (40 + 88 * blocks ≤ length (now bytes)) ⌝ }
+    ensures { λ r. ⌜ cells r ≡ residueOf 3 (now (bytes .entry)) (5 + 11 * blocks) ⌝ }
+{
+    let mut s = first_five(bytes);
+    let mut i: usize = 0;
+    while i < blocks {
+        let p = 5 + DEGREE * i;
+        let s1 = step_3(bytes, p, s);
+        let s2 = step_3(bytes, p + 1, s1);
+        let s3 = step_3(bytes, p + 2, s2);
+        let s4 = step_3(bytes, p + 3, s3);
+        let s5 = step_3(bytes, p + 4, s4);
+        let s6 = step_3(bytes, p + 5, s5);
+        let s7 = step_3(bytes, p + 6, s6);
+        let s8 = step_3(bytes, p + 7, s7);
+        let s9 = step_3(bytes, p + 8, s8);
+        let s10 = step_3(bytes, p + 9, s9);
+        s = step_3(bytes, p + 10, s10);
+        i += 1;
+    }
+    s
+}
+
+fn residue_4(bytes: &[u8], blocks: usize) -> Lanes
+    requires { ⌜ (blocks ≤ 185) × (40 + 88 * blocks ≤ length (now bytes)) ⌝ }
+    ensures { λ r. ⌜ cells r ≡ residueOf 4 (now (bytes .entry)) (5 + 11 * blocks) ⌝ }
+{
+    let mut s = first_five(bytes);
+    let mut i: usize = 0;
+    while i < blocks {
+        let p = 5 + DEGREE * i;
+        let s1 = step_4(bytes, p, s);
+        let s2 = step_4(bytes, p + 1, s1);
+        let s3 = step_4(bytes, p + 2, s2);
+        let s4 = step_4(bytes, p + 3, s3);
+        let s5 = step_4(bytes, p + 4, s4);
+        let s6 = step_4(bytes, p + 5, s5);
+        let s7 = step_4(bytes, p + 6, s6);
+        let s8 = step_4(bytes, p + 7, s7);
+        let s9 = step_4(bytes, p + 8, s8);
+        let s10 = step_4(bytes, p + 9, s9);
+        s = step_4(bytes, p + 10, s10);
+        i += 1;
+    }
+    s
+}
+
+fn residue_5(bytes: &[u8], blocks: usize) -> Lanes
+    requires { ⌜ (blocks ≤ 185) × (40 + 88 * blocks ≤ length (now bytes)) ⌝ }
+    ensures { λ r. ⌜ cells r ≡ residueOf 5 (now (bytes .entry)) (5 + 11 * blocks) ⌝ }
+{
+    let mut s = first_five(bytes);
+    let mut i: usize = 0;
+    while i < blocks {
+        let p = 5 + DEGREE * i;
+        let s1 = step_5(bytes, p, s);
+        let s2 = step_5(bytes, p + 1, s1);
+        let s3 = step_5(bytes, p + 2, s2);
+        let s4 = step_5(bytes, p + 3, s3);
+        let s5 = step_5(bytes, p + 4, s4);
+        let s6 = step_5(bytes, p + 5, s5);
+        let s7 = step_5(bytes, p + 6, s6);
+        let s8 = step_5(bytes, p + 7, s7);
+        let s9 = step_5(bytes, p + 8, s8);
+        let s10 = step_5(bytes, p + 9, s9);
+        s = step_5(bytes, p + 10, s10);
+        i += 1;
+    }
+    s
+}
+
+fn residue_6(bytes: &[u8], blocks: usize) -> Lanes
+    requires { ⌜ (blocks ≤ 185) × (40 + 88 * blocks ≤ length (now bytes)) ⌝ }
+    ensures { λ r. ⌜ cells r ≡ residueOf 6 (now (bytes .entry)) (5 + 11 * blocks) ⌝ }
+{
+    let mut s = first_five(bytes);
+    let mut i: usize = 0;
+    while i < blocks {
+        let p = 5 + DEGREE * i;
+        let s1 = step_6(bytes, p, s);
+        let s2 = step_6(bytes, p + 1, s1);
+        let s3 = step_6(bytes, p + 2, s2);
+        let s4 = step_6(bytes, p + 3, s3);
+        let s5 = step_6(bytes, p + 4, s4);
+        let s6 = step_6(bytes, p + 5, s5);
+        let s7 = step_6(bytes, p + 6, s6);
+        let s8 = step_6(bytes, p + 7, s7);
+        let s9 = step_6(bytes, p + 8, s8);
+        let s10 = step_6(bytes, p + 9, s9);
+        s = step_6(bytes, p + 10, s10);
+        i += 1;
+    }
+    s
+}
+
+fn residue_7(bytes: &[u8], blocks: usize) -> Lanes
+    requires { ⌜ (blocks ≤ 185) × (40 + 88 * blocks ≤ length (now bytes)) ⌝ }
+    ensures { λ r. ⌜ cells r ≡ residueOf 7 (now (bytes .entry)) (5 + 11 * blocks) ⌝ }
+{
+    let mut s = first_five(bytes);
+    let mut i: usize = 0;
+    while i < blocks {
+        let p = 5 + DEGREE * i;
+        let s1 = step_7(bytes, p, s);
+        let s2 = step_7(bytes, p + 1, s1);
+        let s3 = step_7(bytes, p + 2, s2);
+        let s4 = step_7(bytes, p + 3, s3);
+        let s5 = step_7(bytes, p + 4, s4);
+        let s6 = step_7(bytes, p + 5, s5);
+        let s7 = step_7(bytes, p + 6, s6);
+        let s8 = step_7(bytes, p + 7, s7);
+        let s9 = step_7(bytes, p + 8, s8);
+        let s10 = step_7(bytes, p + 9, s9);
+        s = step_7(bytes, p + 10, s10);
+        i += 1;
+    }
+    s
+}
+
+// The residues modulo factor j.
+pub fn residue(j: usize, bytes: &[u8], blocks: usize) -> Lanes
+    requires { ⌜ (j < 8) × (blocks ≤ 185) × (40 + 88 * blocks ≤ length (now bytes)) ⌝ }
+    ensures { λ r. ⌜ cells r ≡ residueOf j (now (bytes .entry)) (5 + 11 * blocks) ⌝ }
+{
+    match j {
+        0 => return residue_0(bytes, blocks),
+        1 => return residue_1(bytes, blocks),
+        2 => return residue_2(bytes, blocks),
+        3 => return residue_3(bytes, blocks),
+        4 => return residue_4(bytes, blocks),
+        5 => return residue_5(bytes, blocks),
+        6 => return residue_6(bytes, blocks),
+        _ => return residue_7(bytes, blocks),
+    }
 }
 
 fn numbers(s: Lanes) -> [u64; DEGREE]

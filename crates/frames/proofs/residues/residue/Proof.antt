@@ -1,57 +1,45 @@
 -- `frames::residues::residue` meets its contract. Assumes nothing.
-use mathlib.Core.Path.{_≡_}
-use Prim.Native.Nat.{_+_, _*_, _-_, _≤_}
 use borrow.Author.Needs.{needs}
-use Rattle.frames.specs.InnerResidues.{cells, residueOf}
-use Rattle.frames.proofs.ResidueSteps.{residue-start, residue-turn, residue-end}
+use Rattle.frames.proofs.ResidueSteps.{by-factor, last-factor}
 use Rattle.frames.proofs.residues.residue.Statement.{statement}
 use Rattle.frames.proofs.residues.residue.Tie as tie
 
-abbrev Inv-loop : tie.InvT-loop
-Inv-loop j bytes blocks s₀ i₀ s i = (i ≤ blocks) × (cells s ≡ residueOf j bytes (5 + 11 * i))
+returns : tie.Need-returns
+returns c = by-factor 0 (c .before .before .before .args .j) _ _ (search needs) (c .residue-0 .ensures)
 
-abbrev μ-loop : tie.MeasureT-loop
-μ-loop j bytes blocks s₀ i₀ s i = blocks - i
+returns-2 : tie.Need-returns-2
+returns-2 c = by-factor 1 (c .before .before .before .args .j) _ _ (search needs) (c .residue-1 .ensures)
 
-first-five-requires : tie.Need-first-five-requires Inv-loop μ-loop
-first-five-requires c κs = search needs
+returns-3 : tie.Need-returns-3
+returns-3 c = by-factor 2 (c .before .before .before .args .j) _ _ (search needs) (c .residue-2 .ensures)
 
-loop-holds : tie.Need-loop-holds Inv-loop μ-loop
-loop-holds c = (search needs, residue-start _ _ (c .first-five .ensures))
+returns-4 : tie.Need-returns-4
+returns-4 c = by-factor 3 (c .before .before .before .args .j) _ _ (search needs) (c .residue-3 .ensures)
 
-mul-eleven : tie.Need-mul-eleven Inv-loop μ-loop
-mul-eleven c = search needs
+returns-5 : tie.Need-returns-5
+returns-5 c = by-factor 4 (c .before .before .before .args .j) _ _ (search needs) (c .residue-4 .ensures)
 
-add-eleven : tie.Need-add-eleven Inv-loop μ-loop
-add-eleven c = search needs
+returns-6 : tie.Need-returns-6
+returns-6 c = by-factor 5 (c .before .before .before .args .j) _ _ (search needs) (c .residue-5 .ensures)
 
-eleven-requires : tie.Need-eleven-requires Inv-loop μ-loop
-eleven-requires c κs = search needs
+returns-7 : tie.Need-returns-7
+returns-7 c = by-factor 6 (c .before .before .before .args .j) _ _ (search needs) (c .residue-6 .ensures)
 
-add-i : tie.Need-add-i Inv-loop μ-loop
-add-i c = search needs
-
-loop-less : tie.Need-loop-less Inv-loop μ-loop
-loop-less c = search needs
-
-loop-again : tie.Need-loop-again Inv-loop μ-loop
-loop-again c = (search needs, residue-turn _ _ _ (c .before .before .loop .inv .1) (c .eleven .ensures))
-
-returns : tie.Need-returns Inv-loop μ-loop
-returns c = residue-end _ _ _ _ (c .before .loop .inv .1) (search needs) (search needs)
+returns-8 : tie.Need-returns-8
+returns-8 c =
+    let n = c .before .match .rest in
+    let last = last-factor _ (n .0 .0 .0 .0 .0 .0 .1) (n .0 .0 .0 .0 .0 .1) (n .0 .0 .0 .0 .1) (n .0 .0 .0 .1) (n .0 .0 .1) (n .0 .1) (n .1) (c .before .before .before .pre .0) in
+    by-factor 7 _ _ _ last (c .residue-7 .ensures)
 
 pub residue-spec : {M : Type 1} → statement M
 residue-spec =
     tie.close
     (tie.spec
-    Inv-loop
-    μ-loop
-    first-five-requires
-    loop-holds
-    mul-eleven
-    add-eleven
-    eleven-requires
-    add-i
-    loop-less
-    loop-again
-    returns)
+    (λ c κs. search needs) returns
+    (λ c κs. search needs) returns-2
+    (λ c κs. search needs) returns-3
+    (λ c κs. search needs) returns-4
+    (λ c κs. search needs) returns-5
+    (λ c κs. search needs) returns-6
+    (λ c κs. search needs) returns-7
+    (λ c κs. search needs) returns-8)

@@ -20,8 +20,7 @@ use Rattle.words.proofs.Places.Bytes.{bitAt-lt}
 use Rattle.words.proofs.Places.Numbers.{bitOf-number, bitOf-zero, numberOf-bits, numberOf-lt, numberOf-same}
 use Rattle.words.proofs.Codes.InnerParity.{remainder-short}
 use Rattle.words.proofs.Codes.ShiftedBits.{bitOf-sum, twice-high}
-use Rattle.frames.specs.SideBySide.{placeAt}
-use Rattle.frames.specs.InnerResidues.{coefficient, sideBySide, wordResidue, residueOf, advanced, advancedBy, begun}
+use Rattle.frames.specs.InnerResidues.{coefficient, sideBySide, wordResidue, turned, swapped, loadedAt, residueOf, advanced, begun}
 
 -- ---- numbers of bits
 
@@ -95,6 +94,16 @@ past x i h l =
     let k : 2 ^ 5 ≤ 2 ^ i = pow-mono l in
     ap (λ (y : ℕ). y % 2) (div-eq-of-lt (omega arith))
 
+-- ---- bytes turned round
+
+turned-lt : (k : ℕ) → k < 64 → turned k < 64
+unfolding turned
+turned-lt k h = omega arith
+
+turned-twice : (k : ℕ) → k < 64 → turned (turned k) ≡ k
+unfolding turned
+turned-twice k h = omega arith
+
 -- ---- residues, place by place
 
 scaled-lt : (t x : ℕ) → scale t (coefficient 10 x) < 2
@@ -102,11 +111,16 @@ unfolding scale
 scaled-lt zero x = omega arith
 scaled-lt (suc t) x = omega arith
 
+-- n places more, from place q on
+unfoldable pub advancedBy : ℕ → List ℕ → ℕ → ℕ → List ℕ → List ℕ
+advancedBy p bytes q zero s = s
+advancedBy p bytes q (suc n) s = advanced p (advancedBy p bytes q n s) (loadedAt bytes (q + n))
+
 module _ (j : ℕ) (bytes : List ℕ) where
   abbrev bit : ℕ → ℕ → ℕ
-  bit k p = bitAt bytes (64 * p + k)
+  bit k p = bitAt bytes (64 * p + turned k)
 
-  pub cell : (n i : ℕ) → i < 11 → at (residueOf j bytes n) i ≡ numberOf 64 (λ k. coefficient i (wordResidue j bytes n k))
+  pub cell : (n i : ℕ) → i < 11 → at (residueOf j bytes n) i ≡ numberOf 64 (λ k. coefficient i (wordResidue j bytes n (turned k)))
   unfolding residueOf sideBySide
   cell n i h = tabulate-at 11 _ i 0 h
 
@@ -119,26 +133,26 @@ module _ (j : ℕ) (bytes : List ℕ) where
     p = at factors j
 
     abbrev r : ℕ → ℕ
-    r = wordResidue j bytes n
+    r k = wordResidue j bytes n (turned k)
 
     abbrev made : ℕ → ℕ
-    made i = numberOf 64 (λ k. coefficient i (wordResidue j bytes (suc n) k))
+    made i = numberOf 64 (λ k. coefficient i (wordResidue j bytes (suc n) (turned k)))
 
     -- a coefficient that the bits h come into
     moved : (i x : ℕ) (h : ℕ → ℕ) → ((k : ℕ) → h k < 2) → x ≡ numberOf 64 h →
-        ((k : ℕ) → coefficient i (wordResidue j bytes (suc n) k) ≡ xor (scale (coefficient i p) (coefficient 10 (r k))) (h k)) →
+        ((k : ℕ) → coefficient i (wordResidue j bytes (suc n) (turned k)) ≡ xor (scale (coefficient i p) (coefficient 10 (r k))) (h k)) →
         xor (scale (coefficient i p) (at (residueOf j bytes n) 10)) x ≡ made i
     moved i x h bits e step =
         ap₂ xor (ap (scale (coefficient i p)) (cell n 10 (lit< tt)) ∙ sym (number-scale 64 (coefficient i p) _)) e
         ∙ sym (numberOf-same 64 _ _ (λ k l. step k) ∙ number-sum 64 _ h (λ k. scaled-lt (coefficient i p) (r k)) bits)
 
-    residue-cell : (i : ℕ) → i < 11 → xor (scale (coefficient i p) (at (residueOf j bytes n) 10)) (at (placeAt bytes n ∷ residueOf j bytes n) i) ≡ made i
-    unfolding placeAt wordResidue horner
+    residue-cell : (i : ℕ) → i < 11 → xor (scale (coefficient i p) (at (residueOf j bytes n) 10)) (at (loadedAt bytes n ∷ residueOf j bytes n) i) ≡ made i
+    unfolding loadedAt wordResidue horner
     residue-cell zero l = moved 0 _ (λ k. bit k n) (λ k. bitAt-lt bytes _) refl (λ k. next-first p (r k) (bit k n) (bitAt-lt bytes _))
     residue-cell (suc i) l =
         moved (suc i) _ (λ k. coefficient i (r k)) (λ k. omega arith) (cell n i (omega arith)) (λ k. next-later p (r k) (bit k n) (bitAt-lt bytes _) i)
 
-    residue-next : advanced p (residueOf j bytes n) (placeAt bytes n) ≡ residueOf j bytes (suc n)
+    residue-next : advanced p (residueOf j bytes n) (loadedAt bytes n) ≡ residueOf j bytes (suc n)
     unfolding advanced
     residue-next = tabulate-same 11 _ _ residue-cell ∙ whole
       where
@@ -151,8 +165,8 @@ module _ (j : ℕ) (bytes : List ℕ) where
   residue-more n (suc m) = rw (add-suc, residue-more n m) (residue-next (n + m))
 
   -- the first five places: each residue is the number that they make
-  begun-cell : (i : ℕ) → i < 11 → cond (ltb i 5) (placeAt bytes (4 - i)) 0 ≡ numberOf 64 (λ k. coefficient i (wordResidue j bytes 5 k))
-  unfolding placeAt wordResidue
+  begun-cell : (i : ℕ) → i < 11 → cond (ltb i 5) (loadedAt bytes (4 - i)) 0 ≡ numberOf 64 (λ k. coefficient i (wordResidue j bytes 5 (turned k)))
+  unfolding loadedAt wordResidue
   begun-cell i l = go (decLt i 5)
     where
       short : (k : ℕ) → remainder 11 (at factors j) (bit k) 5 ≡ numberOf 5 (bit k)
@@ -169,3 +183,10 @@ module _ (j : ℕ) (bytes : List ℕ) where
   pub begun-residue : begun bytes ≡ residueOf j bytes 5
   unfolding begun
   begun-residue = tabulate-same 11 _ _ begun-cell ∙ sym (tabulate-is 11 _ (residueOf j bytes 5) 0 (long 5) (cell 5))
+
+  -- turned round, they stand in the order of the inner words
+  pub turned-cell : (n i : ℕ) → i < 11 → swapped (at (residueOf j bytes n) i) ≡ numberOf 64 (λ k. coefficient i (wordResidue j bytes n k))
+  unfolding swapped
+  turned-cell n i h =
+      numberOf-same 64 _ _ (λ k l. ap (λ (x : ℕ). bitOf 64 x (turned k)) (cell n i h) ∙ bitOf-number _ (λ k. omega arith) 64 (turned k) (turned-lt k l)
+      ∙ ap (λ (m : ℕ). coefficient i (wordResidue j bytes n m)) (turned-twice k l))

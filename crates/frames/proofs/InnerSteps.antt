@@ -2,7 +2,8 @@
 use mathlib.Core.Path.{_≡_, refl, sym, ap, _∙_}
 use mathlib.Core.Bool.{Bool, true, false, cond}
 use mathlib.Core.List.{List}
-use Prim.Native.Nat.{ℕ, _+_, _-_, _*_, _/_, _%_, _^_, _≤_, _<_}
+use Prim.Native.Nat.{ℕ, zero, suc, _+_, _-_, _*_, _/_, _%_, _^_, _≤_, _<_}
+use native.Mathlib.Nat.{add-zero}
 use native.Mathlib.Omega.{arith}
 use borrow.Author.Tests.{eq-eqb, eqb-true}
 use lib.Bits.{bitAnd, bitOr, and-mask, or-shifted}
@@ -12,15 +13,17 @@ use lib.Pow.{pow-add, pow-pos, shl-exact, shl-lt}
 use mir.Facts.{fits-widen}
 use mir.Syntax.{w8, w64}
 use mir.Val.{Fits}
-use Rattle.fields.proofs.Lists.{tabulate-at, tabulate-length}
+use Rattle.fields.specs.Lists.{tabulate}
+use Rattle.fields.proofs.Lists.{tabulate-at, tabulate-length, tabulate-lt}
 use Rattle.words.specs.Places.{at, allBelow, bitOf, numberOf, bitAt, bytesOf}
 use Rattle.words.specs.InnerCode.{isInner}
 use Rattle.words.proofs.Places.Bytes.{places-read, number-of-bits}
-use Rattle.words.proofs.Places.Numbers.{bitOf-lt, bitOf-zero, bitOf-number, numberOf-same, number-parts, numberOf-bits}
+use Rattle.words.proofs.Places.Numbers.{bitOf-lt, bitOf-zero, bitOf-number, numberOf-lt, numberOf-same, number-parts, numberOf-bits}
 use Rattle.words.proofs.Places.Tests.{tests-agree, every-at, every-true, below-all}
 use Rattle.frames.specs.Frames.{innerWord, withParity}
 use Rattle.frames.specs.Received.{innerCodes}
 use Rattle.frames.specs.SideBySide.{placeAt, parities, byteOf64, parityBytes}
+use Rattle.frames.specs.InnerResidues.{turned, swapped, loadedAt}
 use Rattle.frames.specs.Symbols.{Placed}
 use Rattle.frames.specs.Passes.{wrongWords}
 use Rattle.frames.proofs.Placing.{Placing, placing-next, placing-end}
@@ -77,6 +80,40 @@ module _ (bytes : List ℕ) (p : ℕ) (small : (i : ℕ) → Fits w8 (getD bytes
       ap (λ (x : ℕ). bitOr x (byte 7)) seven ∙ or-shifted (numberOf 56 bits) 8 (byte 7) (omega (arith, small (8 * p + 7)))
       ∙ sym (number-parts 56 8 bits ∙ ap (λ (y : ℕ). numberOf 56 bits * 256 + y) (byte-bits 7))
 
+-- eight bytes, the first the lowest
+joined : (f : ℕ → ℕ) → ((m : ℕ) → f m < 256) →
+    bitOr (bitOr (bitOr (bitOr (bitOr (bitOr (bitOr (f 7 * 2 ^ 56 % 2 ^ 64) (f 6 * 2 ^ 48 % 2 ^ 64)) (f 5 * 2 ^ 40 % 2 ^ 64))
+    (f 4 * 2 ^ 32 % 2 ^ 64)) (f 3 * 2 ^ 24 % 2 ^ 64)) (f 2 * 2 ^ 16 % 2 ^ 64)) (f 1 * 2 ^ 8 % 2 ^ 64)) (f 0) ≡ numberOf 64 (λ k. bitOf 8 (f (7 - k / 8)) (k % 8))
+unfolding tabulate placeAt bitAt
+joined f small = place-made xs 0 (λ i. record { fits = tabulate-lt 256 8 _ (lit< tt) (λ m. small (7 - m)) i }) ∙ numberOf-same 64 _ _ bit
+  where
+    xs : List ℕ
+    xs = tabulate 8 (λ m. f (7 - m))
+
+    bit : (k : ℕ) → k < 64 → bitOf 8 (at xs ((64 * 0 + k) / 8)) ((64 * 0 + k) % 8) ≡ bitOf 8 (f (7 - k / 8)) (k % 8)
+    bit k l =
+        let e : 64 * 0 + k ≡ k = omega arith in
+        rw e (ap (λ (x : ℕ). bitOf 8 x (k % 8)) (tabulate-at 8 (λ m. f (7 - m)) (k / 8) 0 (omega arith)))
+
+-- byte m of place p
+abbrev byteIn : List ℕ → ℕ → ℕ → ℕ
+byteIn bytes p zero = getD bytes (8 * p) 0
+byteIn bytes p (suc m) = getD bytes (8 * p + suc m) 0
+
+byte-in : (bytes : List ℕ) (p m : ℕ) → byteIn bytes p m ≡ getD bytes (8 * p + m) 0
+byte-in bytes p zero = ap (λ (i : ℕ). getD bytes i 0) (sym (add-zero (8 * p)))
+byte-in bytes p (suc m) = refl
+
+pub load-made : (bytes : List ℕ) (p : ℕ) → ((i : ℕ) → Fits w8 (getD bytes i 0)) →
+    bitOr (bitOr (bitOr (bitOr (bitOr (bitOr (bitOr (getD bytes (8 * p + 7) 0 * 2 ^ 56 % 2 ^ 64) (getD bytes (8 * p + 6) 0 * 2 ^ 48 % 2 ^ 64)) (getD bytes (8 * p + 5) 0 * 2 ^ 40 % 2 ^ 64))
+    (getD bytes (8 * p + 4) 0 * 2 ^ 32 % 2 ^ 64)) (getD bytes (8 * p + 3) 0 * 2 ^ 24 % 2 ^ 64)) (getD bytes (8 * p + 2) 0 * 2 ^ 16 % 2 ^ 64)) (getD bytes (8 * p + 1) 0 * 2 ^ 8 % 2 ^ 64)) (getD bytes (8 * p) 0) ≡ loadedAt bytes p
+unfolding loadedAt turned bitAt
+load-made bytes p small =
+    joined (byteIn bytes p) (λ m. rw (byte-in bytes p m) (omega (arith, small (8 * p + m))))
+    ∙ numberOf-same 64 _ _ (λ k l. let q : (64 * p + (8 * (7 - k / 8) + k % 8)) / 8 ≡ 8 * p + (7 - k / 8) = omega arith in
+    let r : (64 * p + (8 * (7 - k / 8) + k % 8)) % 8 ≡ k % 8 = omega arith in
+    rw (q, r) (ap (λ (x : ℕ). bitOf 8 x (k % 8)) (byte-in bytes p (7 - k / 8))))
+
 -- ---- the bytes of the parity places
 
 pub byte-made : (x j : ℕ) → j < 8 → bitAnd (x / 2 ^ (56 - 8 * j)) 255 ≡ byteOf64 x j
@@ -105,9 +142,21 @@ module _ (cells : List ℕ) where
 
 -- ---- the frame with its parity places
 
+byte-lt : (x j : ℕ) → byteOf64 x j < 256
+unfolding byteOf64
+byte-lt x j = numberOf-lt _ (λ i. bitOf-lt 64 x (8 * j + i)) 8
+
 byte-bit : (x j i : ℕ) → i < 8 → bitOf 8 (byteOf64 x j) i ≡ bitOf 64 x (8 * j + i)
 unfolding byteOf64
 byte-bit x j i h = bitOf-number (λ i. bitOf 64 x (8 * j + i)) (λ i. bitOf-lt 64 x (8 * j + i)) 8 i h
+
+pub swapped-made : (x : ℕ) {b7 b6 b5 b4 b3 b2 b1 b0 : ℕ} → b7 ≡ byteOf64 x 7 → b6 ≡ byteOf64 x 6 → b5 ≡ byteOf64 x 5 → b4 ≡ byteOf64 x 4 → b3 ≡ byteOf64 x 3 →
+    b2 ≡ byteOf64 x 2 → b1 ≡ byteOf64 x 1 → b0 ≡ byteOf64 x 0 →
+    bitOr (bitOr (bitOr (bitOr (bitOr (bitOr (bitOr (b7 * 2 ^ 56 % 2 ^ 64) (b6 * 2 ^ 48 % 2 ^ 64)) (b5 * 2 ^ 40 % 2 ^ 64))
+    (b4 * 2 ^ 32 % 2 ^ 64)) (b3 * 2 ^ 24 % 2 ^ 64)) (b2 * 2 ^ 16 % 2 ^ 64)) (b1 * 2 ^ 8 % 2 ^ 64)) b0 ≡ swapped x
+unfolding swapped turned
+swapped-made x e7 e6 e5 e4 e3 e2 e1 e0 =
+    rw (e7, e6, e5, e4, e3, e2, e1, e0) (joined (byteOf64 x) (byte-lt x) ∙ numberOf-same 64 _ _ (λ k l. byte-bit x (7 - k / 8) (k % 8) (omega arith)))
 
 module _ (before after : List ℕ) where
   stored-bit : Placed 15616 (parityBytes (parities before)) before after → (i : ℕ) → i < 130560 → withParity (bitAt before) i ≡ bitAt after i

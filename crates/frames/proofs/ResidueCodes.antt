@@ -10,7 +10,7 @@ use lib.Dec.{eqb, lit<}
 use lib.ListN.{length}
 use lib.Pow.{pow-pos}
 use Rattle.fields.proofs.Lists.{tabulate-at}
-use Rattle.words.specs.Places.{at, every, allBelow, bitOf, bitAt, value}
+use Rattle.words.specs.Places.{at, every, allBelow, bitOf, numberOf, bitAt, value}
 use Rattle.words.specs.InnerCode.{powerB, valueB, factors, remainder, isInner}
 use Rattle.words.proofs.Places.Bytes.{bitAt-lt}
 use Rattle.words.proofs.Places.Numbers.{bitOf-number, bitOf-zero, numberOf-bits, numberOf-lt, numberOf-same}
@@ -21,11 +21,10 @@ use Rattle.words.proofs.Codes.InnerWords.{inner-is, inner-roots, remainder-valu
 use Rattle.words.proofs.Codes.InnerRoots.{inner-code}
 use Rattle.frames.specs.Frames.{innerWord}
 use Rattle.frames.specs.SideBySide.{orTo}
-use Rattle.frames.specs.InnerResidues.{coefficient, wordResidue, residueOf, residuesOf}
+use Rattle.frames.specs.InnerResidues.{coefficient, wordResidue, residuesOf}
 use Rattle.frames.specs.Passes.{wrongWords}
 use Rattle.frames.proofs.FrameBits.{inner-word-length, place-to-bit}
 use Rattle.frames.proofs.SideBySide.{orTo-bit, orTo-lt}
-use Rattle.frames.proofs.InnerResidues.{cell}
 
 -- ---- one word
 
@@ -68,7 +67,7 @@ module _ (block : List ℕ) where
   pub residue-bit : (n k c : ℕ) → k < 64 → c < 88 → bitOf 64 (at (residuesOf block n) c) k ≡ coefficient (c % 11) (wordResidue (c / 11) block n k)
   unfolding residuesOf
   residue-bit n k c hk hc =
-      ap (λ (x : ℕ). bitOf 64 x k) (tabulate-at 88 _ c 0 hc ∙ cell (c / 11) block n (c % 11) (omega arith)) ∙ bitOf-number _ (λ k. omega arith) 64 k hk
+      ap (λ (x : ℕ). bitOf 64 x k) (tabulate-at 88 _ c 0 hc) ∙ bitOf-number _ (λ k. omega arith) 64 k hk
 
   -- the residues of the whole words
   abbrev whole : List ℕ
@@ -103,7 +102,7 @@ module _ (block : List ℕ) where
 
   pub residues-lt : (n c : ℕ) → c < 88 → at (residuesOf block n) c < 2 ^ 64
   unfolding residuesOf
-  residues-lt n c h = rw (tabulate-at 88 (λ c. at (residueOf (c / 11) block n) (c % 11)) c 0 h, cell (c / 11) block n (c % 11) (omega arith)) (numberOf-lt _ (λ k. omega arith) 64)
+  residues-lt n c h = rw (tabulate-at 88 (λ c. numberOf 64 (λ k. coefficient (c % 11) (wordResidue (c / 11) block n k))) c 0 h) (numberOf-lt _ (λ k. omega arith) 64)
 
   residues-wrong : orTo 88 (at whole) ≡ wrongWords b
   unfolding wrongWords

@@ -3,25 +3,26 @@ use mathlib.Core.Path.{_≡_, refl, sym, ap, _∙_}
 use mathlib.Core.List.{List, [], _∷_}
 use Prim.Native.Nat.{ℕ, _+_, _-_, _*_, _/_, _%_, _≤_, _<_}
 use native.Mathlib.Decide.{decLt}
-use native.Mathlib.Nat.{add-zero}
+use native.Mathlib.Nat.{add-zero, le-refl}
 use native.Mathlib.Numerals.{add-one}
 use native.Mathlib.Omega.{arith}
 use lib.Bits.{bitOr}
-use lib.ListN.{length, getD, replicate, length-replicate}
+use lib.ListN.{length, getD, set, replicate, length-replicate}
 use mir.Syntax.{w64}
 use mir.Val.{Fits}
 use Rattle.fields.specs.Lists.{tabulate}
+use Rattle.fields.proofs.Lists.{tabulate-same}
 use Rattle.words.specs.Places.{at}
 use Rattle.words.specs.InnerCode.{factors}
-use Rattle.words.proofs.Places.Filling.{Filled, filled-start, filled-end}
+use Rattle.words.proofs.Places.Filling.{Filled, filled-start, filled-end, FilledOver, over-next}
 use Rattle.frames.specs.Symbols.{Placed}
-use Rattle.frames.specs.SideBySide.{placeAt, orTo}
-use Rattle.frames.specs.InnerResidues.{residueOf, residuesOf, advanced, advancedBy, begun}
-use Rattle.frames.proofs.InnerResidues.{residue-more, begun-residue}
+use Rattle.frames.specs.SideBySide.{orTo}
+use Rattle.frames.specs.InnerResidues.{swapped, allSwapped, loadedAt, residueOf, residuesOf, advanced, begun}
+use Rattle.frames.proofs.InnerResidues.{advancedBy, residue-more, begun-residue, turned-cell}
 
 -- ---- places
 
-pub five-places : (b : List ℕ) {x0 x1 x2 x3 x4 : ℕ} → x4 ≡ placeAt b 4 → x3 ≡ placeAt b 3 → x2 ≡ placeAt b 2 → x1 ≡ placeAt b 1 → x0 ≡ placeAt b 0 →
+pub five-places : (b : List ℕ) {x0 x1 x2 x3 x4 : ℕ} → x4 ≡ loadedAt b 4 → x3 ≡ loadedAt b 3 → x2 ≡ loadedAt b 2 → x1 ≡ loadedAt b 1 → x0 ≡ loadedAt b 0 →
     x4 ∷ x3 ∷ x2 ∷ x1 ∷ x0 ∷ 0 ∷ 0 ∷ 0 ∷ 0 ∷ 0 ∷ 0 ∷ [] ≡ begun b
 unfolding begun tabulate
 five-places b e4 e3 e2 e1 e0 = rw (e4, e3, e2, e1, e0)
@@ -47,14 +48,14 @@ module _ (i blocks n : ℕ) (taken : i < blocks) (pre : (blocks ≤ 185) × (40 
   pub block-less : blocks - (i + 1) < blocks - i
   block-less = omega arith
 
-pub eleven-places : (p q : ℕ) (b s : List ℕ) {s1 s2 s3 s4 s5 s6 s7 s8 s9 s10 s11 : List ℕ} → s1 ≡ advanced p s (placeAt b q) → s2 ≡ advanced p s1 (placeAt b (q + 1)) →
-    s3 ≡ advanced p s2 (placeAt b (q + 2)) → s4 ≡ advanced p s3 (placeAt b (q + 3)) → s5 ≡ advanced p s4 (placeAt b (q + 4)) →
-    s6 ≡ advanced p s5 (placeAt b (q + 5)) → s7 ≡ advanced p s6 (placeAt b (q + 6)) → s8 ≡ advanced p s7 (placeAt b (q + 7)) →
-    s9 ≡ advanced p s8 (placeAt b (q + 8)) → s10 ≡ advanced p s9 (placeAt b (q + 9)) → s11 ≡ advanced p s10 (placeAt b (q + 10)) → s11 ≡ advancedBy p b q 11 s
+pub eleven-places : (p q : ℕ) (b s : List ℕ) {s1 s2 s3 s4 s5 s6 s7 s8 s9 s10 s11 : List ℕ} → s1 ≡ advanced p s (loadedAt b q) → s2 ≡ advanced p s1 (loadedAt b (q + 1)) →
+    s3 ≡ advanced p s2 (loadedAt b (q + 2)) → s4 ≡ advanced p s3 (loadedAt b (q + 3)) → s5 ≡ advanced p s4 (loadedAt b (q + 4)) →
+    s6 ≡ advanced p s5 (loadedAt b (q + 5)) → s7 ≡ advanced p s6 (loadedAt b (q + 6)) → s8 ≡ advanced p s7 (loadedAt b (q + 7)) →
+    s9 ≡ advanced p s8 (loadedAt b (q + 8)) → s10 ≡ advanced p s9 (loadedAt b (q + 9)) → s11 ≡ advanced p s10 (loadedAt b (q + 10)) → s11 ≡ advancedBy p b q 11 s
 unfolding advancedBy
 eleven-places p q b s e1 e2 e3 e4 e5 e6 e7 e8 e9 e10 e11 =
-    let next : (s t : List ℕ) (i : ℕ) → s ≡ t → advanced p s (placeAt b i) ≡ advanced p t (placeAt b i) = λ s t i e. ap (λ (c : List ℕ). advanced p c (placeAt b i)) e in
-    let f1 = e1 ∙ ap (λ (i : ℕ). advanced p s (placeAt b i)) (sym (add-zero q)) in
+    let next : (s t : List ℕ) (i : ℕ) → s ≡ t → advanced p s (loadedAt b i) ≡ advanced p t (loadedAt b i) = λ s t i e. ap (λ (c : List ℕ). advanced p c (loadedAt b i)) e in
+    let f1 = e1 ∙ ap (λ (i : ℕ). advanced p s (loadedAt b i)) (sym (add-zero q)) in
     let f4 = e4 ∙ next _ _ _ (e3 ∙ next _ _ _ (e2 ∙ next _ _ _ f1)) in
     let f8 = e8 ∙ next _ _ _ (e7 ∙ next _ _ _ (e6 ∙ next _ _ _ (e5 ∙ next _ _ _ f4))) in
     e11 ∙ next _ _ _ (e10 ∙ next _ _ _ (e9 ∙ next _ _ _ f8))
@@ -120,9 +121,23 @@ residues-next b n j s xs before after f h es ex long p =
         let r : (11 * j + k) % 11 ≡ k = omega arith in
         rw (q, r) (ap (λ (x : List ℕ). at x k) (ex ∙ es))
 
-pub residues-end : (b : List ℕ) (n j : ℕ) (out : List ℕ) → Filled 88 (residueAt b n) (11 * j) out → 8 ≤ j → out ≡ residuesOf b n
-unfolding residueAt residuesOf
-residues-end b n j out f h = filled-end f (omega arith)
+pub residues-end : (b : List ℕ) (n j : ℕ) (before after : List ℕ) → Filled 88 (residueAt b n) (11 * j) before → 8 ≤ j → after ≡ allSwapped before →
+    after ≡ residuesOf b n
+unfolding residueAt residuesOf allSwapped
+residues-end b n j before after f h e = e ∙ tabulate-same 88 _ _ (λ c l. ap swapped (f .done c (omega arith)) ∙ turned-cell (c / 11) b n (c % 11) (omega arith))
+
+-- each number turned round
+unfoldable pub swappedAt : List ℕ → ℕ → ℕ
+swappedAt cells c = swapped (at cells c)
+
+pub turn-next : (before cells : List ℕ) (c x : ℕ) → FilledOver 88 (swappedAt before) before c cells → c < 88 → x ≡ swapped (getD cells c 0) →
+    FilledOver 88 (swappedAt before) before (c + 1) (set cells c x)
+unfolding swappedAt
+turn-next before cells c x f h e = over-next f h (e ∙ ap swapped (f .ahead c (le-refl c)))
+
+pub turn-end : (before cells : List ℕ) (c : ℕ) → FilledOver 88 (swappedAt before) before c cells → 88 ≤ c → cells ≡ allSwapped before
+unfolding swappedAt allSwapped
+turn-end before cells c f h = filled-end (f .filled) h
 
 -- ---- bits that are 1 in some number
 

@@ -2,13 +2,12 @@
 -- word k.
 use mathlib.Core.Bool.{cond}
 use mathlib.Core.List.{List, [], _∷_}
-use Prim.Native.Nat.{ℕ, zero, suc, _+_, _-_, _*_, _/_, _%_, _^_}
+use Prim.Native.Nat.{ℕ, _+_, _-_, _*_, _/_, _%_, _^_}
 use lib.Dec.{ltb}
 use Rattle.fields.specs.Lists.{tabulate}
 use Rattle.fields.specs.Elements.{xor, scale}
-use Rattle.words.specs.Places.{at, numberOf, bitAt}
+use Rattle.words.specs.Places.{at, bitOf, numberOf, bitAt}
 use Rattle.words.specs.InnerCode.{factors, remainder}
-use Rattle.frames.specs.SideBySide.{placeAt}
 use Rattle.frames.specs.declared.residues.Lanes.{Lanes}
 
 -- the coefficient of z^i in the polynomial r
@@ -19,15 +18,31 @@ coefficient i r = r / 2 ^ i % 2
 unfoldable pub sideBySide : ℕ → (ℕ → ℕ) → List ℕ
 sideBySide m r = tabulate m (λ i. numberOf 64 (λ k. coefficient i (r k)))
 
--- the residue of the first n places of inner word k modulo factor j; those of all inner words, eleven numbers; and these for all eight factors
+-- the residue of the first n places of inner word k modulo factor j; and those of all inner words modulo all eight factors, eleven numbers each
 unfoldable pub wordResidue : ℕ → List ℕ → ℕ → ℕ → ℕ
 wordResidue j bytes n k = remainder 11 (at factors j) (λ p. bitAt bytes (64 * p + k)) n
 
-unfoldable pub residueOf : ℕ → List ℕ → ℕ → List ℕ
-residueOf j bytes n = sideBySide 11 (wordResidue j bytes n)
-
 unfoldable pub residuesOf : List ℕ → ℕ → List ℕ
-residuesOf bytes n = tabulate 88 (λ c. at (residueOf (c / 11) bytes n) (c % 11))
+residuesOf bytes n = tabulate 88 (λ c. numberOf 64 (λ k. coefficient (c % 11) (wordResidue (c / 11) bytes n k)))
+
+-- ---- the order of the steps
+
+-- eight bytes with the first the lowest: bit k is the one that is bit `turned k` if the first is the highest
+unfoldable pub turned : ℕ → ℕ
+turned k = 8 * (7 - k / 8) + k % 8
+
+unfoldable pub swapped : ℕ → ℕ
+swapped x = numberOf 64 (λ k. bitOf 64 x (turned k))
+
+unfoldable pub allSwapped : List ℕ → List ℕ
+allSwapped xs = tabulate 88 (λ c. swapped (at xs c))
+
+-- place p of every inner word in that order, and the residues modulo factor j
+unfoldable pub loadedAt : List ℕ → ℕ → ℕ
+loadedAt bytes p = numberOf 64 (λ k. bitAt bytes (64 * p + turned k))
+
+unfoldable pub residueOf : ℕ → List ℕ → ℕ → List ℕ
+residueOf j bytes n = sideBySide 11 (λ k. wordResidue j bytes n (turned k))
 
 -- ---- the steps
 
@@ -39,11 +54,6 @@ cells s = s .r0 ∷ s .r1 ∷ s .r2 ∷ s .r3 ∷ s .r4 ∷ s .r5 ∷ s .r6 ∷ 
 unfoldable pub advanced : ℕ → List ℕ → ℕ → List ℕ
 advanced p s x = tabulate 11 (λ i. xor (scale (coefficient i p) (at s 10)) (at (x ∷ s) i))
 
--- n places more, from place q on
-unfoldable pub advancedBy : ℕ → List ℕ → ℕ → ℕ → List ℕ → List ℕ
-advancedBy p bytes q zero s = s
-advancedBy p bytes q (suc n) s = advanced p (advancedBy p bytes q n s) (placeAt bytes (q + n))
-
 -- the first five places
 unfoldable pub begun : List ℕ → List ℕ
-begun bytes = tabulate 11 (λ i. cond (ltb i 5) (placeAt bytes (4 - i)) 0)
+begun bytes = tabulate 11 (λ i. cond (ltb i 5) (loadedAt bytes (4 - i)) 0)

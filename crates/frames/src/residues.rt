@@ -1,14 +1,15 @@
 // The residues of the 64 inner words of a frame modulo the eight factors of the divisor, side by side: a number holds one coefficient of 64 residues. An
 // inner word is a code word just where all eight of its residues are zero, and the residues give its parity bits.
-use crate::inner_words::place;
+use crate::Frame;
+use crate::inner_words::byte;
 use words::Inner;
 ghost use mathlib.Core.Path.{_≡_};
 ghost use Prim.Native.Nat.{_+_, _*_, _≤_, _<_};
 ghost use lib.ListN.{length};
 ghost use Rattle.words.specs.Places.{at};
 ghost use Rattle.frames.specs.Symbols.{Placed};
-ghost use Rattle.frames.specs.SideBySide.{placeAt, orTo};
-ghost use Rattle.frames.specs.InnerResidues.{cells, advanced, begun, residueOf, residuesOf};
+ghost use Rattle.frames.specs.SideBySide.{orTo};
+ghost use Rattle.frames.specs.InnerResidues.{swapped, allSwapped, loadedAt, cells, advanced, begun, residueOf, residuesOf};
 
 // Factors of the divisor, and the degree of each.
 const FACTORS: usize = 8;
@@ -21,18 +22,48 @@ pub const WORD_BLOCKS: usize = 185;
 pub const DATA_BLOCKS: usize = WORD_BLOCKS - FACTORS;
 
 // The eleven coefficients of 64 residues, the lowest power first.
-pub struct Lanes {
-    pub r0: u64,
-    pub r1: u64,
-    pub r2: u64,
-    pub r3: u64,
-    pub r4: u64,
-    pub r5: u64,
-    pub r6: u64,
-    pub r7: u64,
-    pub r8: u64,
-    pub r9: u64,
-    pub r10: u64,
+struct Lanes {
+    r0: u64,
+    r1: u64,
+    r2: u64,
+    r3: u64,
+    r4: u64,
+    r5: u64,
+    r6: u64,
+    r7: u64,
+    r8: u64,
+    r9: u64,
+    r10: u64,
+}
+
+// Place p of every inner word, the first of eight bytes the lowest: no byte has to move.
+fn load(bytes: &[u8], p: usize) -> u64
+    requires { ⌜ (p < 2040) × (8 * p + 8 ≤ length (now bytes)) ⌝ }
+    ensures { λ r. ⌜ r ≡ loadedAt (now (bytes .entry)) p ⌝ }
+{
+    let i = Frame::PLACE_BYTES * p;
+    ((bytes[i + 7] as u64) << 56)
+        | ((bytes[i + 6] as u64) << 48)
+        | ((bytes[i + 5] as u64) << 40)
+        | ((bytes[i + 4] as u64) << 32)
+        | ((bytes[i + 3] as u64) << 24)
+        | ((bytes[i + 2] as u64) << 16)
+        | ((bytes[i + 1] as u64) << 8)
+        | (bytes[i] as u64)
+}
+
+// The number with its eight bytes turned round.
+fn swapped(x: u64) -> u64
+    ensures { λ r. ⌜ r ≡ swapped x ⌝ }
+{
+    ((byte(x, 7) as u64) << 56)
+        | ((byte(x, 6) as u64) << 48)
+        | ((byte(x, 5) as u64) << 40)
+        | ((byte(x, 4) as u64) << 32)
+        | ((byte(x, 3) as u64) << 24)
+        | ((byte(x, 2) as u64) << 16)
+        | ((byte(x, 1) as u64) << 8)
+        | (byte(x, 0) as u64)
 }
 
 // The first five places of every inner word: no residue is reduced yet.
@@ -41,11 +72,11 @@ fn first_five(bytes: &[u8]) -> Lanes
     ensures { λ r. ⌜ cells r ≡ begun (now (bytes .entry)) ⌝ }
 {
     Lanes {
-        r0: place(bytes, 4),
-        r1: place(bytes, 3),
-        r2: place(bytes, 2),
-        r3: place(bytes, 1),
-        r4: place(bytes, 0),
+        r0: load(bytes, 4),
+        r1: load(bytes, 3),
+        r2: load(bytes, 2),
+        r3: load(bytes, 1),
+        r4: load(bytes, 0),
         r5: 0,
         r6: 0,
         r7: 0,
@@ -58,9 +89,9 @@ fn first_five(bytes: &[u8]) -> Lanes
 // One place more, modulo each of the eight factors: z times the residue, plus the place.
 fn step_0(bytes: &[u8], p: usize, s: Lanes) -> Lanes
     requires { ⌜ (p < 2040) × (8 * p + 8 ≤ length (now bytes)) ⌝ }
-    ensures { λ r. ⌜ cells r ≡ advanced 2053 (cells s) (placeAt (now (bytes .entry)) p) ⌝ }
+    ensures { λ r. ⌜ cells r ≡ advanced 2053 (cells s) (loadedAt (now (bytes .entry)) p) ⌝ }
 {
-    let x = place(bytes, p);
+    let x = load(bytes, p);
     let f = s.r10;
     Lanes {
         r0: f ^ x,
@@ -79,9 +110,9 @@ fn step_0(bytes: &[u8], p: usize, s: Lanes) -> Lanes
 
 fn step_1(bytes: &[u8], p: usize, s: Lanes) -> Lanes
     requires { ⌜ (p < 2040) × (8 * p + 8 ≤ length (now bytes)) ⌝ }
-    ensures { λ r. ⌜ cells r ≡ advanced 2341 (cells s) (placeAt (now (bytes .entry)) p) ⌝ }
+    ensures { λ r. ⌜ cells r ≡ advanced 2341 (cells s) (loadedAt (now (bytes .entry)) p) ⌝ }
 {
-    let x = place(bytes, p);
+    let x = load(bytes, p);
     let f = s.r10;
     Lanes {
         r0: f ^ x,
@@ -100,9 +131,9 @@ fn step_1(bytes: &[u8], p: usize, s: Lanes) -> Lanes
 
 fn step_2(bytes: &[u8], p: usize, s: Lanes) -> Lanes
     requires { ⌜ (p < 2040) × (8 * p + 8 ≤ length (now bytes)) ⌝ }
-    ensures { λ r. ⌜ cells r ≡ advanced 2189 (cells s) (placeAt (now (bytes .entry)) p) ⌝ }
+    ensures { λ r. ⌜ cells r ≡ advanced 2189 (cells s) (loadedAt (now (bytes .entry)) p) ⌝ }
 {
-    let x = place(bytes, p);
+    let x = load(bytes, p);
     let f = s.r10;
     Lanes {
         r0: f ^ x,
@@ -121,9 +152,9 @@ fn step_2(bytes: &[u8], p: usize, s: Lanes) -> Lanes
 
 fn step_3(bytes: &[u8], p: usize, s: Lanes) -> Lanes
     requires { ⌜ (p < 2040) × (8 * p + 8 ≤ length (now bytes)) ⌝ }
-    ensures { λ r. ⌜ cells r ≡ advanced 2093 (cells s) (placeAt (now (bytes .entry)) p) ⌝ }
+    ensures { λ r. ⌜ cells r ≡ advanced 2093 (cells s) (loadedAt (now (bytes .entry)) p) ⌝ }
 {
-    let x = place(bytes, p);
+    let x = load(bytes, p);
     let f = s.r10;
     Lanes {
         r0: f ^ x,
@@ -142,9 +173,9 @@ fn step_3(bytes: &[u8], p: usize, s: Lanes) -> Lanes
 
 fn step_4(bytes: &[u8], p: usize, s: Lanes) -> Lanes
     requires { ⌜ (p < 2040) × (8 * p + 8 ≤ length (now bytes)) ⌝ }
-    ensures { λ r. ⌜ cells r ≡ advanced 3085 (cells s) (placeAt (now (bytes .entry)) p) ⌝ }
+    ensures { λ r. ⌜ cells r ≡ advanced 3085 (cells s) (loadedAt (now (bytes .entry)) p) ⌝ }
 {
-    let x = place(bytes, p);
+    let x = load(bytes, p);
     let f = s.r10;
     Lanes {
         r0: f ^ x,
@@ -163,9 +194,9 @@ fn step_4(bytes: &[u8], p: usize, s: Lanes) -> Lanes
 
 fn step_5(bytes: &[u8], p: usize, s: Lanes) -> Lanes
     requires { ⌜ (p < 2040) × (8 * p + 8 ≤ length (now bytes)) ⌝ }
-    ensures { λ r. ⌜ cells r ≡ advanced 3851 (cells s) (placeAt (now (bytes .entry)) p) ⌝ }
+    ensures { λ r. ⌜ cells r ≡ advanced 3851 (cells s) (loadedAt (now (bytes .entry)) p) ⌝ }
 {
-    let x = place(bytes, p);
+    let x = load(bytes, p);
     let f = s.r10;
     Lanes {
         r0: f ^ x,
@@ -184,9 +215,9 @@ fn step_5(bytes: &[u8], p: usize, s: Lanes) -> Lanes
 
 fn step_6(bytes: &[u8], p: usize, s: Lanes) -> Lanes
     requires { ⌜ (p < 2040) × (8 * p + 8 ≤ length (now bytes)) ⌝ }
-    ensures { λ r. ⌜ cells r ≡ advanced 2147 (cells s) (placeAt (now (bytes .entry)) p) ⌝ }
+    ensures { λ r. ⌜ cells r ≡ advanced 2147 (cells s) (loadedAt (now (bytes .entry)) p) ⌝ }
 {
-    let x = place(bytes, p);
+    let x = load(bytes, p);
     let f = s.r10;
     Lanes {
         r0: f ^ x,
@@ -205,9 +236,9 @@ fn step_6(bytes: &[u8], p: usize, s: Lanes) -> Lanes
 
 fn step_7(bytes: &[u8], p: usize, s: Lanes) -> Lanes
     requires { ⌜ (p < 2040) × (8 * p + 8 ≤ length (now bytes)) ⌝ }
-    ensures { λ r. ⌜ cells r ≡ advanced 2419 (cells s) (placeAt (now (bytes .entry)) p) ⌝ }
+    ensures { λ r. ⌜ cells r ≡ advanced 2419 (cells s) (loadedAt (now (bytes .entry)) p) ⌝ }
 {
-    let x = place(bytes, p);
+    let x = load(bytes, p);
     let f = s.r10;
     Lanes {
         r0: f ^ x,
@@ -418,8 +449,8 @@ fn residue_7(bytes: &[u8], blocks: usize) -> Lanes
     s
 }
 
-// The residues modulo factor j.
-pub fn residue(j: usize, bytes: &[u8], blocks: usize) -> Lanes
+// The residues modulo factor j, in the order of `load`.
+fn residue(j: usize, bytes: &[u8], blocks: usize) -> Lanes
     requires { ⌜ (j < 8) × (blocks ≤ 185) × (40 + 88 * blocks ≤ length (now bytes)) ⌝ }
     ensures { λ r. ⌜ cells r ≡ residueOf j (now (bytes .entry)) (5 + 11 * blocks) ⌝ }
 {
@@ -465,6 +496,18 @@ pub fn put(numbers: &[u64], i: usize, out: &mut [u64])
     }
 }
 
+// Turns the bytes of each number round.
+fn turn(cells: &mut [u64])
+    requires { ⌜ length (now cells) ≡ 88 ⌝ }
+    ensures { λ _. ⌜ now (cells .exit) ≡ allSwapped (now (cells .entry)) ⌝ }
+{
+    let mut c: usize = 0;
+    while c < Inner::PARITY {
+        cells[c] = swapped(cells[c]);
+        c += 1;
+    }
+}
+
 // The residues of the first 5 + 11 * blocks places modulo all eight factors, one after the other.
 pub fn residues(bytes: &[u8], blocks: usize) -> [u64; Inner::PARITY]
     requires { ⌜ (blocks ≤ 185) × (40 + 88 * blocks ≤ length (now bytes)) ⌝ }
@@ -477,6 +520,7 @@ pub fn residues(bytes: &[u8], blocks: usize) -> [u64; Inner::PARITY]
         put(&numbers, DEGREE * j, &mut out);
         j += 1;
     }
+    turn(&mut out);
     out
 }
 

@@ -6,7 +6,7 @@ use Rattle.frames.proofs.residues.first_five.Tie as tie
 
 returns : tie.Need-returns
 returns c =
-    five-places _ (c .before .before .before .before .place .ensures) (c .before .before .before .place2 .ensures) (c .before .before .place3 .ensures) (c .before .place4 .ensures) (c .place5 .ensures)
+    five-places _ (c .before .before .before .before .load .ensures) (c .before .before .before .load2 .ensures) (c .before .before .load3 .ensures) (c .before .load4 .ensures) (c .load5 .ensures)
 
 pub first-five-spec : {M : Type 1} → statement M
 first-five-spec =

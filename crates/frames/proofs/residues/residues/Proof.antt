@@ -42,6 +42,12 @@ loop-less c = search needs
 loop-again : tie.Need-loop-again Inv-loop μ-loop
 loop-again c = search (needs, residues-next)
 
+slice-aggregate-turn : tie.Need-slice-aggregate-turn Inv-loop μ-loop
+slice-aggregate-turn c = search needs
+
+turn-requires : tie.Need-turn-requires Inv-loop μ-loop
+turn-requires c κs = search needs
+
 returns : tie.Need-returns Inv-loop μ-loop
 returns c = search (needs, residues-end)
 
@@ -61,4 +67,6 @@ residues-spec =
     add-j
     loop-less
     loop-again
+    slice-aggregate-turn
+    turn-requires
     returns)

@@ -7,12 +7,12 @@ use Rattle.frames.specs.InnerResidues.{cells, advanced}
 use Rattle.frames.proofs.residues.step_0.Statement.{statement}
 use Rattle.frames.proofs.residues.step_0.Tie as tie
 
-place-requires : tie.Need-place-requires
-place-requires c κs = search needs
+load-requires : tie.Need-load-requires
+load-requires c κs = search needs
 
 returns : tie.Need-returns
 unfolding advanced tabulate scale xor
-returns c = ap (advanced 2053 (cells (c .before .before .before .args .s))) (c .before .place .ensures)
+returns c = ap (advanced 2053 (cells (c .before .before .before .args .s))) (c .before .load .ensures)
 
 pub step-0-spec : {M : Type 1} → statement M
-step-0-spec = tie.close (tie.spec place-requires returns)
+step-0-spec = tie.close (tie.spec load-requires returns)

@@ -15,6 +15,7 @@ pub mod InnerSteps
 pub mod InnerPass
 pub mod ReportCounts
 pub mod TakenProposals
+pub mod WordErrors
 pub mod ReceivedWords
 pub mod Options
 pub mod Permitted

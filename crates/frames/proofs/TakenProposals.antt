@@ -163,6 +163,11 @@ scale-one zero h = refl
 scale-one (suc zero) h = refl
 scale-one (suc (suc c)) h = absurd (omega arith)
 
+scaled-one : (c x : ℕ) → x < 2 → scale c x ≡ 1 → x ≡ 1
+unfolding scale
+scaled-one zero x h e = absurd (omega arith)
+scaled-one (suc c) x h e = e
+
 scale-none : (c : ℕ) → scale c 0 ≡ 0
 unfolding scale
 scale-none zero = refl
@@ -278,18 +283,23 @@ module _ (received before mid last flips counts : List ℕ) (wrong now m : ℕ) 
       sym (numberOf-bits 64 (bitAnd wrong back) (omega (arith, and-le-l wrong back, told, wrong-below (bitAt before))))
       ∙ numberOf-same 64 _ _ (λ k l. left k l (bitOf 64 back k) refl (bitOf-lt 64 back k))
 
-  pub taken-nearer : Nearer before last
-  taken-nearer = record { long = g .long ∙ f .long; word = λ k l. restored k l (bitOf 64 back k) refl (bitOf-lt 64 back k) }
+  pub taken-nearer : Nearer (bitAnd wrong back) before last
+  taken-nearer =
+      record {
+        long = g .long ∙ f .long;
+        word = λ k l. restored k l (bitOf 64 back k) refl (bitOf-lt 64 back k);
+        kept = λ k l e. kept k l (scaled-one (bitOf 64 wrong k) (bitOf 64 back k) (bitOf-lt 64 back k) (sym (bit-product 64 k wrong back) ∙ e));
+      }
 
 -- the inner pass may go on from there
-pub nearer-passed : (before mid after : List ℕ) → Nearer before mid → InnerPassed mid after → InnerPassed before after
+pub nearer-passed : (left : ℕ) (before mid after : List ℕ) → Nearer left before mid → InnerPassed mid after → InnerPassed before after
 unfolding innerPass
-nearer-passed before mid after n p =
+nearer-passed left before mid after n p =
     record { long = p .long ∙ n .long; bits = λ i b. p .bits i b ∙ ap (λ (w : List ℕ). at w (i / 64)) (n .word (i % 64) (omega arith)) }
 
-pub nearer-self : (before : List ℕ) → Nearer before before
-nearer-self before = record { long = refl; word = λ k l. refl }
+pub nearer-self : (left : ℕ) (before : List ℕ) → Nearer left before before
+nearer-self left before = record { long = refl; word = λ k l. refl; kept = λ k l e. refl }
 
 -- a proposal that leaves no wrong word is the pass
-pub nearer-done : (before after : List ℕ) (x : ℕ) → Nearer before after → x ≡ wrongWords (bitAt after) → x ≡ 0 → InnerPassed before after
-nearer-done before after x n told e = nearer-passed before after after n (none-passed after x told e)
+pub nearer-done : (before after : List ℕ) (x : ℕ) → Nearer x before after → x ≡ wrongWords (bitAt after) → x ≡ 0 → InnerPassed before after
+nearer-done before after x n told e = nearer-passed x before after after n (none-passed after x told e)

@@ -1,13 +1,16 @@
 -- The residues of the 64 inner words modulo the eight factors of the divisor, side by side: bit k of a number, the highest of 64 first, belongs to inner
 -- word k.
+use mathlib.Core.Path.{_≡_}
 use mathlib.Core.Bool.{cond}
 use mathlib.Core.List.{List, [], _∷_}
-use Prim.Native.Nat.{ℕ, _+_, _-_, _*_, _/_, _%_, _^_}
+use Prim.Native.Nat.{ℕ, _+_, _-_, _*_, _/_, _%_, _^_, _<_}
 use lib.Dec.{ltb}
 use Rattle.fields.specs.Lists.{tabulate}
 use Rattle.fields.specs.Elements.{xor, scale}
+use Rattle.fields.specs.ByTables.{tablePower}
 use Rattle.words.specs.Places.{at, bitOf, numberOf, bitAt}
 use Rattle.words.specs.InnerCode.{factors, remainder}
+use Rattle.words.specs.Decoder.{xorTo}
 use Rattle.frames.specs.declared.residues.Lanes.{Lanes}
 
 -- the coefficient of z^i in the polynomial r
@@ -43,6 +46,14 @@ loadedAt bytes p = numberOf 64 (λ k. bitAt bytes (64 * p + turned k))
 
 unfoldable pub residueOf : ℕ → List ℕ → ℕ → List ℕ
 residueOf j bytes n = sideBySide 11 (λ k. wordResidue j bytes n (turned k))
+
+-- the residues of inner word k of a block stand among those of all
+pub record WordResidues (residues : List ℕ) (k : ℕ) (block : List ℕ) : Type 0 where
+  pub each : (c : ℕ) → c < 88 → bitOf 64 (at residues c) k ≡ coefficient (c % 11) (wordResidue (c / 11) block 2040 k)
+
+-- the value at a^(2j+1) of inner word k, from its residue modulo factor j: the sum of a^((2j+1) i) over its coefficients i that are 1
+unfoldable pub oddValue : List ℕ → List ℕ → ℕ → ℕ → ℕ
+oddValue es residues k j = xorTo 11 (λ i. bitOf 64 (at residues (11 * j + i)) k * tablePower es ((2 * j + 1) * i))
 
 -- ---- the steps
 

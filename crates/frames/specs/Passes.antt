@@ -10,7 +10,7 @@ use Rattle.words.specs.Places.{at, bitOf, numberOf, bitAt}
 use Rattle.words.specs.InnerCode.{isInner}
 use Rattle.words.specs.Nearest.{nearest}
 use Rattle.frames.specs.Frames.{innerWord}
-use Rattle.frames.specs.Correction.{innerPass, isPermitted, everyOf}
+use Rattle.frames.specs.Correction.{innerRestored, innerPass, isPermitted, everyOf}
 use Rattle.frames.specs.Symbols.{rowWord}
 
 -- ---- inner words
@@ -19,18 +19,16 @@ use Rattle.frames.specs.Symbols.{rowWord}
 unfoldable pub wrongWords : (ℕ → ℕ) → ℕ
 wrongWords b = numberOf 64 (λ k. cond (isInner (innerWord b k)) 0 1)
 
--- inner word k of a block, as bytes; and byte j of it
-unfoldable pub wordByte : List ℕ → ℕ → ℕ → ℕ
-wordByte block k j = numberOf 8 (λ i. bitAt block (64 * (8 * j + i) + k))
-
-unfoldable pub wordBytes : List ℕ → ℕ → List ℕ
-wordBytes block k = tabulate 255 (wordByte block k)
-
 -- inner word k has the places c 0, c 1, .., and the other inner words are as they were
 pub record WordPut (k : ℕ) (c : ℕ → ℕ) (before after : List ℕ) : Type 0 where
   pub long : length after ≡ length before
   pub inside : (p : ℕ) → p < 2040 → bitAt after (64 * p + k) ≡ c p
   pub others : (i : ℕ) → i < 130560 → (i % 64 ≡ k → ⊥) → bitAt after i ≡ bitAt before i
+
+-- inner word k is restored, the others are as they were; true only if it is a code word then
+pub record WordCorrected (k : ℕ) (before after : List ℕ) (r : Bool) : Type 0 where
+  pub put : WordPut k (at (innerRestored (innerWord (bitAt before) k))) before after
+  pub code : r ≡ true → isInner (innerWord (bitAt after) k) ≡ true
 
 -- the inner pass over a block
 pub record InnerPassed (before after : List ℕ) : Type 0 where

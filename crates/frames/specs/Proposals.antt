@@ -23,7 +23,8 @@ overRadius count = cond (ltb 8 count) 1 0
 unfoldable pub beyondRadius : List ℕ → ℕ
 beyondRadius counts = numberOf 64 (λ k. overRadius (at counts k))
 
--- inner words may have become code words within eight places: what they are restored to is the same
-pub record Nearer (before after : List ℕ) : Type 0 where
+-- inner words may have become code words within eight places: what they are restored to is the same. Those that `left` has a 1 for are as they were
+pub record Nearer (left : ℕ) (before after : List ℕ) : Type 0 where
   pub long : length after ≡ length before
   pub word : (k : ℕ) → k < 64 → innerRestored (innerWord (bitAt after) k) ≡ innerRestored (innerWord (bitAt before) k)
+  pub kept : (k : ℕ) → k < 64 → bitOf 64 left k ≡ 1 → innerWord (bitAt after) k ≡ innerWord (bitAt before) k

@@ -2,23 +2,27 @@
 // parity bits (module parity), and tell which inner words of a block are no code words; many of those are corrected at once (module proposals), few one by
 // one.
 use crate::Frame;
-use crate::bits;
 use crate::parity;
 use crate::proposals;
 use crate::residues;
 use words::bch;
+use words::decoder;
 ghost use mathlib.Core.Path.{_≡_};
-ghost use mathlib.Core.Bool.{true, cond};
-ghost use Prim.Native.Nat.{_+_, _*_, _≤_, _<_};
+ghost use mathlib.Core.Bool.{true, _&&_, cond};
+ghost use Prim.Native.Nat.{ℕ, _+_, _*_, _≤_, _<_};
 ghost use lib.ListN.{length};
+ghost use Rattle.fields.specs.Lists.{tabulate};
+ghost use Rattle.fields.specs.Elements.{powersB, exponentsB};
+ghost use Rattle.fields.specs.ByTables.{tablePower};
 ghost use Rattle.words.specs.Places.{at, bitOf, bitAt, bytesOf};
 ghost use Rattle.words.specs.InnerCode.{isInner};
+ghost use Rattle.words.specs.RowSearch.{Rows};
 ghost use Rattle.frames.specs.Frames.{innerWord, withParity};
-ghost use Rattle.frames.specs.Correction.{innerRestored};
 ghost use Rattle.frames.specs.Received.{innerCodes};
 ghost use Rattle.frames.specs.Symbols.{Placed};
 ghost use Rattle.frames.specs.SideBySide.{placeAt, parities, byteOf64, parityBytes};
-ghost use Rattle.frames.specs.Passes.{wrongWords, wordByte, wordBytes, WordPut, InnerPassed};
+ghost use Rattle.frames.specs.InnerResidues.{WordResidues, oddValue};
+ghost use Rattle.frames.specs.Passes.{wrongWords, WordCorrected, InnerPassed};
 
 const PARITY_BYTES: usize = Frame::BYTES - Frame::DATA_BYTES;
 
@@ -100,80 +104,128 @@ pub fn blank() -> [u8; Frame::BYTES]
     [0; Frame::BYTES]
 }
 
-// Byte j of inner word k of the block.
-fn word_byte(block: &[u8], k: usize, j: usize) -> u8
-    requires { ⌜ (length (now block) ≡ 16320) × (k < 64) × (j < 255) ⌝ }
-    ensures { λ r. ⌜ r ≡ wordByte (now (block .entry)) k j ⌝ }
+// a^n, if bit k of x, the highest first, is 1; else 0.
+fn term(exp: &[u16], x: u64, k: usize, n: u16) -> u16
+    requires { ⌜ k < 64 ⌝ }
+    ensures { λ r. ⌜ r ≡ bitOf 64 x k * tablePower (now (exp .entry)) n ⌝ }
 {
-    let mut byte: u8 = 0;
+    let c = ((x >> (Frame::INNER_WORDS - 1 - k)) & 1) as u16;
+    c * fields::power(exp, n)
+}
+
+// The value of inner word k at a^(2 j + 1), from its residue modulo factor j: the sum of the terms.
+fn odd_value(exp: &[u16], residues: &[u64], k: usize, j: usize) -> u16
+    requires { ⌜ (length (now residues) ≡ 88) × (k < 64) × (j < 8) ⌝ }
+    ensures { λ r. ⌜ r ≡ oddValue (now (exp .entry)) (now (residues .entry)) k j ⌝ }
+{
+    let mut v: u16 = 0;
     let mut i: usize = 0;
-    while i < 8 {
-        byte = 2 * byte + bits::bit(block, Frame::INNER_WORDS * (8 * j + i) + k);
+    while i < residues::DEGREE {
+        v = v
+            ^ term(
+                exp,
+                residues[residues::DEGREE * j + i],
+                k,
+                ((2 * j + 1) * i) as u16,
+            );
         i += 1;
     }
-    byte
+    v
 }
 
-// Inner word k of the block, as bytes.
-fn word(block: &[u8], k: usize) -> [u8; words::Inner::BYTES]
-    requires { ⌜ (length (now block) ≡ 16320) × (k < 64) ⌝ }
-    ensures { λ r. ⌜ r ≡ wordBytes (now (block .entry)) k ⌝ }
+// Its values at a, a^3, .. a^15.
+fn odd_values(exp: &[u16], residues: &[u64], k: usize) -> bch::OddValues
+    requires { ⌜ (length (now residues) ≡ 88) × (k < 64) ⌝ }
+    ensures { λ r. ⌜ r .at ≡ tabulate 8 (oddValue (now (exp .entry)) (now (residues .entry)) k) ⌝ }
 {
-    let mut w = [0u8; words::Inner::BYTES];
+    let mut at = [0u16; residues::FACTORS];
     let mut j: usize = 0;
-    while j < words::Inner::BYTES {
-        w[j] = word_byte(block, k, j);
+    while j < residues::FACTORS {
+        at[j] = odd_value(exp, residues, k, j);
         j += 1;
     }
-    w
+    bch::OddValues { at }
 }
 
-// Writes the word, lent as bytes, as inner word k of the block.
-fn put(word: &[u8], k: usize, block: &mut [u8])
-    requires { ⌜ (length (now word) ≡ 255) × (length (now block) ≡ 16320) × (k < 64) ⌝ }
-    ensures { λ _. ⌜ WordPut k (bitAt (now (word .entry))) (now (block .entry)) (now (block .exit)) ⌝ }
+// Inner word k of the block becomes the code word within eight places, and the answer is true; without one it is left as received.
+fn correct_word(
+    exp: &[u16],
+    log: &[u16],
+    rows: &mut [u16],
+    residues: &[u64],
+    k: usize,
+    block: &mut [u8],
+) -> bool
+    requires { ⌜ (now exp ≡ powersB) × (now log ≡ exponentsB) × Rows (now exp) (now rows) ⌝ }
+    requires { ⌜ (length (now residues) ≡ 88) × (length (now block) ≡ 16320) × (k < 64) × WordResidues (now residues) k (now block) ⌝ }
+    ensures put { λ r. ⌜ WordCorrected k (now (block .entry)) (now (block .exit)) r ⌝ }
+    ensures rows { λ _. ⌜ Rows (now (exp .entry)) (now (rows .exit)) ⌝ }
 {
-    let mut p: usize = 0;
-    while p < words::Inner::PLACES {
-        let i = Frame::INNER_WORDS * p + k;
-        let wrong = bits::bit(block, i) ^ bits::bit(word, p);
-        bch::flip(block, i, wrong as u16);
-        p += 1;
+    let e = bch::errors_by_rows(exp, log, rows, odd_values(exp, residues, k));
+    if !bch::explains(exp, e) {
+        return false;
     }
-}
-
-// Inner word k of the block becomes the code word within eight places; a refusal leaves it as received.
-fn correct_word(k: usize, block: &mut [u8])
-    requires { ⌜ (length (now block) ≡ 16320) × (k < 64) ⌝ }
-    ensures { λ _. ⌜ WordPut k (at (innerRestored (innerWord (bitAt (now (block .entry))) k))) (now (block .entry)) (now (block .exit)) ⌝ }
-{
-    let received = word(block, k);
-    let mut restored = received;
-    words::correct_inner(&received, &mut restored);
-    put(&restored, k, block);
+    bch::invert(e, Frame::INNER_WORDS, k, block);
+    true
 }
 
 // The same where the word's bit of those that are wrong is 1; a code word stays as it is.
-fn correct_wrong(wrong: u64, k: usize, block: &mut [u8])
-    requires { ⌜ (length (now block) ≡ 16320) × (k < 64) ⌝ }
+fn correct_wrong(
+    exp: &[u16],
+    log: &[u16],
+    rows: &mut [u16],
+    residues: &[u64],
+    wrong: u64,
+    k: usize,
+    block: &mut [u8],
+) -> bool
+    requires { ⌜ (now exp ≡ powersB) × (now log ≡ exponentsB) × Rows (now exp) (now rows) ⌝ }
+    requires { ⌜ (length (now residues) ≡ 88) × (length (now block) ≡ 16320) × (k < 64) ⌝ }
     requires { ⌜ bitOf 64 wrong k ≡ cond (isInner (innerWord (bitAt (now block)) k)) 0 1 ⌝ }
-    ensures { λ _. ⌜ WordPut k (at (innerRestored (innerWord (bitAt (now (block .entry))) k))) (now (block .entry)) (now (block .exit)) ⌝ }
+    requires { ⌜ (bitOf 64 wrong k ≡ 1 → WordResidues (now residues) k (now block)) ⌝ }
+    ensures put { λ r. ⌜ WordCorrected k (now (block .entry)) (now (block .exit)) r ⌝ }
+    ensures rows { λ _. ⌜ Rows (now (exp .entry)) (now (rows .exit)) ⌝ }
 {
     if (wrong >> (Frame::INNER_WORDS - 1 - k)) & 1 == 1 {
-        correct_word(k, block);
+        return correct_word(exp, log, rows, residues, k, block);
     }
+    true
 }
 
-// The inner words of the block that are no code words, one after the other.
-fn correct_each(wrong: u64, block: &mut [u8])
-    requires { ⌜ (length (now block) ≡ 16320) × (wrong ≡ wrongWords (bitAt (now block))) ⌝ }
-    ensures { λ _. ⌜ InnerPassed (now (block .entry)) (now (block .exit)) ⌝ }
+fn both(a: bool, b: bool) -> bool
+    ensures { λ r. ⌜ r ≡ (a && b) ⌝ }
 {
+    if a { b } else { false }
+}
+
+// Rows of powers to write into: their length is all that is promised.
+fn blank_rows() -> [u16; decoder::ROWS]
+    ensures { λ r. ⌜ length r ≡ 18784 ⌝ }
+{
+    [0; decoder::ROWS]
+}
+
+// The inner words of the block that are no code words, one after the other, by their residues. True only if all inner words are code words then.
+fn correct_each(residues: &[u64], wrong: u64, block: &mut [u8]) -> bool
+    requires { ⌜ (length (now residues) ≡ 88) × (length (now block) ≡ 16320) × (wrong ≡ wrongWords (bitAt (now block))) ⌝ }
+    requires { ⌜ ((k : ℕ) → k < 64 → bitOf 64 wrong k ≡ 1 → WordResidues (now residues) k (now block)) ⌝ }
+    ensures passed { λ _. ⌜ InnerPassed (now (block .entry)) (now (block .exit)) ⌝ }
+    ensures codes { λ r. ⌜ (r ≡ true → innerCodes (bitAt (now (block .exit))) ≡ true) ⌝ }
+{
+    let exp = fields::exp_b();
+    let log = fields::log_b();
+    let mut rows = blank_rows();
+    decoder::empty_rows(&mut rows);
+    let mut all = true;
     let mut k: usize = 0;
     while k < Frame::INNER_WORDS {
-        correct_wrong(wrong, k, block);
+        all = both(
+            all,
+            correct_wrong(&exp, &log, &mut rows, residues, wrong, k, block),
+        );
         k += 1;
     }
+    all
 }
 
 // The inner pass over a copy of the received block: each inner word becomes the code word within eight places; where there is none it is left as received.
@@ -192,6 +244,5 @@ pub fn correct(received: &[u8], block: &mut [u8]) -> bool
     if left == 0 {
         return true;
     }
-    correct_each(left, block);
-    false
+    correct_each(&residues, left, block)
 }

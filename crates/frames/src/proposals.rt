@@ -73,7 +73,7 @@ pub fn take(received: &[u8], wrong: u64, flips: &[u64], block: &mut [u8]) -> u64
     requires { ⌜ (length (now received) ≡ 16320) × (length (now block) ≡ 16320) × (length (now flips) ≡ 2040) ⌝ }
     requires { ⌜ now block ≡ now received ⌝ }
     requires { ⌜ wrong ≡ wrongWords (bitAt (now block)) ⌝ }
-    ensures { λ r. ⌜ (r ≡ wrongWords (bitAt (now (block .exit)))) × Nearer (now (block .entry)) (now (block .exit)) ⌝ }
+    ensures { λ r. ⌜ (r ≡ wrongWords (bitAt (now (block .exit)))) × Nearer r (now (block .entry)) (now (block .exit)) ⌝ }
 {
     flip_places(flips, ALL, block);
     let wrong_now = inner_words::wrong_words(block);
@@ -116,7 +116,7 @@ pub fn correct(
 ) -> u64
     requires { ⌜ (length (now received) ≡ 16320) × (length (now block) ≡ 16320) ⌝ }
     requires { ⌜ (now block ≡ now received) × (wrong ≡ wrongWords (bitAt (now block))) ⌝ }
-    ensures { λ r. ⌜ (r ≡ wrongWords (bitAt (now (block .exit)))) × Nearer (now (block .entry)) (now (block .exit)) ⌝ }
+    ensures { λ r. ⌜ (r ≡ wrongWords (bitAt (now (block .exit)))) × Nearer r (now (block .entry)) (now (block .exit)) ⌝ }
 {
     if !has_many(wrong) {
         return wrong;

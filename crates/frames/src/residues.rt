@@ -12,9 +12,9 @@ ghost use Rattle.frames.specs.SideBySide.{orTo};
 ghost use Rattle.frames.specs.InnerResidues.{swapped, allSwapped, loadedAt, cells, advanced, begun, residueOf, residuesOf};
 
 // Factors of the divisor, and the degree of each.
-const FACTORS: usize = 8;
+pub const FACTORS: usize = 8;
 
-const DEGREE: usize = 11;
+pub const DEGREE: usize = 11;
 
 // Blocks of eleven places that come after the first five in an inner word, and in its data.
 pub const WORD_BLOCKS: usize = 185;
@@ -22,18 +22,18 @@ pub const WORD_BLOCKS: usize = 185;
 pub const DATA_BLOCKS: usize = WORD_BLOCKS - FACTORS;
 
 // The eleven coefficients of 64 residues, the lowest power first.
-struct Lanes {
-    r0: u64,
-    r1: u64,
-    r2: u64,
-    r3: u64,
-    r4: u64,
-    r5: u64,
-    r6: u64,
-    r7: u64,
-    r8: u64,
-    r9: u64,
-    r10: u64,
+pub struct Lanes {
+    pub r0: u64,
+    pub r1: u64,
+    pub r2: u64,
+    pub r3: u64,
+    pub r4: u64,
+    pub r5: u64,
+    pub r6: u64,
+    pub r7: u64,
+    pub r8: u64,
+    pub r9: u64,
+    pub r10: u64,
 }
 
 // Place p of every inner word, the first of eight bytes the lowest: no byte has to move.

@@ -1,6 +1,6 @@
 // Inner words: binary polynomials, the divisor that the eight factors make, the remainder of a word after division by it, and correction: the syndromes
 // from the remainder, the errors that explain them, and the places inverted. `divisor`, `coefficient`,
-// `copy`, `flip`, `errors_of`, `explains` and `invert` are for the crates above too.
+// `copy`, `flip`, `errors_by_rows`, `explains` and `invert` are for the crates above too.
 use crate::Inner;
 use crate::decoder;
 use crate::decoder::Errors;
@@ -15,6 +15,7 @@ ghost use Rattle.words.specs.Places.{at, differs, bitAt, bitsOf, numberO
 ghost use Rattle.words.specs.InnerCode.{valueOf, factors, divisor, remainder};
 ghost use Rattle.words.specs.Limbs.{number, Holds, residue, Residues};
 ghost use Rattle.words.specs.Decoder.{withErrors};
+ghost use Rattle.words.specs.RowSearch.{Rows};
 ghost use Rattle.words.specs.InnerDecoding.{oddValues, plusTerm, Syndromes, isBit, isBinary, flips, ErrorsOf, InnerErrors, inverted, explains};
 
 // Coefficients below z^48, the low ones, stand in one number, the others in another.
@@ -331,6 +332,16 @@ pub fn errors_of(exp: &[u16], log: &[u16], odd: OddValues) -> Errors
 {
     let t = syndromes(exp, log, odd);
     decoder::decode_bits(exp, log, t, Inner::PLACES)
+}
+
+// The same by rows of powers, which the caller lends from word to word.
+pub fn errors_by_rows(exp: &[u16], log: &[u16], rows: &mut [u16], odd: OddValues) -> Errors
+    requires { ⌜ (now exp ≡ powersB) × (now log ≡ exponentsB) × Rows (now exp) (now rows) ⌝ }
+    ensures errors { λ r. ⌜ ErrorsOf (odd .at) (r .places .at) (r .values) (r .places .count) (r .left) ⌝ }
+    ensures rows { λ _. ⌜ Rows (now (exp .entry)) (now (rows .exit)) ⌝ }
+{
+    let t = syndromes(exp, log, odd);
+    decoder::decode_bits_by_rows(exp, log, rows, t, Inner::PLACES)
 }
 
 // The errors in a word: the values of its remainder are those of the word.

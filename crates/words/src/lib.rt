@@ -18,7 +18,7 @@ ghost use mathlib.Core.Path.{_≡_};
 ghost use Rattle.words.specs.Answers.{outerChecked, outerEncoded, innerChecked, innerEncoded, refusalOf, changedOf, outerCorrected, innerCorrected};
 
 pub mod bch;
-mod decoder;
+pub mod decoder;
 mod division;
 pub mod packed;
 pub mod reed_solomon;

@@ -25,7 +25,7 @@ use Rattle.words.proofs.Codes.InnerWords.{remainder-value, Root, root-t
 use Rattle.words.proofs.Codes.InnerParity.{inner-remainder-lt}
 
 -- a number as a polynomial, and as the word of its bits
-valueOf-bits : (f : ℕ → ℕ) (n r : ℕ) → valueOf f 1 n r ≡ horner f (bitOf n r) n
+pub valueOf-bits : (f : ℕ → ℕ) (n r : ℕ) → valueOf f 1 n r ≡ horner f (bitOf n r) n
 unfolding valueOf horner
 valueOf-bits f zero r = refl
 valueOf-bits f (suc n) r =

@@ -128,7 +128,7 @@ module _ (m p : ℕ) (F : Field m p) (e : ℕ) where
   steps-bit n (suc zero) h = rw one-mul (steps-one n)
   steps-bit n (suc (suc t)) h = absurd (omega arith)
 
-  value-powers : (b : ℕ → ℕ) → ((i : ℕ) → b i < 2) → (n : ℕ) → value m p (power m p e) b n ≡ xorTo n (λ i. b (n - suc i) * power m p (e * i))
+  pub value-powers : (b : ℕ → ℕ) → ((i : ℕ) → b i < 2) → (n : ℕ) → value m p (power m p e) b n ≡ xorTo n (λ i. b (n - suc i) * power m p (e * i))
   unfolding horner xorTo
   value-powers b bits zero = refl
   value-powers b bits (suc n) =
@@ -138,7 +138,7 @@ module _ (m p : ℕ) (F : Field m p) (e : ℕ) where
       shifted : (i : ℕ) → i < n → b (suc (n - suc i)) * power m p (e * i) ≡ b (suc n - suc i) * power m p (e * i)
       shifted i l = let q : suc (n - suc i) ≡ suc n - suc i = omega arith in rw q
 
-odd-value-b : (r j : ℕ) → j < 8 → at (oddValues powersB r) j ≡ value 11 2053 (powerB (2 * j + 1)) (bitOf 88 r) 88
+pub odd-value-b : (r j : ℕ) → j < 8 → at (oddValues powersB r) j ≡ value 11 2053 (powerB (2 * j + 1)) (bitOf 88 r) 88
 unfolding oddValues powersValue
 odd-value-b r j h = tabulate-at 8 _ j 0 h ∙ xorTo-same 88 _ _ same ∙ sym (value-powers 11 2053 field-b e (bitOf 88 r) (bitOf-lt 88 r) 88)
   where

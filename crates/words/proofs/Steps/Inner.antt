@@ -171,6 +171,9 @@ module _ (es ls : List ℕ) (exp : es ≡ powersB) (log : ls ≡ exponentsB) whe
   pub powers-fit : (n : ℕ) → 2047 ≤ n → length es ≤ n
   powers-fit n h = rw (exp, powers-length 11 2053 field-b) h
 
+  pub powers-are : length es ≡ 2047
+  powers-are = rw (exp, powers-length 11 2053 field-b)
+
   pub errors-are : (odd t places values : List ℕ) (count : ℕ) (left : List ℕ) → Syndromes es ls odd 8 t →
       Decoded es ls t 2040 places values count left → length left ≡ 16 → ErrorsOf odd places values count left
   errors-are odd t places values count left S D n =

@@ -1,12 +1,9 @@
 -- `frames::inner_words::correct` meets its contract. Assumes nothing.
 use borrow.Author.Needs.{needs}
+use Rattle.frames.proofs.WordErrors.{left-residues}
 use Rattle.frames.proofs.ResidueCodes.{words-wrong}
 use Rattle.frames.proofs.InnerPass.{none-codes, none-passed}
 use Rattle.frames.proofs.TakenProposals.{nearer-passed, nearer-done}
-use native.Mathlib.Omega.{arith}
-use Prim.Native.Nat.{ℕ}
-use mathlib.Core.Bool.{Bool, cond}
-use mathlib.Core.Path.{ap}
 use Rattle.frames.proofs.inner_words.correct.Statement.{statement}
 use Rattle.frames.proofs.inner_words.correct.Tie as tie
 
@@ -34,14 +31,17 @@ same-length-2 c = search needs
 returns-2 : tie.Need-returns-2
 returns-2 c = (search (needs, nearer-done), λ t. search (needs, none-codes))
 
+slice-aggregate-correct-each : tie.Need-slice-aggregate-correct-each
+slice-aggregate-correct-each c = search needs
+
 correct-each-requires : tie.Need-correct-each-requires
-correct-each-requires c κs = search needs
+correct-each-requires c κs = (search needs, λ k l q. search (needs, left-residues))
 
 same-length-3 : tie.Need-same-length-3
 same-length-3 c = search needs
 
 returns-3 : tie.Need-returns-3
-returns-3 c = (search (needs, nearer-passed), λ t. absurd (omega (arith, ap {B = ℕ} (λ (x : Bool). cond x 1 0) t)))
+returns-3 c = (search (needs, nearer-passed), search needs)
 
 pub correct-spec : {M : Type 1} → statement M
 correct-spec =
@@ -55,6 +55,7 @@ correct-spec =
     correct-requires
     same-length-2
     returns-2
+    slice-aggregate-correct-each
     correct-each-requires
     same-length-3
     returns-3)

@@ -1,21 +1,50 @@
 -- `frames::inner_words::correct_each` meets its contract. Assumes nothing.
-use Prim.Native.Nat.{_-_}
 use borrow.Author.Needs.{needs}
-use Rattle.frames.proofs.InnerPass.{Passing, passing-start, passing-wrong, passing-next, passing-end}
+use Rattle.words.specs.RowSearch.{Rows}
+use Rattle.frames.proofs.WordErrors.{left-ahead}
+use Rattle.frames.proofs.InnerPass.{Passing, passing-start, passing-wrong, passing-next, passing-end, passing-codes}
+use Prim.Native.Nat.{_-_}
 use Rattle.frames.proofs.inner_words.correct_each.Statement.{statement}
 use Rattle.frames.proofs.inner_words.correct_each.Tie as tie
 
 abbrev Inv-loop : tie.InvT-loop
-Inv-loop wrong block₀ k₀ block k = Passing block₀ k block
+Inv-loop residues wrong block₀ exp log rows₀ all₀ k₀ block rows all k = Passing block₀ k all block × Rows exp rows
 
 abbrev μ-loop : tie.MeasureT-loop
-μ-loop wrong block₀ k₀ block k = 64 - k
+μ-loop residues wrong block₀ exp log rows₀ all₀ k₀ block rows all k = 64 - k
+
+exp-b-requires : tie.Need-exp-b-requires Inv-loop μ-loop
+exp-b-requires c κs = search needs
+
+log-b-requires : tie.Need-log-b-requires Inv-loop μ-loop
+log-b-requires c κs = search needs
+
+blank-rows-requires : tie.Need-blank-rows-requires Inv-loop μ-loop
+blank-rows-requires c κs = search needs
+
+slice-aggregate-empty-rows : tie.Need-slice-aggregate-empty-rows Inv-loop μ-loop
+slice-aggregate-empty-rows c = search needs
+
+empty-rows-requires : tie.Need-empty-rows-requires Inv-loop μ-loop
+empty-rows-requires c κs = search needs
 
 loop-holds : tie.Need-loop-holds Inv-loop μ-loop
-loop-holds c = search (needs, passing-start)
+loop-holds c = (search (needs, passing-start), c .before .empty-rows .ensures _)
+
+slice-aggregate-correct-wrong : tie.Need-slice-aggregate-correct-wrong Inv-loop μ-loop
+slice-aggregate-correct-wrong c = search needs
+
+slice-aggregate-correct-wrong-2 : tie.Need-slice-aggregate-correct-wrong-2 Inv-loop μ-loop
+slice-aggregate-correct-wrong-2 c = search needs
+
+slice-aggregate-correct-wrong-3 : tie.Need-slice-aggregate-correct-wrong-3 Inv-loop μ-loop
+slice-aggregate-correct-wrong-3 c = search needs
 
 correct-wrong-requires : tie.Need-correct-wrong-requires Inv-loop μ-loop
-correct-wrong-requires c κs = search (needs, passing-wrong)
+correct-wrong-requires c κs = (search needs, (search needs, (search (needs, passing-wrong), λ q. search (needs, left-ahead))))
+
+both-requires : tie.Need-both-requires Inv-loop μ-loop
+both-requires c κs = search needs
 
 add-k : tie.Need-add-k Inv-loop μ-loop
 add-k c = search needs
@@ -24,13 +53,13 @@ loop-less : tie.Need-loop-less Inv-loop μ-loop
 loop-less c = search needs
 
 loop-again : tie.Need-loop-again Inv-loop μ-loop
-loop-again c = search (needs, passing-next)
+loop-again c = (passing-next (c .before .before .before .before .before .before .before .before .before .before .loop .inv .0) (search needs) (c .before .before .before .before .correct-wrong .ensures .0) (c .both .ensures), search needs)
 
 same-length : tie.Need-same-length Inv-loop μ-loop
 same-length c = search needs
 
 returns : tie.Need-returns Inv-loop μ-loop
-returns c = search (needs, passing-end)
+returns c = (search (needs, passing-end), λ t. search (needs, passing-codes))
 
 pub correct-each-spec : {M : Type 1} → statement M
 correct-each-spec =
@@ -38,8 +67,17 @@ correct-each-spec =
     (tie.spec
     Inv-loop
     μ-loop
+    exp-b-requires
+    log-b-requires
+    blank-rows-requires
+    slice-aggregate-empty-rows
+    empty-rows-requires
     loop-holds
+    slice-aggregate-correct-wrong
+    slice-aggregate-correct-wrong-2
+    slice-aggregate-correct-wrong-3
     correct-wrong-requires
+    both-requires
     add-k
     loop-less
     loop-again

@@ -1,42 +1,46 @@
 -- `frames::inner_words::correct_word` meets its contract. Assumes nothing.
 use borrow.Author.Needs.{needs}
-use Rattle.frames.proofs.InnerPass.{restored-put}
+use Rattle.frames.proofs.WordErrors.{not-explained, word-explained}
 use Rattle.frames.proofs.inner_words.correct_word.Statement.{statement}
 use Rattle.frames.proofs.inner_words.correct_word.Tie as tie
 
-word-requires : tie.Need-word-requires
-word-requires c κs = search needs
+odd-values-requires : tie.Need-odd-values-requires
+odd-values-requires c κs = search needs
 
-slice-aggregate-correct-inner : tie.Need-slice-aggregate-correct-inner
-slice-aggregate-correct-inner c = search needs
+errors-by-rows-requires : tie.Need-errors-by-rows-requires
+errors-by-rows-requires c κs = search needs
 
-slice-aggregate-correct-inner-2 : tie.Need-slice-aggregate-correct-inner-2
-slice-aggregate-correct-inner-2 c = search needs
-
-correct-inner-requires : tie.Need-correct-inner-requires
-correct-inner-requires c κs = search needs
-
-slice-aggregate-put : tie.Need-slice-aggregate-put
-slice-aggregate-put c = search needs
-
-put-requires : tie.Need-put-requires
-put-requires c κs = search needs
+explains-requires : tie.Need-explains-requires
+explains-requires c κs = search needs
 
 same-length : tie.Need-same-length
 same-length c = search needs
 
 returns : tie.Need-returns
-returns c = search (needs, restored-put)
+returns c = (search (needs, not-explained), search needs)
+
+invert-requires : tie.Need-invert-requires
+invert-requires c κs = search needs
+
+same-length-2 : tie.Need-same-length-2
+same-length-2 c = search needs
+
+same-length-3 : tie.Need-same-length-3
+same-length-3 c = search needs
+
+returns-2 : tie.Need-returns-2
+returns-2 c = (search (needs, word-explained), search needs)
 
 pub correct-word-spec : {M : Type 1} → statement M
 correct-word-spec =
     tie.close
     (tie.spec
-    word-requires
-    slice-aggregate-correct-inner
-    slice-aggregate-correct-inner-2
-    correct-inner-requires
-    slice-aggregate-put
-    put-requires
+    odd-values-requires
+    errors-by-rows-requires
+    explains-requires
     same-length
-    returns)
+    returns
+    invert-requires
+    same-length-2
+    same-length-3
+    returns-2)

@@ -9,7 +9,7 @@
 // after a test.
 use crate::residues::Lanes;
 ghost use mathlib.Core.Path.{_≡_};
-ghost use Prim.Native.Nat.{_<_};
+ghost use Prim.Native.Nat.{_+_, _≤_, _<_};
 ghost use lib.ListN.{length};
 
 // Bits of an element.
@@ -103,29 +103,13 @@ fn doubled(x: Lanes) -> Lanes {
     }
 }
 
-// a^2, a^3, .. a^8 times x.
+// a^2, a^4 and a^8 times x.
 fn times_a2(x: Lanes) -> Lanes {
     doubled(doubled(x))
 }
 
-fn times_a3(x: Lanes) -> Lanes {
-    doubled(times_a2(x))
-}
-
 fn times_a4(x: Lanes) -> Lanes {
     times_a2(times_a2(x))
-}
-
-fn times_a5(x: Lanes) -> Lanes {
-    doubled(times_a4(x))
-}
-
-fn times_a6(x: Lanes) -> Lanes {
-    times_a2(times_a4(x))
-}
-
-fn times_a7(x: Lanes) -> Lanes {
-    times_a3(times_a4(x))
 }
 
 fn times_a8(x: Lanes) -> Lanes {
@@ -384,67 +368,214 @@ fn first_term(locator: &[u64; BANK], i: usize) -> Lanes
     times_power(get(locator, i), 8 * i)
 }
 
-// The inner words of the mask in which x is zero.
-fn zeros(x: Lanes, mask: u64) -> u64 {
-    mask & (nonzero(x) ^ ALL)
+// An element x is given here by the coefficients of z^10 in x, a x, .. a^10 x, which are all zero just if x is. Those of a^n x are eleven numbers of a
+// sequence, from number n on, and each number of it is the sum of those nine and eleven before: z^11 is z^2 + 1. So from one place to the next the term of
+// degree i moves by i in its sequence, and nothing is multiplied. The terms of degree 1, 2, 4 and 8 are additive: their sum at a place, a row, is the sum of
+// the rows nine and eleven places before.
+fn coordinates(x: Lanes) -> Lanes {
+    Lanes {
+        r0: x.r10,
+        r1: x.r9,
+        r2: x.r8,
+        r3: x.r7,
+        r4: x.r6,
+        r5: x.r5,
+        r6: x.r4,
+        r7: x.r3,
+        r8: x.r2,
+        r9: x.r1 ^ x.r10,
+        r10: x.r0 ^ x.r9,
+    }
 }
 
-// The wrong places, by polynomials of degree 2 at most: from one place to the next the term of degree i is multiplied by a^i.
+// A sequence repeats after this many numbers.
+const PERIOD: usize = 2047;
+
+// The numbers of a sequence that are kept: a block of eleven places that begins before the period's end ends before these do.
+const SEQUENCE: usize = PERIOD + 80;
+
+// The first eleven numbers.
+fn begin_sequence(s: &mut [u64; SEQUENCE], x: Lanes) {
+    s[0] = x.r0;
+    s[1] = x.r1;
+    s[2] = x.r2;
+    s[3] = x.r3;
+    s[4] = x.r4;
+    s[5] = x.r5;
+    s[6] = x.r6;
+    s[7] = x.r7;
+    s[8] = x.r8;
+    s[9] = x.r9;
+    s[10] = x.r10;
+}
+
+// The sequence of the term of degree i.
+fn sequence(locator: &[u64; BANK], i: usize, s: &mut [u64; SEQUENCE])
+    requires { ⌜ i < 9 ⌝ }
+{
+    begin_sequence(s, coordinates(first_term(locator, i)));
+    let mut n: usize = BITS;
+    while n < SEQUENCE {
+        s[n] = s[n - 9] ^ s[n - 11];
+        n += 1;
+    }
+}
+
+// The sum of four terms.
+fn row(x1: Lanes, x2: Lanes, x4: Lanes, x8: Lanes) -> Lanes {
+    coordinates(sum(sum(x1, x2), sum(x4, x8)))
+}
+
+// Number 11 in the bank of rows is the constant term.
+const CONSTANT: usize = 11;
+
+// The rows of the first eleven places.
+fn first_rows(locator: &[u64; BANK], rows: &mut [u64; BANK]) {
+    put(rows, CONSTANT, coordinates(get(locator, 0)));
+    let mut x1 = first_term(locator, 1);
+    let mut x2 = first_term(locator, 2);
+    let mut x4 = first_term(locator, 4);
+    let mut x8 = first_term(locator, 8);
+    let mut q: usize = 0;
+    while q < BITS {
+        put(rows, q, row(x1, x2, x4, x8));
+        x1 = doubled(x1);
+        x2 = times_a2(x2);
+        x4 = times_a4(x4);
+        x8 = times_a8(x8);
+        q += 1;
+    }
+}
+
+// The rows of the next eleven places: nine to which the next row but one is added, then two to which one of those is.
+fn next_nine(rows: &mut [u64; BANK]) {
+    let mut m: usize = 0;
+    while m < BITS * 9 {
+        rows[m] = rows[m] ^ rows[m + BITS * 2];
+        m += 1;
+    }
+}
+
+fn next_two(rows: &mut [u64; BANK]) {
+    let mut m: usize = 0;
+    while m < BITS * 2 {
+        rows[m + BITS * 9] = rows[m + BITS * 9] ^ rows[m];
+        m += 1;
+    }
+}
+
+// The places of the block that begins at place p.
+fn block_places(p: usize) -> usize
+    requires { ⌜ p < 2040 ⌝ }
+    ensures { λ r. ⌜ (r ≤ 11) × (p + r ≤ 2040) ⌝ }
+{
+    if PLACES - p < BITS {
+        return PLACES - p;
+    }
+    BITS
+}
+
+// The inner words whose polynomial, of degree 2 at most, is not zero at place q of a block.
+fn nonzero_2(rows: &[u64; BANK], q: usize) -> u64
+    requires { ⌜ q < 11 ⌝ }
+{
+    nonzero(sum(get(rows, CONSTANT), get(rows, q)))
+}
+
+// The same of degree 4 at most, with the sequence of degree 3, for a block that begins at place p.
+fn nonzero_4(rows: &[u64; BANK], s3: &[u64; SEQUENCE], p: usize, q: usize) -> u64
+    requires { ⌜ (p < 2040) × (q < 11) ⌝ }
+{
+    let n3 = 3 * p % PERIOD + 3 * q;
+    let mut x: u64 = 0;
+    let mut b: usize = 0;
+    while b < BITS {
+        x = x | (rows[BITS * CONSTANT + b] ^ rows[BITS * q + b] ^ s3[n3 + b]);
+        b += 1;
+    }
+    x
+}
+
+// The same of degree 8.
+fn nonzero_8(
+    rows: &[u64; BANK],
+    s3: &[u64; SEQUENCE],
+    s5: &[u64; SEQUENCE],
+    s6: &[u64; SEQUENCE],
+    s7: &[u64; SEQUENCE],
+    p: usize,
+    q: usize,
+) -> u64
+    requires { ⌜ (p < 2040) × (q < 11) ⌝ }
+{
+    let n3 = 3 * p % PERIOD + 3 * q;
+    let n5 = 5 * p % PERIOD + 5 * q;
+    let n6 = 6 * p % PERIOD + 6 * q;
+    let n7 = 7 * p % PERIOD + 7 * q;
+    let mut x: u64 = 0;
+    let mut b: usize = 0;
+    while b < BITS {
+        x = x | (rows[BITS * CONSTANT + b] ^ rows[BITS * q + b] ^ s3[n3 + b] ^ s5[n5 + b] ^ s6[n6 + b] ^ s7[n7 + b]);
+        b += 1;
+    }
+    x
+}
+
+// The wrong places of the block that begins at place p.
+fn block_2(rows: &[u64; BANK], p: usize, wrong: u64, flips: &mut [u64])
+    requires { ⌜ (p < 2040) × (length (now flips) ≡ 2040) ⌝ }
+{
+    let n = block_places(p);
+    let mut q: usize = 0;
+    while q < n {
+        flips[p + q] = wrong & (nonzero_2(rows, q) ^ ALL);
+        q += 1;
+    }
+}
+
+fn block_4(rows: &[u64; BANK], s3: &[u64; SEQUENCE], p: usize, wrong: u64, flips: &mut [u64])
+    requires { ⌜ (p < 2040) × (length (now flips) ≡ 2040) ⌝ }
+{
+    let n = block_places(p);
+    let mut q: usize = 0;
+    while q < n {
+        flips[p + q] = wrong & (nonzero_4(rows, s3, p, q) ^ ALL);
+        q += 1;
+    }
+}
+
+fn block_8(
+    rows: &[u64; BANK],
+    s3: &[u64; SEQUENCE],
+    s5: &[u64; SEQUENCE],
+    s6: &[u64; SEQUENCE],
+    s7: &[u64; SEQUENCE],
+    p: usize,
+    wrong: u64,
+    flips: &mut [u64],
+)
+    requires { ⌜ (p < 2040) × (length (now flips) ≡ 2040) ⌝ }
+{
+    let n = block_places(p);
+    let mut q: usize = 0;
+    while q < n {
+        flips[p + q] = wrong & (nonzero_8(rows, s3, s5, s6, s7, p, q) ^ ALL);
+        q += 1;
+    }
+}
+
+// The wrong places, by polynomials of degree 2 at most.
 fn search_2(locator: &[u64; BANK], wrong: u64, flips: &mut [u64])
     requires { ⌜ length (now flips) ≡ 2040 ⌝ }
 {
-    let x0 = get(locator, 0);
-    let mut x1 = first_term(locator, 1);
-    let mut x2 = first_term(locator, 2);
+    let mut rows = [0u64; BANK];
+    first_rows(locator, &mut rows);
     let mut p: usize = 0;
     while p < PLACES {
-        flips[p] = zeros(sum(x0, sum(x1, x2)), wrong);
-        x1 = doubled(x1);
-        x2 = times_a2(x2);
-        p += 1;
-    }
-}
-
-// Four terms of a polynomial at a place.
-struct Terms {
-    x1: Lanes,
-    x2: Lanes,
-    x3: Lanes,
-    x4: Lanes,
-}
-
-fn total(t: Terms) -> Lanes {
-    sum(sum(t.x1, t.x2), sum(t.x3, t.x4))
-}
-
-// The terms of degree 1 to 4, and of degree 5 to 8, at the next place.
-fn next_low(t: Terms) -> Terms {
-    Terms {
-        x1: doubled(t.x1),
-        x2: times_a2(t.x2),
-        x3: times_a3(t.x3),
-        x4: times_a4(t.x4),
-    }
-}
-
-fn next_high(t: Terms) -> Terms {
-    Terms {
-        x1: times_a5(t.x1),
-        x2: times_a6(t.x2),
-        x3: times_a7(t.x3),
-        x4: times_a8(t.x4),
-    }
-}
-
-// The terms of degree i + 1 to i + 4 at place 0.
-fn first_terms(locator: &[u64; BANK], i: usize) -> Terms
-    requires { ⌜ i < 5 ⌝ }
-{
-    Terms {
-        x1: first_term(locator, i + 1),
-        x2: first_term(locator, i + 2),
-        x3: first_term(locator, i + 3),
-        x4: first_term(locator, i + 4),
+        block_2(&rows, p, wrong, flips);
+        next_nine(&mut rows);
+        next_two(&mut rows);
+        p += BITS;
     }
 }
 
@@ -452,13 +583,16 @@ fn first_terms(locator: &[u64; BANK], i: usize) -> Terms
 fn search_4(locator: &[u64; BANK], wrong: u64, flips: &mut [u64])
     requires { ⌜ length (now flips) ≡ 2040 ⌝ }
 {
-    let x0 = get(locator, 0);
-    let mut low = first_terms(locator, 0);
+    let mut rows = [0u64; BANK];
+    first_rows(locator, &mut rows);
+    let mut s3 = [0u64; SEQUENCE];
+    sequence(locator, 3, &mut s3);
     let mut p: usize = 0;
     while p < PLACES {
-        flips[p] = zeros(sum(x0, total(low)), wrong);
-        low = next_low(low);
-        p += 1;
+        block_4(&rows, &s3, p, wrong, flips);
+        next_nine(&mut rows);
+        next_two(&mut rows);
+        p += BITS;
     }
 }
 
@@ -466,15 +600,22 @@ fn search_4(locator: &[u64; BANK], wrong: u64, flips: &mut [u64])
 fn search_8(locator: &[u64; BANK], wrong: u64, flips: &mut [u64])
     requires { ⌜ length (now flips) ≡ 2040 ⌝ }
 {
-    let x0 = get(locator, 0);
-    let mut low = first_terms(locator, 0);
-    let mut high = first_terms(locator, 4);
+    let mut rows = [0u64; BANK];
+    first_rows(locator, &mut rows);
+    let mut s3 = [0u64; SEQUENCE];
+    sequence(locator, 3, &mut s3);
+    let mut s5 = [0u64; SEQUENCE];
+    sequence(locator, 5, &mut s5);
+    let mut s6 = [0u64; SEQUENCE];
+    sequence(locator, 6, &mut s6);
+    let mut s7 = [0u64; SEQUENCE];
+    sequence(locator, 7, &mut s7);
     let mut p: usize = 0;
     while p < PLACES {
-        flips[p] = zeros(sum(x0, sum(total(low), total(high))), wrong);
-        low = next_low(low);
-        high = next_high(high);
-        p += 1;
+        block_8(&rows, &s3, &s5, &s6, &s7, p, wrong, flips);
+        next_nine(&mut rows);
+        next_two(&mut rows);
+        p += BITS;
     }
 }
 

@@ -7,43 +7,25 @@ use Rattle.frames.proofs.side_by_side.search_2.Statement.{statement}
 use Rattle.frames.proofs.side_by_side.search_2.Tie as tie
 
 abbrev Inv-loop : tie.InvT-loop
-Inv-loop locator wrong flips₀ x0 x1₀ x2₀ p₀ flips x1 x2 p = (p ≤ 2040) × (length flips ≡ 2040)
+Inv-loop locator wrong flips₀ rows₀ p₀ flips rows p = (p ≤ 2050) × (length flips ≡ 2040)
 
 abbrev μ-loop : tie.MeasureT-loop
-μ-loop locator wrong flips₀ x0 x1₀ x2₀ p₀ flips x1 x2 p = 2040 - p
+μ-loop locator wrong flips₀ rows₀ p₀ flips rows p = 2050 - p
 
-get-requires : tie.Need-get-requires Inv-loop μ-loop
-get-requires c κs = search needs
-
-first-term-requires : tie.Need-first-term-requires Inv-loop μ-loop
-first-term-requires c κs = search needs
-
-first-term-requires-2 : tie.Need-first-term-requires-2 Inv-loop μ-loop
-first-term-requires-2 c κs = search needs
+first-rows-requires : tie.Need-first-rows-requires Inv-loop μ-loop
+first-rows-requires c κs = search needs
 
 loop-holds : tie.Need-loop-holds Inv-loop μ-loop
 loop-holds c = search needs
 
-sum-requires : tie.Need-sum-requires Inv-loop μ-loop
-sum-requires c κs = search needs
+block-2-requires : tie.Need-block-2-requires Inv-loop μ-loop
+block-2-requires c κs = search needs
 
-sum-requires-2 : tie.Need-sum-requires-2 Inv-loop μ-loop
-sum-requires-2 c κs = search needs
+next-nine-requires : tie.Need-next-nine-requires Inv-loop μ-loop
+next-nine-requires c κs = search needs
 
-zeros-requires : tie.Need-zeros-requires Inv-loop μ-loop
-zeros-requires c κs = search needs
-
-mul-flips : tie.Need-mul-flips Inv-loop μ-loop
-mul-flips c = search needs
-
-slice-write-flips : tie.Need-slice-write-flips Inv-loop μ-loop
-slice-write-flips c = search needs
-
-doubled-requires : tie.Need-doubled-requires Inv-loop μ-loop
-doubled-requires c κs = search needs
-
-times-a2-requires : tie.Need-times-a2-requires Inv-loop μ-loop
-times-a2-requires c κs = search needs
+next-two-requires : tie.Need-next-two-requires Inv-loop μ-loop
+next-two-requires c κs = search needs
 
 add-p : tie.Need-add-p Inv-loop μ-loop
 add-p c = search needs
@@ -66,17 +48,11 @@ search-2-spec =
     (tie.spec
     Inv-loop
     μ-loop
-    get-requires
-    first-term-requires
-    first-term-requires-2
+    first-rows-requires
     loop-holds
-    sum-requires
-    sum-requires-2
-    zeros-requires
-    mul-flips
-    slice-write-flips
-    doubled-requires
-    times-a2-requires
+    block-2-requires
+    next-nine-requires
+    next-two-requires
     add-p
     loop-less
     loop-again

@@ -7,37 +7,28 @@ use Rattle.frames.proofs.side_by_side.search_4.Statement.{statement}
 use Rattle.frames.proofs.side_by_side.search_4.Tie as tie
 
 abbrev Inv-loop : tie.InvT-loop
-Inv-loop locator wrong flips₀ x0 low₀ p₀ flips low p = (p ≤ 2040) × (length flips ≡ 2040)
+Inv-loop locator wrong flips₀ rows₀ s3 p₀ flips rows p = (p ≤ 2050) × (length flips ≡ 2040)
 
 abbrev μ-loop : tie.MeasureT-loop
-μ-loop locator wrong flips₀ x0 low₀ p₀ flips low p = 2040 - p
+μ-loop locator wrong flips₀ rows₀ s3 p₀ flips rows p = 2050 - p
 
-get-requires : tie.Need-get-requires Inv-loop μ-loop
-get-requires c κs = search needs
+first-rows-requires : tie.Need-first-rows-requires Inv-loop μ-loop
+first-rows-requires c κs = search needs
 
-first-terms-requires : tie.Need-first-terms-requires Inv-loop μ-loop
-first-terms-requires c κs = search needs
+sequence-requires : tie.Need-sequence-requires Inv-loop μ-loop
+sequence-requires c κs = search needs
 
 loop-holds : tie.Need-loop-holds Inv-loop μ-loop
 loop-holds c = search needs
 
-total-requires : tie.Need-total-requires Inv-loop μ-loop
-total-requires c κs = search needs
+block-4-requires : tie.Need-block-4-requires Inv-loop μ-loop
+block-4-requires c κs = search needs
 
-sum-requires : tie.Need-sum-requires Inv-loop μ-loop
-sum-requires c κs = search needs
+next-nine-requires : tie.Need-next-nine-requires Inv-loop μ-loop
+next-nine-requires c κs = search needs
 
-zeros-requires : tie.Need-zeros-requires Inv-loop μ-loop
-zeros-requires c κs = search needs
-
-mul-flips : tie.Need-mul-flips Inv-loop μ-loop
-mul-flips c = search needs
-
-slice-write-flips : tie.Need-slice-write-flips Inv-loop μ-loop
-slice-write-flips c = search needs
-
-next-low-requires : tie.Need-next-low-requires Inv-loop μ-loop
-next-low-requires c κs = search needs
+next-two-requires : tie.Need-next-two-requires Inv-loop μ-loop
+next-two-requires c κs = search needs
 
 add-p : tie.Need-add-p Inv-loop μ-loop
 add-p c = search needs
@@ -60,15 +51,12 @@ search-4-spec =
     (tie.spec
     Inv-loop
     μ-loop
-    get-requires
-    first-terms-requires
+    first-rows-requires
+    sequence-requires
     loop-holds
-    total-requires
-    sum-requires
-    zeros-requires
-    mul-flips
-    slice-write-flips
-    next-low-requires
+    block-4-requires
+    next-nine-requires
+    next-two-requires
     add-p
     loop-less
     loop-again

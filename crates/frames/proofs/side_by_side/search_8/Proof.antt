@@ -7,49 +7,37 @@ use Rattle.frames.proofs.side_by_side.search_8.Statement.{statement}
 use Rattle.frames.proofs.side_by_side.search_8.Tie as tie
 
 abbrev Inv-loop : tie.InvT-loop
-Inv-loop locator wrong flips₀ x0 low₀ high₀ p₀ flips low high p = (p ≤ 2040) × (length flips ≡ 2040)
+Inv-loop locator wrong flips₀ rows₀ s3 s5 s6 s7 p₀ flips rows p = (p ≤ 2050) × (length flips ≡ 2040)
 
 abbrev μ-loop : tie.MeasureT-loop
-μ-loop locator wrong flips₀ x0 low₀ high₀ p₀ flips low high p = 2040 - p
+μ-loop locator wrong flips₀ rows₀ s3 s5 s6 s7 p₀ flips rows p = 2050 - p
 
-get-requires : tie.Need-get-requires Inv-loop μ-loop
-get-requires c κs = search needs
+first-rows-requires : tie.Need-first-rows-requires Inv-loop μ-loop
+first-rows-requires c κs = search needs
 
-first-terms-requires : tie.Need-first-terms-requires Inv-loop μ-loop
-first-terms-requires c κs = search needs
+sequence-requires : tie.Need-sequence-requires Inv-loop μ-loop
+sequence-requires c κs = search needs
 
-first-terms-requires-2 : tie.Need-first-terms-requires-2 Inv-loop μ-loop
-first-terms-requires-2 c κs = search needs
+sequence-requires-2 : tie.Need-sequence-requires-2 Inv-loop μ-loop
+sequence-requires-2 c κs = search needs
+
+sequence-requires-3 : tie.Need-sequence-requires-3 Inv-loop μ-loop
+sequence-requires-3 c κs = search needs
+
+sequence-requires-4 : tie.Need-sequence-requires-4 Inv-loop μ-loop
+sequence-requires-4 c κs = search needs
 
 loop-holds : tie.Need-loop-holds Inv-loop μ-loop
 loop-holds c = search needs
 
-total-requires : tie.Need-total-requires Inv-loop μ-loop
-total-requires c κs = search needs
+block-8-requires : tie.Need-block-8-requires Inv-loop μ-loop
+block-8-requires c κs = search needs
 
-total-requires-2 : tie.Need-total-requires-2 Inv-loop μ-loop
-total-requires-2 c κs = search needs
+next-nine-requires : tie.Need-next-nine-requires Inv-loop μ-loop
+next-nine-requires c κs = search needs
 
-sum-requires : tie.Need-sum-requires Inv-loop μ-loop
-sum-requires c κs = search needs
-
-sum-requires-2 : tie.Need-sum-requires-2 Inv-loop μ-loop
-sum-requires-2 c κs = search needs
-
-zeros-requires : tie.Need-zeros-requires Inv-loop μ-loop
-zeros-requires c κs = search needs
-
-mul-flips : tie.Need-mul-flips Inv-loop μ-loop
-mul-flips c = search needs
-
-slice-write-flips : tie.Need-slice-write-flips Inv-loop μ-loop
-slice-write-flips c = search needs
-
-next-low-requires : tie.Need-next-low-requires Inv-loop μ-loop
-next-low-requires c κs = search needs
-
-next-high-requires : tie.Need-next-high-requires Inv-loop μ-loop
-next-high-requires c κs = search needs
+next-two-requires : tie.Need-next-two-requires Inv-loop μ-loop
+next-two-requires c κs = search needs
 
 add-p : tie.Need-add-p Inv-loop μ-loop
 add-p c = search needs
@@ -58,7 +46,7 @@ loop-less : tie.Need-loop-less Inv-loop μ-loop
 loop-less c = search needs
 
 loop-again : tie.Need-loop-again Inv-loop μ-loop
-loop-again c = (search needs, search (needs, c .before .before .before .before .before .before .before .before .loop .inv .1))
+loop-again c = search needs
 
 same-length : tie.Need-same-length Inv-loop μ-loop
 same-length c = search needs
@@ -72,19 +60,15 @@ search-8-spec =
     (tie.spec
     Inv-loop
     μ-loop
-    get-requires
-    first-terms-requires
-    first-terms-requires-2
+    first-rows-requires
+    sequence-requires
+    sequence-requires-2
+    sequence-requires-3
+    sequence-requires-4
     loop-holds
-    total-requires
-    total-requires-2
-    sum-requires
-    sum-requires-2
-    zeros-requires
-    mul-flips
-    slice-write-flips
-    next-low-requires
-    next-high-requires
+    block-8-requires
+    next-nine-requires
+    next-two-requires
     add-p
     loop-less
     loop-again

@@ -1,0 +1,94 @@
+-- `frames::side_by_side::nonzero_4` meets its contract. Assumes nothing.
+use borrow.Author.Needs.{needs}
+use Prim.Native.Nat.{_-_, _≤_, _<_}
+use Rattle.frames.proofs.side_by_side.nonzero_4.Statement.{statement}
+use Rattle.frames.proofs.side_by_side.nonzero_4.Tie as tie
+
+abbrev Inv-loop : tie.InvT-loop
+Inv-loop rows s3 p q n3 x₀ b₀ x b = (b ≤ 11) × (q < 11) × (n3 ≤ 2076)
+
+abbrev μ-loop : tie.MeasureT-loop
+μ-loop rows s3 p q n3 x₀ b₀ x b = 11 - b
+
+mul-n3 : tie.Need-mul-n3 Inv-loop μ-loop
+mul-n3 c = search needs
+
+mul-n3-2 : tie.Need-mul-n3-2 Inv-loop μ-loop
+mul-n3-2 c = search needs
+
+add-n3 : tie.Need-add-n3 Inv-loop μ-loop
+add-n3 c = search needs
+
+loop-holds : tie.Need-loop-holds Inv-loop μ-loop
+loop-holds c = search needs
+
+mul-x : tie.Need-mul-x Inv-loop μ-loop
+mul-x c = search needs
+
+add-x : tie.Need-add-x Inv-loop μ-loop
+add-x c = search needs
+
+mul-x-2 : tie.Need-mul-x-2 Inv-loop μ-loop
+mul-x-2 c = search needs
+
+element-copy-out-x : tie.Need-element-copy-out-x Inv-loop μ-loop
+element-copy-out-x c = search needs
+
+mul-x-3 : tie.Need-mul-x-3 Inv-loop μ-loop
+mul-x-3 c = search needs
+
+add-x-2 : tie.Need-add-x-2 Inv-loop μ-loop
+add-x-2 c = search needs
+
+mul-x-4 : tie.Need-mul-x-4 Inv-loop μ-loop
+mul-x-4 c = search needs
+
+element-copy-out-x-2 : tie.Need-element-copy-out-x-2 Inv-loop μ-loop
+element-copy-out-x-2 c = search needs
+
+add-x-3 : tie.Need-add-x-3 Inv-loop μ-loop
+add-x-3 c = search needs
+
+mul-x-5 : tie.Need-mul-x-5 Inv-loop μ-loop
+mul-x-5 c = search needs
+
+element-copy-out-x-3 : tie.Need-element-copy-out-x-3 Inv-loop μ-loop
+element-copy-out-x-3 c = search needs
+
+add-b : tie.Need-add-b Inv-loop μ-loop
+add-b c = search needs
+
+loop-less : tie.Need-loop-less Inv-loop μ-loop
+loop-less c = search needs
+
+loop-again : tie.Need-loop-again Inv-loop μ-loop
+loop-again c = search needs
+
+returns : tie.Need-returns Inv-loop μ-loop
+returns c = search needs
+
+pub nonzero-4-spec : {M : Type 1} → statement M
+nonzero-4-spec =
+    tie.close
+    (tie.spec
+    Inv-loop
+    μ-loop
+    mul-n3
+    mul-n3-2
+    add-n3
+    loop-holds
+    mul-x
+    add-x
+    mul-x-2
+    element-copy-out-x
+    mul-x-3
+    add-x-2
+    mul-x-4
+    element-copy-out-x-2
+    add-x-3
+    mul-x-5
+    element-copy-out-x-3
+    add-b
+    loop-less
+    loop-again
+    returns)

@@ -1,0 +1,82 @@
+-- `frames::side_by_side::sequence` meets its contract. Assumes nothing.
+use borrow.Author.Needs.{needs}
+use Prim.Native.Nat.{_-_, _≤_}
+use Rattle.frames.proofs.side_by_side.sequence.Statement.{statement}
+use Rattle.frames.proofs.side_by_side.sequence.Tie as tie
+
+abbrev Inv-loop : tie.InvT-loop
+Inv-loop locator i s₀ n₀ s n = (11 ≤ n) × (n ≤ 2127)
+
+abbrev μ-loop : tie.MeasureT-loop
+μ-loop locator i s₀ n₀ s n = 2127 - n
+
+first-term-requires : tie.Need-first-term-requires Inv-loop μ-loop
+first-term-requires c κs = search needs
+
+coordinates-requires : tie.Need-coordinates-requires Inv-loop μ-loop
+coordinates-requires c κs = search needs
+
+begin-sequence-requires : tie.Need-begin-sequence-requires Inv-loop μ-loop
+begin-sequence-requires c κs = search needs
+
+loop-holds : tie.Need-loop-holds Inv-loop μ-loop
+loop-holds c = search needs
+
+sub-s : tie.Need-sub-s Inv-loop μ-loop
+sub-s c = search needs
+
+mul-s : tie.Need-mul-s Inv-loop μ-loop
+mul-s c = search needs
+
+element-copy-out-s : tie.Need-element-copy-out-s Inv-loop μ-loop
+element-copy-out-s c = search needs
+
+sub-s-2 : tie.Need-sub-s-2 Inv-loop μ-loop
+sub-s-2 c = search needs
+
+mul-s-2 : tie.Need-mul-s-2 Inv-loop μ-loop
+mul-s-2 c = search needs
+
+element-copy-out-s-2 : tie.Need-element-copy-out-s-2 Inv-loop μ-loop
+element-copy-out-s-2 c = search needs
+
+mul-s-3 : tie.Need-mul-s-3 Inv-loop μ-loop
+mul-s-3 c = search needs
+
+element-write-s : tie.Need-element-write-s Inv-loop μ-loop
+element-write-s c = search needs
+
+add-n : tie.Need-add-n Inv-loop μ-loop
+add-n c = search needs
+
+loop-less : tie.Need-loop-less Inv-loop μ-loop
+loop-less c = search needs
+
+loop-again : tie.Need-loop-again Inv-loop μ-loop
+loop-again c = search needs
+
+returns : tie.Need-returns Inv-loop μ-loop
+returns c = search needs
+
+pub sequence-spec : {M : Type 1} → statement M
+sequence-spec =
+    tie.close
+    (tie.spec
+    Inv-loop
+    μ-loop
+    first-term-requires
+    coordinates-requires
+    begin-sequence-requires
+    loop-holds
+    sub-s
+    mul-s
+    element-copy-out-s
+    sub-s-2
+    mul-s-2
+    element-copy-out-s-2
+    mul-s-3
+    element-write-s
+    add-n
+    loop-less
+    loop-again
+    returns)

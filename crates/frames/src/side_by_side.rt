@@ -370,8 +370,8 @@ fn first_term(locator: &[u64; BANK], i: usize) -> Lanes
 
 // An element x is given here by the coefficients of z^10 in x, a x, .. a^10 x, which are all zero just if x is. Those of a^n x are eleven numbers of a
 // sequence, from number n on, and each number of it is the sum of those nine and eleven before: z^11 is z^2 + 1. So from one place to the next the term of
-// degree i moves by i in its sequence, and nothing is multiplied. The terms of degree 1, 2, 4 and 8 are additive: their sum at a place, a row, is the sum of
-// the rows nine and eleven places before.
+// degree i moves by i in its sequence, and nothing is multiplied. The terms of degree 1, 2, 4 and 8 are additive: their sum at a place is the sum of their
+// sums nine and eleven places before. With the constant term it is the place's row.
 fn coordinates(x: Lanes) -> Lanes {
     Lanes {
         r0: x.r10,
@@ -394,51 +394,53 @@ const PERIOD: usize = 2047;
 // The numbers of a sequence that are kept: a block of eleven places that begins before the period's end ends before these do.
 const SEQUENCE: usize = PERIOD + 80;
 
-// The first eleven numbers.
-fn begin_sequence(s: &mut [u64; SEQUENCE], x: Lanes) {
-    s[0] = x.r0;
-    s[1] = x.r1;
-    s[2] = x.r2;
-    s[3] = x.r3;
-    s[4] = x.r4;
-    s[5] = x.r5;
-    s[6] = x.r6;
-    s[7] = x.r7;
-    s[8] = x.r8;
-    s[9] = x.r9;
-    s[10] = x.r10;
+// Writes eleven numbers, from number m on.
+fn put_numbers(s: &mut [u64; SEQUENCE], m: usize, x: Lanes)
+    requires { ⌜ m < 12 ⌝ }
+{
+    s[m] = x.r0;
+    s[m + 1] = x.r1;
+    s[m + 2] = x.r2;
+    s[m + 3] = x.r3;
+    s[m + 4] = x.r4;
+    s[m + 5] = x.r5;
+    s[m + 6] = x.r6;
+    s[m + 7] = x.r7;
+    s[m + 8] = x.r8;
+    s[m + 9] = x.r9;
+    s[m + 10] = x.r10;
 }
 
-// The sequence of the term of degree i.
+// The sequence of the term of degree i. With all exponents doubled z^22 is z^4 + 1: a number is the sum of those 18 and 22 before, too, and with even
+// distances two numbers are made at once.
 fn sequence(locator: &[u64; BANK], i: usize, s: &mut [u64; SEQUENCE])
     requires { ⌜ i < 9 ⌝ }
 {
-    begin_sequence(s, coordinates(first_term(locator, i)));
-    let mut n: usize = BITS;
+    let x = first_term(locator, i);
+    put_numbers(s, 0, coordinates(x));
+    put_numbers(s, BITS, coordinates(sum(x, times_a2(x))));
+    let mut n: usize = 22;
     while n < SEQUENCE {
-        s[n] = s[n - 9] ^ s[n - 11];
+        s[n] = s[n - 18] ^ s[n - 22];
         n += 1;
     }
 }
 
-// The sum of four terms.
-fn row(x1: Lanes, x2: Lanes, x4: Lanes, x8: Lanes) -> Lanes {
-    coordinates(sum(sum(x1, x2), sum(x4, x8)))
+// The sum of five terms.
+fn row(x0: Lanes, x1: Lanes, x2: Lanes, x4: Lanes, x8: Lanes) -> Lanes {
+    coordinates(sum(x0, sum(sum(x1, x2), sum(x4, x8))))
 }
-
-// Number 11 in the bank of rows is the constant term.
-const CONSTANT: usize = 11;
 
 // The rows of the first eleven places.
 fn first_rows(locator: &[u64; BANK], rows: &mut [u64; BANK]) {
-    put(rows, CONSTANT, coordinates(get(locator, 0)));
+    let x0 = get(locator, 0);
     let mut x1 = first_term(locator, 1);
     let mut x2 = first_term(locator, 2);
     let mut x4 = first_term(locator, 4);
     let mut x8 = first_term(locator, 8);
     let mut q: usize = 0;
     while q < BITS {
-        put(rows, q, row(x1, x2, x4, x8));
+        put(rows, q, row(x0, x1, x2, x4, x8));
         x1 = doubled(x1);
         x2 = times_a2(x2);
         x4 = times_a4(x4);
@@ -447,19 +449,30 @@ fn first_rows(locator: &[u64; BANK], rows: &mut [u64; BANK]) {
     }
 }
 
-// The rows of the next eleven places: nine to which the next row but one is added, then two to which one of those is.
-fn next_nine(rows: &mut [u64; BANK]) {
+// The constant term, eleven times.
+fn constants(locator: &[u64; BANK], constant: &mut [u64; BANK]) {
+    let x = coordinates(get(locator, 0));
+    let mut q: usize = 0;
+    while q < BITS {
+        put(constant, q, x);
+        q += 1;
+    }
+}
+
+// The rows of the next eleven places: nine to which the next row but one is added, then two to which one of those is. The constant term, which three rows
+// have, is added as a fourth.
+fn next_nine(rows: &mut [u64; BANK], constant: &[u64; BANK]) {
     let mut m: usize = 0;
     while m < BITS * 9 {
-        rows[m] = rows[m] ^ rows[m + BITS * 2];
+        rows[m] = rows[m] ^ rows[m + BITS * 2] ^ constant[m];
         m += 1;
     }
 }
 
-fn next_two(rows: &mut [u64; BANK]) {
+fn next_two(rows: &mut [u64; BANK], constant: &[u64; BANK]) {
     let mut m: usize = 0;
     while m < BITS * 2 {
-        rows[m + BITS * 9] = rows[m + BITS * 9] ^ rows[m];
+        rows[m + BITS * 9] = rows[m + BITS * 9] ^ rows[m] ^ constant[m];
         m += 1;
     }
 }
@@ -479,7 +492,7 @@ fn block_places(p: usize) -> usize
 fn nonzero_2(rows: &[u64; BANK], q: usize) -> u64
     requires { ⌜ q < 11 ⌝ }
 {
-    nonzero(sum(get(rows, CONSTANT), get(rows, q)))
+    nonzero(get(rows, q))
 }
 
 // The same of degree 4 at most, with the sequence of degree 3, for a block that begins at place p.
@@ -490,7 +503,7 @@ fn nonzero_4(rows: &[u64; BANK], s3: &[u64; SEQUENCE], p: usize, q: usize) -> u6
     let mut x: u64 = 0;
     let mut b: usize = 0;
     while b < BITS {
-        x = x | (rows[BITS * CONSTANT + b] ^ rows[BITS * q + b] ^ s3[n3 + b]);
+        x = x | (rows[BITS * q + b] ^ s3[n3 + b]);
         b += 1;
     }
     x
@@ -515,7 +528,7 @@ fn nonzero_8(
     let mut x: u64 = 0;
     let mut b: usize = 0;
     while b < BITS {
-        x = x | (rows[BITS * CONSTANT + b] ^ rows[BITS * q + b] ^ s3[n3 + b] ^ s5[n5 + b] ^ s6[n6 + b] ^ s7[n7 + b]);
+        x = x | (rows[BITS * q + b] ^ s3[n3 + b] ^ s5[n5 + b] ^ s6[n6 + b] ^ s7[n7 + b]);
         b += 1;
     }
     x
@@ -570,11 +583,13 @@ fn search_2(locator: &[u64; BANK], wrong: u64, flips: &mut [u64])
 {
     let mut rows = [0u64; BANK];
     first_rows(locator, &mut rows);
+    let mut constant = [0u64; BANK];
+    constants(locator, &mut constant);
     let mut p: usize = 0;
     while p < PLACES {
         block_2(&rows, p, wrong, flips);
-        next_nine(&mut rows);
-        next_two(&mut rows);
+        next_nine(&mut rows, &constant);
+        next_two(&mut rows, &constant);
         p += BITS;
     }
 }
@@ -585,13 +600,15 @@ fn search_4(locator: &[u64; BANK], wrong: u64, flips: &mut [u64])
 {
     let mut rows = [0u64; BANK];
     first_rows(locator, &mut rows);
+    let mut constant = [0u64; BANK];
+    constants(locator, &mut constant);
     let mut s3 = [0u64; SEQUENCE];
     sequence(locator, 3, &mut s3);
     let mut p: usize = 0;
     while p < PLACES {
         block_4(&rows, &s3, p, wrong, flips);
-        next_nine(&mut rows);
-        next_two(&mut rows);
+        next_nine(&mut rows, &constant);
+        next_two(&mut rows, &constant);
         p += BITS;
     }
 }
@@ -602,6 +619,8 @@ fn search_8(locator: &[u64; BANK], wrong: u64, flips: &mut [u64])
 {
     let mut rows = [0u64; BANK];
     first_rows(locator, &mut rows);
+    let mut constant = [0u64; BANK];
+    constants(locator, &mut constant);
     let mut s3 = [0u64; SEQUENCE];
     sequence(locator, 3, &mut s3);
     let mut s5 = [0u64; SEQUENCE];
@@ -613,8 +632,8 @@ fn search_8(locator: &[u64; BANK], wrong: u64, flips: &mut [u64])
     let mut p: usize = 0;
     while p < PLACES {
         block_8(&rows, &s3, &s5, &s6, &s7, p, wrong, flips);
-        next_nine(&mut rows);
-        next_two(&mut rows);
+        next_nine(&mut rows, &constant);
+        next_two(&mut rows, &constant);
         p += BITS;
     }
 }

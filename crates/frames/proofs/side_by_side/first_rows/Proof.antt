@@ -5,19 +5,13 @@ use Rattle.frames.proofs.side_by_side.first_rows.Statement.{statement}
 use Rattle.frames.proofs.side_by_side.first_rows.Tie as tie
 
 abbrev Inv-loop : tie.InvT-loop
-Inv-loop locator rows₀ x1₀ x2₀ x4₀ x8₀ q₀ rows x1 x2 x4 x8 q = q ≤ 11
+Inv-loop locator rows₀ x0 x1₀ x2₀ x4₀ x8₀ q₀ rows x1 x2 x4 x8 q = q ≤ 11
 
 abbrev μ-loop : tie.MeasureT-loop
-μ-loop locator rows₀ x1₀ x2₀ x4₀ x8₀ q₀ rows x1 x2 x4 x8 q = 11 - q
+μ-loop locator rows₀ x0 x1₀ x2₀ x4₀ x8₀ q₀ rows x1 x2 x4 x8 q = 11 - q
 
 get-requires : tie.Need-get-requires Inv-loop μ-loop
 get-requires c κs = search needs
-
-coordinates-requires : tie.Need-coordinates-requires Inv-loop μ-loop
-coordinates-requires c κs = search needs
-
-put-requires : tie.Need-put-requires Inv-loop μ-loop
-put-requires c κs = search needs
 
 first-term-requires : tie.Need-first-term-requires Inv-loop μ-loop
 first-term-requires c κs = search needs
@@ -37,8 +31,8 @@ loop-holds c = search needs
 row-requires : tie.Need-row-requires Inv-loop μ-loop
 row-requires c κs = search needs
 
-put-requires-2 : tie.Need-put-requires-2 Inv-loop μ-loop
-put-requires-2 c κs = search needs
+put-requires : tie.Need-put-requires Inv-loop μ-loop
+put-requires c κs = search needs
 
 doubled-requires : tie.Need-doubled-requires Inv-loop μ-loop
 doubled-requires c κs = search needs
@@ -71,15 +65,13 @@ first-rows-spec =
     Inv-loop
     μ-loop
     get-requires
-    coordinates-requires
-    put-requires
     first-term-requires
     first-term-requires-2
     first-term-requires-3
     first-term-requires-4
     loop-holds
     row-requires
-    put-requires-2
+    put-requires
     doubled-requires
     times-a2-requires
     times-a4-requires

@@ -5,10 +5,10 @@ use Rattle.frames.proofs.side_by_side.next_two.Statement.{statement}
 use Rattle.frames.proofs.side_by_side.next_two.Tie as tie
 
 abbrev Inv-loop : tie.InvT-loop
-Inv-loop rows₀ m₀ rows m = m ≤ 22
+Inv-loop rows₀ constant m₀ rows m = m ≤ 22
 
 abbrev μ-loop : tie.MeasureT-loop
-μ-loop rows₀ m₀ rows m = 22 - m
+μ-loop rows₀ constant m₀ rows m = 22 - m
 
 loop-holds : tie.Need-loop-holds Inv-loop μ-loop
 loop-holds c = search needs
@@ -37,11 +37,17 @@ element-copy-out-rows-2 c = search needs
 mul-rows-4 : tie.Need-mul-rows-4 Inv-loop μ-loop
 mul-rows-4 c = search needs
 
-add-rows-2 : tie.Need-add-rows-2 Inv-loop μ-loop
-add-rows-2 c = search needs
+element-copy-out-rows-3 : tie.Need-element-copy-out-rows-3 Inv-loop μ-loop
+element-copy-out-rows-3 c = search needs
 
 mul-rows-5 : tie.Need-mul-rows-5 Inv-loop μ-loop
 mul-rows-5 c = search needs
+
+add-rows-2 : tie.Need-add-rows-2 Inv-loop μ-loop
+add-rows-2 c = search needs
+
+mul-rows-6 : tie.Need-mul-rows-6 Inv-loop μ-loop
+mul-rows-6 c = search needs
 
 element-write-rows : tie.Need-element-write-rows Inv-loop μ-loop
 element-write-rows c = search needs
@@ -73,8 +79,10 @@ next-two-spec =
     mul-rows-3
     element-copy-out-rows-2
     mul-rows-4
-    add-rows-2
+    element-copy-out-rows-3
     mul-rows-5
+    add-rows-2
+    mul-rows-6
     element-write-rows
     add-m
     loop-less

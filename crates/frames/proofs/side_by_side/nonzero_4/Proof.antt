@@ -34,26 +34,14 @@ mul-x-2 c = search needs
 element-copy-out-x : tie.Need-element-copy-out-x Inv-loop μ-loop
 element-copy-out-x c = search needs
 
-mul-x-3 : tie.Need-mul-x-3 Inv-loop μ-loop
-mul-x-3 c = search needs
-
 add-x-2 : tie.Need-add-x-2 Inv-loop μ-loop
 add-x-2 c = search needs
 
-mul-x-4 : tie.Need-mul-x-4 Inv-loop μ-loop
-mul-x-4 c = search needs
+mul-x-3 : tie.Need-mul-x-3 Inv-loop μ-loop
+mul-x-3 c = search needs
 
 element-copy-out-x-2 : tie.Need-element-copy-out-x-2 Inv-loop μ-loop
 element-copy-out-x-2 c = search needs
-
-add-x-3 : tie.Need-add-x-3 Inv-loop μ-loop
-add-x-3 c = search needs
-
-mul-x-5 : tie.Need-mul-x-5 Inv-loop μ-loop
-mul-x-5 c = search needs
-
-element-copy-out-x-3 : tie.Need-element-copy-out-x-3 Inv-loop μ-loop
-element-copy-out-x-3 c = search needs
 
 add-b : tie.Need-add-b Inv-loop μ-loop
 add-b c = search needs
@@ -81,13 +69,9 @@ nonzero-4-spec =
     add-x
     mul-x-2
     element-copy-out-x
-    mul-x-3
     add-x-2
-    mul-x-4
+    mul-x-3
     element-copy-out-x-2
-    add-x-3
-    mul-x-5
-    element-copy-out-x-3
     add-b
     loop-less
     loop-again

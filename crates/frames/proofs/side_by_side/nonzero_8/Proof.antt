@@ -61,14 +61,11 @@ mul-x-2 c = search needs
 element-copy-out-x : tie.Need-element-copy-out-x Inv-loop μ-loop
 element-copy-out-x c = search needs
 
-mul-x-3 : tie.Need-mul-x-3 Inv-loop μ-loop
-mul-x-3 c = search needs
-
 add-x-2 : tie.Need-add-x-2 Inv-loop μ-loop
 add-x-2 c = search needs
 
-mul-x-4 : tie.Need-mul-x-4 Inv-loop μ-loop
-mul-x-4 c = search needs
+mul-x-3 : tie.Need-mul-x-3 Inv-loop μ-loop
+mul-x-3 c = search needs
 
 element-copy-out-x-2 : tie.Need-element-copy-out-x-2 Inv-loop μ-loop
 element-copy-out-x-2 c = search needs
@@ -76,8 +73,8 @@ element-copy-out-x-2 c = search needs
 add-x-3 : tie.Need-add-x-3 Inv-loop μ-loop
 add-x-3 c = search needs
 
-mul-x-5 : tie.Need-mul-x-5 Inv-loop μ-loop
-mul-x-5 c = search needs
+mul-x-4 : tie.Need-mul-x-4 Inv-loop μ-loop
+mul-x-4 c = search needs
 
 element-copy-out-x-3 : tie.Need-element-copy-out-x-3 Inv-loop μ-loop
 element-copy-out-x-3 c = search needs
@@ -85,8 +82,8 @@ element-copy-out-x-3 c = search needs
 add-x-4 : tie.Need-add-x-4 Inv-loop μ-loop
 add-x-4 c = search needs
 
-mul-x-6 : tie.Need-mul-x-6 Inv-loop μ-loop
-mul-x-6 c = search needs
+mul-x-5 : tie.Need-mul-x-5 Inv-loop μ-loop
+mul-x-5 c = search needs
 
 element-copy-out-x-4 : tie.Need-element-copy-out-x-4 Inv-loop μ-loop
 element-copy-out-x-4 c = search needs
@@ -94,20 +91,11 @@ element-copy-out-x-4 c = search needs
 add-x-5 : tie.Need-add-x-5 Inv-loop μ-loop
 add-x-5 c = search needs
 
-mul-x-7 : tie.Need-mul-x-7 Inv-loop μ-loop
-mul-x-7 c = search needs
+mul-x-6 : tie.Need-mul-x-6 Inv-loop μ-loop
+mul-x-6 c = search needs
 
 element-copy-out-x-5 : tie.Need-element-copy-out-x-5 Inv-loop μ-loop
 element-copy-out-x-5 c = search needs
-
-add-x-6 : tie.Need-add-x-6 Inv-loop μ-loop
-add-x-6 c = search needs
-
-mul-x-8 : tie.Need-mul-x-8 Inv-loop μ-loop
-mul-x-8 c = search needs
-
-element-copy-out-x-6 : tie.Need-element-copy-out-x-6 Inv-loop μ-loop
-element-copy-out-x-6 c = search needs
 
 add-b : tie.Need-add-b Inv-loop μ-loop
 add-b c = search needs
@@ -144,22 +132,18 @@ nonzero-8-spec =
     add-x
     mul-x-2
     element-copy-out-x
-    mul-x-3
     add-x-2
-    mul-x-4
+    mul-x-3
     element-copy-out-x-2
     add-x-3
-    mul-x-5
+    mul-x-4
     element-copy-out-x-3
     add-x-4
-    mul-x-6
+    mul-x-5
     element-copy-out-x-4
     add-x-5
-    mul-x-7
+    mul-x-6
     element-copy-out-x-5
-    add-x-6
-    mul-x-8
-    element-copy-out-x-6
     add-b
     loop-less
     loop-again

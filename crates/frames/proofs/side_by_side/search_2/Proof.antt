@@ -7,13 +7,16 @@ use Rattle.frames.proofs.side_by_side.search_2.Statement.{statement}
 use Rattle.frames.proofs.side_by_side.search_2.Tie as tie
 
 abbrev Inv-loop : tie.InvT-loop
-Inv-loop locator wrong flips₀ rows₀ p₀ flips rows p = (p ≤ 2050) × (length flips ≡ 2040)
+Inv-loop locator wrong flips₀ rows₀ constant p₀ flips rows p = (p ≤ 2050) × (length flips ≡ 2040)
 
 abbrev μ-loop : tie.MeasureT-loop
-μ-loop locator wrong flips₀ rows₀ p₀ flips rows p = 2050 - p
+μ-loop locator wrong flips₀ rows₀ constant p₀ flips rows p = 2050 - p
 
 first-rows-requires : tie.Need-first-rows-requires Inv-loop μ-loop
 first-rows-requires c κs = search needs
+
+constants-requires : tie.Need-constants-requires Inv-loop μ-loop
+constants-requires c κs = search needs
 
 loop-holds : tie.Need-loop-holds Inv-loop μ-loop
 loop-holds c = search needs
@@ -49,6 +52,7 @@ search-2-spec =
     Inv-loop
     μ-loop
     first-rows-requires
+    constants-requires
     loop-holds
     block-2-requires
     next-nine-requires

@@ -7,13 +7,16 @@ use Rattle.frames.proofs.side_by_side.search_4.Statement.{statement}
 use Rattle.frames.proofs.side_by_side.search_4.Tie as tie
 
 abbrev Inv-loop : tie.InvT-loop
-Inv-loop locator wrong flips₀ rows₀ s3 p₀ flips rows p = (p ≤ 2050) × (length flips ≡ 2040)
+Inv-loop locator wrong flips₀ rows₀ constant s3 p₀ flips rows p = (p ≤ 2050) × (length flips ≡ 2040)
 
 abbrev μ-loop : tie.MeasureT-loop
-μ-loop locator wrong flips₀ rows₀ s3 p₀ flips rows p = 2050 - p
+μ-loop locator wrong flips₀ rows₀ constant s3 p₀ flips rows p = 2050 - p
 
 first-rows-requires : tie.Need-first-rows-requires Inv-loop μ-loop
 first-rows-requires c κs = search needs
+
+constants-requires : tie.Need-constants-requires Inv-loop μ-loop
+constants-requires c κs = search needs
 
 sequence-requires : tie.Need-sequence-requires Inv-loop μ-loop
 sequence-requires c κs = search needs
@@ -52,6 +55,7 @@ search-4-spec =
     Inv-loop
     μ-loop
     first-rows-requires
+    constants-requires
     sequence-requires
     loop-holds
     block-4-requires

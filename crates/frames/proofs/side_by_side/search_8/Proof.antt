@@ -7,13 +7,16 @@ use Rattle.frames.proofs.side_by_side.search_8.Statement.{statement}
 use Rattle.frames.proofs.side_by_side.search_8.Tie as tie
 
 abbrev Inv-loop : tie.InvT-loop
-Inv-loop locator wrong flips₀ rows₀ s3 s5 s6 s7 p₀ flips rows p = (p ≤ 2050) × (length flips ≡ 2040)
+Inv-loop locator wrong flips₀ rows₀ constant s3 s5 s6 s7 p₀ flips rows p = (p ≤ 2050) × (length flips ≡ 2040)
 
 abbrev μ-loop : tie.MeasureT-loop
-μ-loop locator wrong flips₀ rows₀ s3 s5 s6 s7 p₀ flips rows p = 2050 - p
+μ-loop locator wrong flips₀ rows₀ constant s3 s5 s6 s7 p₀ flips rows p = 2050 - p
 
 first-rows-requires : tie.Need-first-rows-requires Inv-loop μ-loop
 first-rows-requires c κs = search needs
+
+constants-requires : tie.Need-constants-requires Inv-loop μ-loop
+constants-requires c κs = search needs
 
 sequence-requires : tie.Need-sequence-requires Inv-loop μ-loop
 sequence-requires c κs = search needs
@@ -61,6 +64,7 @@ search-8-spec =
     Inv-loop
     μ-loop
     first-rows-requires
+    constants-requires
     sequence-requires
     sequence-requires-2
     sequence-requires-3

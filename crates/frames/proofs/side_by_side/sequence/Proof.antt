@@ -5,7 +5,7 @@ use Rattle.frames.proofs.side_by_side.sequence.Statement.{statement}
 use Rattle.frames.proofs.side_by_side.sequence.Tie as tie
 
 abbrev Inv-loop : tie.InvT-loop
-Inv-loop locator i s₀ n₀ s n = (11 ≤ n) × (n ≤ 2127)
+Inv-loop locator i s₀ n₀ s n = (22 ≤ n) × (n ≤ 2127)
 
 abbrev μ-loop : tie.MeasureT-loop
 μ-loop locator i s₀ n₀ s n = 2127 - n
@@ -16,8 +16,20 @@ first-term-requires c κs = search needs
 coordinates-requires : tie.Need-coordinates-requires Inv-loop μ-loop
 coordinates-requires c κs = search needs
 
-begin-sequence-requires : tie.Need-begin-sequence-requires Inv-loop μ-loop
-begin-sequence-requires c κs = search needs
+put-numbers-requires : tie.Need-put-numbers-requires Inv-loop μ-loop
+put-numbers-requires c κs = search needs
+
+times-a2-requires : tie.Need-times-a2-requires Inv-loop μ-loop
+times-a2-requires c κs = search needs
+
+sum-requires : tie.Need-sum-requires Inv-loop μ-loop
+sum-requires c κs = search needs
+
+coordinates-requires-2 : tie.Need-coordinates-requires-2 Inv-loop μ-loop
+coordinates-requires-2 c κs = search needs
+
+put-numbers-requires-2 : tie.Need-put-numbers-requires-2 Inv-loop μ-loop
+put-numbers-requires-2 c κs = search needs
 
 loop-holds : tie.Need-loop-holds Inv-loop μ-loop
 loop-holds c = search needs
@@ -66,7 +78,11 @@ sequence-spec =
     μ-loop
     first-term-requires
     coordinates-requires
-    begin-sequence-requires
+    put-numbers-requires
+    times-a2-requires
+    sum-requires
+    coordinates-requires-2
+    put-numbers-requires-2
     loop-holds
     sub-s
     mul-s

@@ -1,0 +1,50 @@
+-- `frames::side_by_side::constants` meets its contract. Assumes nothing.
+use borrow.Author.Needs.{needs}
+use Prim.Native.Nat.{_-_, _≤_}
+use Rattle.frames.proofs.side_by_side.constants.Statement.{statement}
+use Rattle.frames.proofs.side_by_side.constants.Tie as tie
+
+abbrev Inv-loop : tie.InvT-loop
+Inv-loop locator constant₀ x q₀ constant q = q ≤ 11
+
+abbrev μ-loop : tie.MeasureT-loop
+μ-loop locator constant₀ x q₀ constant q = 11 - q
+
+get-requires : tie.Need-get-requires Inv-loop μ-loop
+get-requires c κs = search needs
+
+coordinates-requires : tie.Need-coordinates-requires Inv-loop μ-loop
+coordinates-requires c κs = search needs
+
+loop-holds : tie.Need-loop-holds Inv-loop μ-loop
+loop-holds c = search needs
+
+put-requires : tie.Need-put-requires Inv-loop μ-loop
+put-requires c κs = search needs
+
+add-q : tie.Need-add-q Inv-loop μ-loop
+add-q c = search needs
+
+loop-less : tie.Need-loop-less Inv-loop μ-loop
+loop-less c = search needs
+
+loop-again : tie.Need-loop-again Inv-loop μ-loop
+loop-again c = search needs
+
+returns : tie.Need-returns Inv-loop μ-loop
+returns c = search needs
+
+pub constants-spec : {M : Type 1} → statement M
+constants-spec =
+    tie.close
+    (tie.spec
+    Inv-loop
+    μ-loop
+    get-requires
+    coordinates-requires
+    loop-holds
+    put-requires
+    add-q
+    loop-less
+    loop-again
+    returns)

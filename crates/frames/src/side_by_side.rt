@@ -145,6 +145,31 @@ fn product(x: Lanes, y: Lanes) -> Lanes {
     product_step(p1, x, y.r0)
 }
 
+// The product with a coefficient x, which often is zero in every inner word: then nothing is multiplied.
+fn sparse_product(x: Lanes, y: Lanes) -> Lanes {
+    if nonzero(x) == 0 {
+        return x;
+    }
+    product(x, y)
+}
+
+// The square, which is additive: z^12, z^14, .. z^20 are z^3 + z, z^5 + z^3, z^7 + z^5, z^9 + z^7, z^9 + z^2 + 1.
+fn square(x: Lanes) -> Lanes {
+    Lanes {
+        r0: x.r0 ^ x.r10,
+        r1: x.r6,
+        r2: x.r1 ^ x.r10,
+        r3: x.r6 ^ x.r7,
+        r4: x.r2,
+        r5: x.r7 ^ x.r8,
+        r6: x.r3,
+        r7: x.r8 ^ x.r9,
+        r8: x.r4,
+        r9: x.r9 ^ x.r10,
+        r10: x.r5,
+    }
+}
+
 // Element i of a bank.
 fn get(bank: &[u64; BANK], i: usize) -> Lanes
     requires { ⌜ i < 16 ⌝ }
@@ -205,7 +230,7 @@ fn syndromes(residues: &[u64; RESIDUES], bank: &mut [u64; BANK]) {
     while j < RADIUS {
         put(bank, 2 * j, odd_syndrome(residues, j));
         let root = get(bank, j);
-        put(bank, 2 * j + 1, product(root, root));
+        put(bank, 2 * j + 1, square(root));
         j += 1;
     }
 }
@@ -219,7 +244,10 @@ fn discrepancy(locator: &[u64; BANK], syndromes: &[u64; BANK], r: usize) -> Lane
     let mut i: usize = 0;
     while i < COEFFICIENTS {
         if i <= 2 * r {
-            d = sum(d, product(get(locator, i), get(syndromes, 2 * r - i)));
+            d = sum(
+                d,
+                sparse_product(get(locator, i), get(syndromes, 2 * r - i)),
+            );
         }
         i += 1;
     }
@@ -230,7 +258,10 @@ fn discrepancy(locator: &[u64; BANK], syndromes: &[u64; BANK], r: usize) -> Lane
 fn combine(locator: &mut [u64; BANK], g: Lanes, other: &[u64; BANK], d: Lanes) {
     let mut i: usize = 0;
     while i < COEFFICIENTS {
-        let x = sum(product(g, get(locator, i)), product(d, get(other, i)));
+        let x = sum(
+            sparse_product(get(locator, i), g),
+            sparse_product(get(other, i), d),
+        );
         put(locator, i, x);
         i += 1;
     }

@@ -16,14 +16,14 @@ loop-holds c = search needs
 get-requires : tie.Need-get-requires Inv-loop μ-loop
 get-requires c κs = search needs
 
-product-requires : tie.Need-product-requires Inv-loop μ-loop
-product-requires c κs = search needs
+sparse-product-requires : tie.Need-sparse-product-requires Inv-loop μ-loop
+sparse-product-requires c κs = search needs
 
 get-requires-2 : tie.Need-get-requires-2 Inv-loop μ-loop
 get-requires-2 c κs = search needs
 
-product-requires-2 : tie.Need-product-requires-2 Inv-loop μ-loop
-product-requires-2 c κs = search needs
+sparse-product-requires-2 : tie.Need-sparse-product-requires-2 Inv-loop μ-loop
+sparse-product-requires-2 c κs = search needs
 
 sum-requires : tie.Need-sum-requires Inv-loop μ-loop
 sum-requires c κs = search needs
@@ -51,9 +51,9 @@ combine-spec =
     μ-loop
     loop-holds
     get-requires
-    product-requires
+    sparse-product-requires
     get-requires-2
-    product-requires-2
+    sparse-product-requires-2
     sum-requires
     put-requires
     add-i

@@ -31,8 +31,8 @@ sub-get c = search needs
 get-requires-2 : tie.Need-get-requires-2 Inv-loop μ-loop
 get-requires-2 c κs = search needs
 
-product-requires : tie.Need-product-requires Inv-loop μ-loop
-product-requires c κs = search needs
+sparse-product-requires : tie.Need-sparse-product-requires Inv-loop μ-loop
+sparse-product-requires c κs = search needs
 
 sum-requires : tie.Need-sum-requires Inv-loop μ-loop
 sum-requires c κs = search needs
@@ -62,7 +62,7 @@ discrepancy-spec =
     mul-get
     sub-get
     get-requires-2
-    product-requires
+    sparse-product-requires
     sum-requires
     add-i
     loop-less

@@ -31,8 +31,8 @@ mul-put-2 c = search needs
 add-put : tie.Need-add-put Inv-loop μ-loop
 add-put c = search needs
 
-product-requires : tie.Need-product-requires Inv-loop μ-loop
-product-requires c κs = search needs
+square-requires : tie.Need-square-requires Inv-loop μ-loop
+square-requires c κs = search needs
 
 put-requires-2 : tie.Need-put-requires-2 Inv-loop μ-loop
 put-requires-2 c κs = search needs
@@ -62,7 +62,7 @@ syndromes-spec =
     get-requires
     mul-put-2
     add-put
-    product-requires
+    square-requires
     put-requires-2
     add-j
     loop-less

@@ -48,7 +48,7 @@ module _ (w n : ℕ) (bits digit : ℕ → ℕ) (small : (m : ℕ) → digit m <
   last-digit : (m : ℕ) {x : ℕ} → x ≡ numberOf (n * m) bits * 2 ^ n → bitOr x (digit m) ≡ numberOf (n * m + n) bits
   last-digit m e = ap (λ (y : ℕ). bitOr y (digit m)) e ∙ or-shifted (numberOf (n * m) bits) n (digit m) (small m) ∙ digits-and m
 
--- ---- two bytes, and a symbol in them
+-- ---- two bytes and a symbol in them, and eight bytes
 
 module _ (bytes : List ℕ) (p : ℕ) (fits : (i : ℕ) → Fits w8 (getD bytes i 0)) where
   abbrev byte : ℕ → ℕ
@@ -71,7 +71,26 @@ module _ (bytes : List ℕ) (p : ℕ) (fits : (i : ℕ) → Fits w8 (getD bytes 
       last-digit 16 8 (λ j. bitAt bytes (8 * p + j)) byte byte-lt byte-bits 1
       (ap (λ (x : ℕ). x * 2 ^ 8 % 2 ^ 16) e ∙ first-digit 16 8 (λ j. bitAt bytes (8 * p + j)) byte byte-lt byte-bits 8 (lit≤ tt))
 
-number-bit : (n : ℕ) (b : ℕ → ℕ) → ((i : ℕ) → b i < 2) → (i j : ℕ) → j < n → bitOf n (numberAt n b i) j ≡ b (i + j)
+  next-byte : (m k : ℕ) {x : ℕ} → k + 8 ≤ 64 → x ≡ numberOf (8 * m) (λ j. bitAt bytes (8 * p + j)) * 2 ^ (k + 8) →
+      bitOr x (byte m * 2 ^ k % 2 ^ 64) ≡ numberOf (8 * m + 8) (λ j. bitAt bytes (8 * p + j)) * 2 ^ k
+  next-byte = next-digit 64 8 (λ j. bitAt bytes (8 * p + j)) byte byte-lt byte-bits
+
+  pub eight-made : bitOr (bitOr (bitOr (bitOr (bitOr (bitOr (bitOr (getD bytes p 0 * 2 ^ 56 % 2 ^ 64) (byte 1 * 2 ^ 48 % 2 ^ 64))
+      (byte 2 * 2 ^ 40 % 2 ^ 64)) (byte 3 * 2 ^ 32 % 2 ^ 64)) (byte 4 * 2 ^ 24 % 2 ^ 64)) (byte 5 * 2 ^ 16 % 2 ^ 64)) (byte 6 * 2 ^ 8 % 2 ^ 64)) (byte 7)
+      ≡ numberAt 64 (bitAt bytes) (8 * p)
+  unfolding numberAt
+  eight-made =
+      let e : getD bytes p 0 ≡ byte 0 = ap (λ (i : ℕ). getD bytes i 0) (omega arith) in
+      let one = ap (λ (x : ℕ). x * 2 ^ 56 % 2 ^ 64) e ∙ first-digit 64 8 (λ j. bitAt bytes (8 * p + j)) byte byte-lt byte-bits 56 (lit≤ tt) in
+      let four = next-byte 3 32 (lit≤ tt) (next-byte 2 40 (lit≤ tt) (next-byte 1 48 (lit≤ tt) one)) in
+      last-digit 64 8 (λ j. bitAt bytes (8 * p + j)) byte byte-lt byte-bits 7 (next-byte 6 8 (lit≤ tt) (next-byte 5 16 (lit≤ tt) (next-byte 4 24 (lit≤ tt) four)))
+
+  -- one byte more
+  pub nine-are : numberAt 64 (bitAt bytes) (8 * p) * 256 + byte 8 ≡ numberAt 72 (bitAt bytes) (8 * p)
+  unfolding numberAt
+  nine-are = digits-and 64 8 (λ j. bitAt bytes (8 * p + j)) byte byte-lt byte-bits 8
+
+pub number-bit : (n : ℕ) (b : ℕ → ℕ) → ((i : ℕ) → b i < 2) → (i j : ℕ) → j < n → bitOf n (numberAt n b i) j ≡ b (i + j)
 unfolding numberAt
 number-bit n b bits i j l = bitOf-number (λ j. b (i + j)) (λ j. bits (i + j)) n j l
 

@@ -21,6 +21,7 @@ pub mod Options
 pub mod Permitted
 pub mod RowSteps
 pub mod RowWords
+pub mod OuterTest
 pub mod OuterPass
 pub mod FrameAnswers
 pub mod RestoredWords

@@ -65,12 +65,12 @@ pub received-length : (b : ℕ → ℕ) (w : ℕ) → length (receivedWord b w) 
 unfolding receivedWord
 received-length b w = tabulate-length (dataIn w + 16) _
 
-received-at : (b : ℕ → ℕ) (w s : ℕ) → s < dataIn w + 16 → at (receivedWord b w) s ≡ receivedSymbol b (781 * w + s)
+pub received-at : (b : ℕ → ℕ) (w s : ℕ) → s < dataIn w + 16 → at (receivedWord b w) s ≡ receivedSymbol b (781 * w + s)
 unfolding receivedWord
 received-at b w s l = tabulate-at (dataIn w + 16) _ s 0 l
 
 module _ (b : ℕ → ℕ) (bits : (i : ℕ) → b i < 2) where
-  received-lt : (r : ℕ) → receivedBit b r < 2
+  pub received-lt : (r : ℕ) → receivedBit b r < 2
   received-lt r = received-cases (λ x. x < 2) b r (λ l. bits r) (λ g l. lit< tt) (λ g. bits (r - 2))
 
   pub symbol-lt : (t : ℕ) → receivedSymbol b t < 1024

@@ -2,7 +2,7 @@
 // read from ten bytes at once, and five bytes are made of four symbols at once.
 use crate::Frame;
 ghost use mathlib.Core.Path.{_≡_};
-ghost use Prim.Native.Nat.{_+_, _*_, _%_, _≤_, _<_};
+ghost use Prim.Native.Nat.{_+_, _*_, _/_, _%_, _≤_, _<_};
 ghost use lib.ListN.{length};
 ghost use Rattle.words.specs.Places.{at, bitOf, bitAt};
 ghost use Rattle.frames.specs.Frames.{symbolAt};
@@ -157,6 +157,37 @@ pub fn write_from_bit(bytes: &[u8], i: usize, n: usize, row: &mut [u16], t: usiz
         row,
         t + first,
     );
+}
+
+// The 64 bits of eight bytes, from byte k on.
+fn eight_bytes(bytes: &[u8], k: usize) -> u64
+    requires { ⌜ k + 8 ≤ length (now bytes) ⌝ }
+    ensures { λ r. ⌜ r ≡ numberAt 64 (bitAt (now (bytes .entry))) (8 * k) ⌝ }
+{
+    ((bytes[k] as u64) << 56)
+        | ((bytes[k + 1] as u64) << 48)
+        | ((bytes[k + 2] as u64) << 40)
+        | ((bytes[k + 3] as u64) << 32)
+        | ((bytes[k + 4] as u64) << 24)
+        | ((bytes[k + 5] as u64) << 16)
+        | ((bytes[k + 6] as u64) << 8)
+        | (bytes[k + 7] as u64)
+}
+
+// A number has place for so many symbols, and so many bits more.
+const SIX: usize = 6;
+
+const SPARE_BITS: usize = 4;
+
+// The number that n symbols are, those of the bytes from bit i on. Six of them lie in nine bytes, since i is even.
+pub fn symbols(bytes: &[u8], i: usize, n: usize) -> u64
+    requires { ⌜ (i % 2 ≡ 0) × (i / 8 + 9 ≤ length (now bytes)) × (n ≤ 6) ⌝ }
+    ensures { λ r. ⌜ r ≡ numberAt (10 * n) (bitAt (now (bytes .entry))) i ⌝ }
+{
+    let k = i / 8;
+    let eight = eight_bytes(bytes, k) << (i % 8);
+    let ninth = (bytes[k + 8] as u64) >> (8 - i % 8);
+    ((eight | ninth) >> SPARE_BITS) >> (Frame::SYMBOL_BITS * (SIX - n))
 }
 
 // A group: four symbols are five bytes.

@@ -28,6 +28,7 @@ mod bits;
 pub mod c_entries;
 mod comparison;
 mod inner_words;
+mod outer_test;
 mod outer_words;
 mod parity;
 mod parity_rows;

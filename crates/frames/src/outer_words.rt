@@ -18,12 +18,12 @@ ghost use Rattle.frames.specs.Received.{receivedRow};
 ghost use Rattle.frames.specs.Symbols.{Placed, InRow, Sent, rowWord, rowCodes, symbolByte, dataPlace, payloadByte, payloadPart, payloadInRow, startOf, endOf};
 ghost use Rattle.frames.specs.Passes.{provided, WordRestored, rowWords, rowRestored};
 
-const LAST: usize = Frame::WORDS - 1;
+pub const LAST: usize = Frame::WORDS - 1;
 
 const WORD_BITS: usize = Frame::SYMBOL_BITS * Frame::DATA_SYMBOLS;
 
 // The symbol of the row that ends with the padding bits, and the mask that clears them.
-const PADDED: usize = LAST * Frame::WORD_SYMBOLS + Frame::LAST_DATA_SYMBOLS - 1;
+pub const PADDED: usize = LAST * Frame::WORD_SYMBOLS + Frame::LAST_DATA_SYMBOLS - 1;
 
 const UNPADDED: u16 = 1020;
 
@@ -43,7 +43,7 @@ pub fn blank() -> [u16; Frame::ROW]
     [0; Frame::ROW]
 }
 
-fn data_in(w: usize) -> usize
+pub fn data_in(w: usize) -> usize
     ensures { λ r. ⌜ (r ≡ dataIn w) × (r ≤ 765) ⌝ }
 {
     if w < LAST {

@@ -15,16 +15,16 @@ ghost use Rattle.words.specs.Division.{outerRemainder};
 ghost use Rattle.words.specs.SixSymbols.{joinedFrom, symbolOf, six, Packs, numberAt, unpacked, sixParity, parityEntry, parities, unitParities, Stored};
 
 // So many symbols are taken at a step.
-const SYMBOLS: usize = 6;
+pub const SYMBOLS: usize = 6;
 
 const SYMBOL_BITS: usize = 10;
 
 const SYMBOL_MASK: u64 = 1023;
 
 // The last number of a register has so many symbols, and so many zero bits after them.
-const LAST_SYMBOLS: usize = Outer::PARITY - 2 * SYMBOLS;
+pub const LAST_SYMBOLS: usize = Outer::PARITY - 2 * SYMBOLS;
 
-const LAST_ZEROS: usize = SYMBOL_BITS * (SYMBOLS - LAST_SYMBOLS);
+pub const LAST_ZEROS: usize = SYMBOL_BITS * (SYMBOLS - LAST_SYMBOLS);
 
 // Six symbols have so many digits of six bits, and a digit has so many values: a row of the table for each digit.
 const DIGITS: usize = 10;
@@ -314,10 +314,10 @@ fn join(word: &[u16], i: usize, n: usize) -> u64
 }
 
 // The division register: its cells 0 to 5, 6 to 11, and 12 to 15 with two zeros after them.
-struct Packed {
-    high: u64,
-    middle: u64,
-    low: u64,
+pub struct Packed {
+    pub high: u64,
+    pub middle: u64,
+    pub low: u64,
 }
 
 impl Packed {
@@ -344,7 +344,7 @@ impl Packed {
     }
 
     // The register after six symbols more.
-    fn next(self, table: &[u64], x: u64) -> Self
+    pub fn next(self, table: &[u64], x: u64) -> Self
         requires { ⌜ (now table ≡ parities) × (self .high < 2 ^ 60) × (x < 2 ^ 60) ⌝ }
         ensures { λ r. ⌜ (r .high ≡ xor (self .middle) (six (sixParity (xor (self .high) x)) 0)) × (r .middle ≡ xor (self .low) (six (sixParity (xor (self .high) x)) 6)) × (r .low ≡ six (sixParity (xor (self .high) x)) 12) ⌝ }
     {
@@ -366,7 +366,7 @@ fn digit(x: u64, d: usize) -> usize
 }
 
 // The parity of six symbols, as they stand in x.
-fn six_parity(table: &[u64], x: u64) -> Packed
+pub fn six_parity(table: &[u64], x: u64) -> Packed
     requires { ⌜ (now table ≡ parities) × (x < 2 ^ 60) ⌝ }
     ensures { λ r. ⌜ Packs (r .high) (r .middle) (r .low) (sixParity x) ⌝ }
 {

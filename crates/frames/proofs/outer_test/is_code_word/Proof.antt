@@ -1,0 +1,38 @@
+-- `frames::outer_test::is_code_word` meets its contract. Assumes nothing.
+use borrow.Author.Needs.{needs}
+use Rattle.frames.proofs.OuterTest.{division-tested}
+use Rattle.frames.proofs.outer_test.is_code_word.Statement.{statement}
+use Rattle.frames.proofs.outer_test.is_code_word.Tie as tie
+
+divide-requires : tie.Need-divide-requires
+divide-requires c κs = search needs
+
+parity-symbols-requires : tie.Need-parity-symbols-requires
+parity-symbols-requires c κs = search needs
+
+parity-symbols-requires-2 : tie.Need-parity-symbols-requires-2
+parity-symbols-requires-2 c κs = search needs
+
+mul-parity-symbols : tie.Need-mul-parity-symbols
+mul-parity-symbols c = search needs
+
+parity-symbols-requires-3 : tie.Need-parity-symbols-requires-3
+parity-symbols-requires-3 c κs = search needs
+
+shl-low : tie.Need-shl-low
+shl-low c = search needs
+
+returns : tie.Need-returns
+returns c = search (needs, division-tested)
+
+pub is-code-word-spec : {M : Type 1} → statement M
+is-code-word-spec =
+    tie.close
+    (tie.spec
+    divide-requires
+    parity-symbols-requires
+    parity-symbols-requires-2
+    mul-parity-symbols
+    parity-symbols-requires-3
+    shl-low
+    returns)

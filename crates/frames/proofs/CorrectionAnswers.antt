@@ -18,10 +18,10 @@ use Rattle.frames.specs.Frames.{symbolAt, dataIn, withParity, frameOfWor
 use Rattle.frames.specs.Correction.{innerPass, receivedBit, receivedSymbol, receivedWord, isPermitted, outerRestored, everyOf, outerPass, restoredFrame, reportOf, total}
 use Rattle.frames.specs.Answers.{Corrected, noCounts, refused, reported, frameCorrected, withoutReport}
 use Rattle.frames.specs.Received.{receivedRow, outerCodes, innerCodes}
-use Rattle.frames.specs.Symbols.{InRow, Sent, rowWord, rowCodes}
+use Rattle.frames.specs.Symbols.{InRow, Sent, rowWord}
 use Rattle.frames.specs.Passes.{InnerPassed, provided, written, rowWords, rowRestored}
 use Rattle.frames.proofs.ReceivedWords.{received-cases, received-first, received-padding, received-last, row-room}
-use Rattle.frames.proofs.RowWords.{received-word, received-codes}
+use Rattle.frames.proofs.RowWords.{received-word}
 use Rattle.frames.proofs.FrameAnswers.{frame-written, is-block}
 use Rattle.frames.proofs.RestoredWords.{frame-kept}
 
@@ -63,13 +63,11 @@ row-words row long =
     }
 
 -- a block that is a frame already
-pub pass-kept : (passed row out o : List ℕ) (s t : Bool) → length passed ≡ 16320 → ((i : ℕ) → Fits w8 (getD passed i 0)) →
-    (s ≡ true → innerCodes (bitAt passed) ≡ true) → s ≡ true → row ≡ receivedRow (bitAt passed) → t ≡ rowCodes row → t ≡ true → out ≡ passed →
+pub pass-kept : (passed out o : List ℕ) (s t : Bool) → length passed ≡ 16320 → ((i : ℕ) → Fits w8 (getD passed i 0)) →
+    (s ≡ true → innerCodes (bitAt passed) ≡ true) → s ≡ true → t ≡ outerCodes (bitAt passed) → t ≡ true → out ≡ passed →
     _≡_ {A = Bool × List ℕ} (true, out) (written o (Option·map frameOfWords (outerPass (bitAt passed))))
 unfolding written
-pass-kept passed row out o s t long bytes inner hs er et h e =
-    let outer : outerCodes (bitAt passed) ≡ true = sym (received-codes (bitAt passed)) ∙ ap rowCodes (sym er) ∙ sym et ∙ h in
-    rw (frame-kept passed (is-block passed long bytes) outer (inner hs), e)
+pass-kept passed out o s t long bytes inner hs et h e = rw (frame-kept passed (is-block passed long bytes) (sym et ∙ h) (inner hs), e)
 
 module _ (passed row next o : List ℕ) (t : Bool) (er : row ≡ receivedRow (bitAt passed)) (restored : provided t (rowWords next) ≡ rowRestored row) where
   passed-row : outerPass (bitAt passed) ≡ provided t (rowWords next)

@@ -15,10 +15,10 @@ use Rattle.words.proofs.Places.Tests.{below-all}
 use Rattle.frames.specs.Frames.{isBlock, outerWords, sentBit, withParity, frameOfWords, frameOf}
 use Rattle.frames.specs.Answers.{isFrame, frameEncoded, frameChecked, payloadExtracted}
 use Rattle.frames.specs.Received.{receivedRow, outerCodes, innerCodes}
-use Rattle.frames.specs.Symbols.{InRow, Sent, rowCodes, payloadInRow}
+use Rattle.frames.specs.Symbols.{InRow, Sent, payloadInRow}
 use Rattle.frames.proofs.FrameBits.{bits-same, data-same, parity-before, parity-after, parity-cases}
 use Rattle.frames.proofs.ReceivedWords.{is-frame}
-use Rattle.frames.proofs.RowWords.{received-codes, received-below, received-long, received-payload, row-sent}
+use Rattle.frames.proofs.RowWords.{received-below, received-payload, row-sent}
 
 -- ---- encoding
 
@@ -52,22 +52,16 @@ module _ (p o : List ℕ) where
 -- ---- blocks
 
 -- the row of a block
-pub row-long : (b row : List ℕ) → row ≡ receivedRow (bitAt b) → length row ≡ 12496
-row-long b row e = rw e (received-long (bitAt b))
-
 pub row-below : (b row : List ℕ) → row ≡ receivedRow (bitAt b) → allBelow 1024 row ≡ true
 row-below b row e = rw e (received-below b)
 
--- the outer words of the row, then the inner words of the block
-module _ (b row : List ℕ) (r : row ≡ receivedRow (bitAt b)) (outer : Bool) (test : outer ≡ rowCodes row) where
-  outer-is : outerCodes (bitAt b) ≡ outer
-  outer-is = sym (received-codes (bitAt b)) ∙ ap rowCodes (sym r) ∙ sym test
-
+-- the outer words, then the inner words
+module _ (b : List ℕ) (outer : Bool) (test : outer ≡ outerCodes (bitAt b)) where
   pub words-tested : (inner : Bool) → outer ≡ true → inner ≡ innerCodes (bitAt b) → inner ≡ (outerCodes (bitAt b) && innerCodes (bitAt b))
-  words-tested inner t i = rw (outer-is, t) i
+  words-tested inner t i = rw (← test, t) i
 
   pub words-refused : outer ≡ false → false ≡ (outerCodes (bitAt b) && innerCodes (bitAt b))
-  words-refused t = rw (outer-is, t)
+  words-refused t = rw (← test, t)
 
 pub is-block : (b : List ℕ) → length b ≡ 16320 → ((i : ℕ) → Fits w8 (getD b i 0)) → isBlock b ≡ true
 unfolding isBlock

@@ -1,27 +1,25 @@
--- The outer words in the row: stored one after the other, tested one after the other, and sent. Assumes nothing.
-use mathlib.Core.Path.{_≡_, refl, sym, ap, _∙_}
-use mathlib.Core.Bool.{Bool, true, false, not}
+-- The outer words in the row: stored one after the other, tested, and sent. Assumes nothing.
+use mathlib.Core.Path.{_≡_, sym, ap, _∙_}
+use mathlib.Core.Bool.{Bool, true}
 use mathlib.Core.List.{List, []}
 use Prim.Native.Nat.{ℕ, _+_, _-_, _*_, _/_, _%_, _≤_, _<_}
 use native.Mathlib.Decide.{ℕ-discrete}
 use native.Mathlib.Nat.{not-suc-le-zero}
-use native.Mathlib.Numerals.{add-one}
 use native.Mathlib.Omega.{arith}
-use borrow.Author.Tests.{not-true, not-false}
 use lib.Dec.{lit<}
 use lib.ListN.{length, take, drop, length-drop}
 use lib.Seq.{getD-take, getD-drop, length-take-le}
 use Rattle.fields.specs.Lists.{tabulate}
 use Rattle.fields.proofs.Lists.{tabulate-at, tabulate-is, tabulate-length, tabulate-lt, tabulate-same}
-use Rattle.words.specs.Places.{at, every, allBelow, bitOf, bitAt, bytesOf}
+use Rattle.words.specs.Places.{at, allBelow, bitOf, bitAt, bytesOf}
 use Rattle.words.specs.OuterCode.{isOuter, outerParity}
-use Rattle.words.proofs.Places.Tests.{every-false, every-same, below-at, below-all}
+use Rattle.words.proofs.Places.Tests.{below-at, below-all}
 use Rattle.words.proofs.Places.Bytes.{bitAt-lt}
 use Rattle.words.proofs.Codes.Proved.{codes}
 use Rattle.frames.specs.Frames.{dataIn, outerData, outerWord, outerWords, rowBit, rowPlace, sentBit, payloadPlace, payloadOf}
 use Rattle.frames.specs.Correction.{receivedSymbol, receivedWord}
-use Rattle.frames.specs.Received.{receivedRow, outerCodes}
-use Rattle.frames.specs.Symbols.{Placed, InRow, rowWord, rowCodes, symbolBit, symbolByte, dataPlace, dataSymbol, payloadByte, payloadInRow}
+use Rattle.frames.specs.Received.{receivedRow}
+use Rattle.frames.specs.Symbols.{Placed, InRow, rowWord, symbolBit, symbolByte, dataPlace, dataSymbol, payloadByte, payloadInRow}
 use Rattle.frames.proofs.Placing.{placed-append}
 use Rattle.frames.proofs.FrameBits.{bits-same, dataIn-le, dataIn-is, outer-data-length, outer-word-length, outer-data-below, place-near}
 use Rattle.frames.proofs.ReceivedWords.{received-first, row-room, symbol-lt, symbol-bit}
@@ -102,14 +100,6 @@ unfolding rowWord
 row-word-part row w n long h e =
     part-places (781 * w) n row (omega (arith, dataIn-le w)) ∙ ap (λ (m : ℕ). tabulate m (λ s. at row (781 * w + s))) e
 
--- the first w words of the row are code words
-unfoldable pub codesUpTo : List ℕ → ℕ → Bool
-codesUpTo row w = every w (λ v. isOuter (rowWord row v))
-
-pub codes-none : (row : List ℕ) → codesUpTo row 0 ≡ true
-unfolding codesUpTo every
-codes-none row = refl
-
 module _ (row : List ℕ) (long : length row ≡ 12496) (w n : ℕ) (h : w < 16) (e : n ≡ dataIn w) where
   abbrev part : List ℕ
   part = take (781 * w + n + 16 - 781 * w) (drop (781 * w) row)
@@ -133,35 +123,14 @@ module _ (row : List ℕ) (long : length row ≡ 12496) (w n : ℕ) (h : w < 16)
     pub word-tested : t ≡ isOuter (rowWord row w)
     word-tested = test ∙ ap isOuter part-is
 
-    module _ (before : codesUpTo row w ≡ true) where
-      pub codes-not : not t ≡ true → false ≡ rowCodes row
-      unfolding rowCodes
-      codes-not f = sym (every-false 16 (λ v. isOuter (rowWord row v)) w h (sym word-tested ∙ not-true t f))
-
-      pub codes-next : not t ≡ false → codesUpTo row (w + 1) ≡ true
-      unfolding codesUpTo every
-      codes-next f = rw (add-one, before) (sym word-tested ∙ not-false t f)
-
-pub codes-all : (row : List ℕ) (w : ℕ) → codesUpTo row w ≡ true → w ≤ 16 → 16 ≤ w → true ≡ rowCodes row
-unfolding codesUpTo rowCodes
-codes-all row w t l g = let e : w ≡ 16 = omega arith in sym (rw e at t)
-
 -- the words of a received row are the block's
 pub received-word : (b : ℕ → ℕ) (w : ℕ) → w < 16 → rowWord (receivedRow b) w ≡ receivedWord b w
 unfolding rowWord receivedRow receivedWord
 received-word b w h = tabulate-same (dataIn w + 16) _ _ (λ s l. tabulate-at 12496 (receivedSymbol b) (781 * w + s) 0 (omega (arith, row-room w s h l)))
 
-pub received-codes : (b : ℕ → ℕ) → rowCodes (receivedRow b) ≡ outerCodes b
-unfolding rowCodes outerCodes
-received-codes b = every-same 16 _ _ (λ w h. ap isOuter (received-word b w h))
-
 pub received-below : (bytes : List ℕ) → allBelow 1024 (receivedRow (bitAt bytes)) ≡ true
 unfolding receivedRow
 received-below bytes = below-all 1024 _ (λ i l. tabulate-lt 1024 12496 (receivedSymbol (bitAt bytes)) (lit< tt) (symbol-lt (bitAt bytes) (bitAt-lt bytes)) i)
-
-pub received-long : (b : ℕ → ℕ) → length (receivedRow b) ≡ 12496
-unfolding receivedRow
-received-long b = tabulate-length 12496 (receivedSymbol b)
 
 -- ---- bits of the row
 

@@ -1,12 +1,10 @@
 -- What the functions on bits and on the row of outer words give.
 use mathlib.Core.Path.{_≡_}
-use mathlib.Core.Bool.{Bool}
 use mathlib.Core.List.{List, []}
 use Prim.Native.Nat.{ℕ, _+_, _*_, _/_, _%_, _≤_, _<_}
 use lib.ListN.{length, getD}
 use Rattle.fields.specs.Lists.{tabulate}
-use Rattle.words.specs.Places.{at, every, bitOf, numberOf, bitAt}
-use Rattle.words.specs.OuterCode.{isOuter}
+use Rattle.words.specs.Places.{at, bitOf, numberOf, bitAt}
 use Rattle.frames.specs.Frames.{dataIn, rowPlace}
 
 -- the byte that eight of the twenty bits of two symbols make, from bit i on
@@ -32,12 +30,9 @@ pub record InRow (words : List (List ℕ)) (row : List ℕ) : Type 0 where
   pub long : length row ≡ 12496
   pub place : (w s : ℕ) → w < 16 → s < dataIn w + 16 → at row (781 * w + s) ≡ at (getD words w []) s
 
--- outer word w of a row; each is a code word
+-- outer word w of a row
 unfoldable pub rowWord : List ℕ → ℕ → List ℕ
 rowWord row w = tabulate (dataIn w + 16) (λ s. at row (781 * w + s))
-
-unfoldable pub rowCodes : List ℕ → Bool
-rowCodes row = every 16 (λ w. isOuter (rowWord row w))
 
 -- bit i of the symbols f 0, f 1, ..; and the byte that eight bits make, from bit i on
 unfoldable pub symbolBit : (ℕ → ℕ) → ℕ → ℕ

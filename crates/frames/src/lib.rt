@@ -2,8 +2,8 @@
 //
 //     encode   the payload's bits, ten to a symbol, make sixteen outer words with their parity symbols, which stand in a row (module outer_words); the row's
 //              bits, but for the two padding bits, are the frame's first bytes; the parity bits of the 64 inner words follow (module inner_words)
-//     check    the block's bytes make the row again; a frame is a block whose outer and inner words are all code words
-//     extract  after the same test, the data symbols of the row are the payload
+//     check    a frame is a block whose outer words (module outer_test) and inner words are all code words
+//     extract  after the same test, the block's bytes make the row again, and its data symbols are the payload
 //     correct  inner pass: the inner words of a copy of the block that are no code words become the code words within eight places, those that have none
 //              stay; outer pass: the copy's bytes make the row, and its outer words become the code words within eight symbols; if each has one, the row
 //              is sent and parity bits are made as in encoding, and the report compares block and frame (module comparison); a copy that is a frame after
@@ -20,7 +20,7 @@ ghost use lib.ListN.{length};
 ghost use Rattle.words.specs.Places.{bitAt};
 ghost use Rattle.frames.specs.Frames.{frameOfWords};
 ghost use Rattle.frames.specs.Correction.{outerPass};
-ghost use Rattle.frames.specs.Received.{receivedRow, outerCodes, innerCodes};
+ghost use Rattle.frames.specs.Received.{outerCodes, innerCodes};
 ghost use Rattle.frames.specs.Passes.{written};
 ghost use Rattle.frames.specs.Answers.{frameEncoded, frameChecked, payloadExtracted, noCounts, frameCorrected};
 
@@ -90,12 +90,12 @@ pub fn encode_frame(payload: &[u8], out: &mut [u8]) -> u8
     0
 }
 
-// The outer words of the block, which stand in the row, and its inner words are all code words.
-fn is_frame(block: &[u8], row: &[u16]) -> bool
-    requires { ⌜ (length (now block) ≡ 16320) × (now row ≡ receivedRow (bitAt (now block))) ⌝ }
+// The outer words of the block and its inner words are all code words.
+fn is_frame(block: &[u8]) -> bool
+    requires { ⌜ length (now block) ≡ 16320 ⌝ }
     ensures { λ r. ⌜ r ≡ (outerCodes (bitAt (now (block .entry))) && innerCodes (bitAt (now (block .entry)))) ⌝ }
 {
-    if outer_words::are_code_words(row) {
+    if outer_test::are_code_words(block) {
         inner_words::are_code_words(block)
     } else {
         false
@@ -109,9 +109,7 @@ pub fn check_frame(block: &[u8]) -> u8
     if block.len() != Frame::BYTES {
         return 2;
     }
-    let mut row = outer_words::blank();
-    outer_words::receive(block, &mut row);
-    if is_frame(block, &row) { 0 } else { 4 }
+    if is_frame(block) { 0 } else { 4 }
 }
 
 // Writes the payload of the frame and returns 0; 2, 3 or 4.
@@ -124,11 +122,11 @@ pub fn extract_payload(block: &[u8], out: &mut [u8]) -> u8
     if out.len() != Frame::PAYLOAD_BYTES {
         return 3;
     }
-    let mut row = outer_words::blank();
-    outer_words::receive(block, &mut row);
-    if !is_frame(block, &row) {
+    if !is_frame(block) {
         return 4;
     }
+    let mut row = outer_words::blank();
+    outer_words::receive(block, &mut row);
     outer_words::extract(&row, out);
     0
 }
@@ -158,14 +156,14 @@ fn outer_pass(passed: &[u8], inner: bool, out: &mut [u8]) -> bool
     requires { ⌜ (inner ≡ true → innerCodes (bitAt (now passed)) ≡ true) ⌝ }
     ensures { λ r. ⌜ (r, now (out .exit)) ≡ written (now (out .entry)) (Option·map frameOfWords (outerPass (bitAt (now (passed .entry))))) ⌝ }
 {
-    let mut row = outer_words::blank();
-    outer_words::receive(passed, &mut row);
     if inner {
-        if outer_words::are_code_words(&row) {
+        if outer_test::are_code_words(passed) {
             bch::copy(passed, out);
             return true;
         }
     }
+    let mut row = outer_words::blank();
+    outer_words::receive(passed, &mut row);
     if !outer_words::correct(&mut row) {
         return false;
     }

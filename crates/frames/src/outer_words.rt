@@ -15,7 +15,7 @@ ghost use Rattle.words.specs.SixSymbols.{parities};
 ghost use Rattle.frames.specs.Frames.{dataIn, outerData, outerWord, outerWords, rowPlace};
 ghost use Rattle.frames.specs.Correction.{receivedSymbol, isPadded};
 ghost use Rattle.frames.specs.Received.{receivedRow};
-ghost use Rattle.frames.specs.Symbols.{Placed, InRow, Sent, rowWord, rowCodes, symbolByte, dataPlace, payloadByte, payloadPart, payloadInRow, startOf, endOf};
+ghost use Rattle.frames.specs.Symbols.{Placed, InRow, Sent, rowWord, symbolByte, dataPlace, payloadByte, payloadPart, payloadInRow, startOf, endOf};
 ghost use Rattle.frames.specs.Passes.{provided, WordRestored, rowWords, rowRestored};
 
 pub const LAST: usize = Frame::WORDS - 1;
@@ -162,24 +162,6 @@ pub fn receive(block: &[u8], row: &mut [u16])
         row[t] = last_symbol(block, t);
         t += 1;
     }
-}
-
-// Each outer word in the row is a code word.
-pub fn are_code_words(row: &[u16]) -> bool
-    requires { ⌜ (length (now row) ≡ 12496) × (allBelow 1024 (now row) ≡ true) ⌝ }
-    ensures { λ r. ⌜ r ≡ rowCodes (now (row .entry)) ⌝ }
-{
-    let table = packed::table();
-    let mut v: usize = 0;
-    while v < Frame::WORDS {
-        let from = Frame::WORD_SYMBOLS * v;
-        let end = from + data_in(v) + words::Outer::PARITY;
-        if !packed::is_code_word(&table, &row[from..end]) {
-            return false;
-        }
-        v += 1;
-    }
-    true
 }
 
 // The padding bits of a word that is to be outer word w are zeros; only the last outer word has them.

@@ -10,6 +10,12 @@ returns c = search (needs, extract-length)
 returns-2 : tie.Need-returns-2
 returns-2 c = search (needs, extract-space)
 
+is-frame-requires : tie.Need-is-frame-requires
+is-frame-requires c κs = search needs
+
+returns-3 : tie.Need-returns-3
+returns-3 c = search (needs, extract-no-frame, c .before .before .before .before .before .shared-slice-known .given)
+
 blank-requires : tie.Need-blank-requires
 blank-requires c κs = search needs
 
@@ -18,15 +24,6 @@ slice-aggregate-receive c = search needs
 
 receive-requires : tie.Need-receive-requires
 receive-requires c κs = search needs
-
-slice-aggregate-is-frame : tie.Need-slice-aggregate-is-frame
-slice-aggregate-is-frame c = search needs
-
-is-frame-requires : tie.Need-is-frame-requires
-is-frame-requires c κs = search needs
-
-returns-3 : tie.Need-returns-3
-returns-3 c = search (needs, extract-no-frame, c .before .before .before .before .before .before .before .before .before .before .shared-slice-known .given)
 
 slice-aggregate-extract : tie.Need-slice-aggregate-extract
 slice-aggregate-extract c = search needs
@@ -38,7 +35,7 @@ same-length : tie.Need-same-length
 same-length c = search needs
 
 returns-4 : tie.Need-returns-4
-returns-4 c = search (needs, extract-written, c .before .before .before .before .before .before .before .before .before .before .before .before .before .before .before .shared-slice-known .given)
+returns-4 c = search (needs, extract-written, c .before .before .before .before .before .before .before .before .before .before .before .before .before .before .shared-slice-known .given)
 
 pub extract-payload-spec : {M : Type 1} → statement M
 extract-payload-spec =
@@ -46,12 +43,11 @@ extract-payload-spec =
     (tie.spec
     returns
     returns-2
+    is-frame-requires
+    returns-3
     blank-requires
     slice-aggregate-receive
     receive-requires
-    slice-aggregate-is-frame
-    is-frame-requires
-    returns-3
     slice-aggregate-extract
     extract-requires
     same-length

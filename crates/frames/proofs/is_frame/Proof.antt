@@ -1,11 +1,11 @@
 -- `frames::is_frame` meets its contract. Assumes nothing.
 use borrow.Author.Needs.{needs}
-use Rattle.frames.proofs.FrameAnswers.{row-long, row-below, words-tested, words-refused}
+use Rattle.frames.proofs.FrameAnswers.{words-tested, words-refused}
 use Rattle.frames.proofs.is_frame.Statement.{statement}
 use Rattle.frames.proofs.is_frame.Tie as tie
 
 are-code-words-requires : tie.Need-are-code-words-requires
-are-code-words-requires c κs = search (needs, row-long, row-below)
+are-code-words-requires c κs = search needs
 
 are-code-words-requires-2 : tie.Need-are-code-words-requires-2
 are-code-words-requires-2 c κs = search needs

@@ -5,20 +5,8 @@ use Rattle.frames.proofs.FrameAnswers.{row-below}
 use Rattle.frames.proofs.outer_pass.Statement.{statement}
 use Rattle.frames.proofs.outer_pass.Tie as tie
 
-blank-requires : tie.Need-blank-requires
-blank-requires c κs = search needs
-
-slice-aggregate-receive : tie.Need-slice-aggregate-receive
-slice-aggregate-receive c = search needs
-
-receive-requires : tie.Need-receive-requires
-receive-requires c κs = search needs
-
-slice-aggregate-are-code-words : tie.Need-slice-aggregate-are-code-words
-slice-aggregate-are-code-words c = search needs
-
 are-code-words-requires : tie.Need-are-code-words-requires
-are-code-words-requires c κs = search (needs, row-below)
+are-code-words-requires c κs = search needs
 
 copy-requires : tie.Need-copy-requires
 copy-requires c κs = search needs
@@ -27,7 +15,16 @@ same-length : tie.Need-same-length
 same-length c = search needs
 
 returns : tie.Need-returns
-returns c = search (needs, pass-kept, c .before .before .before .before .before .before .before .before .before .before .before .before .before .shared-slice-known .given)
+returns c = search (needs, pass-kept, c .before .before .before .before .before .before .before .before .shared-slice-known .given)
+
+blank-requires : tie.Need-blank-requires
+blank-requires c κs = search needs
+
+slice-aggregate-receive : tie.Need-slice-aggregate-receive
+slice-aggregate-receive c = search needs
+
+receive-requires : tie.Need-receive-requires
+receive-requires c κs = search needs
 
 slice-aggregate-correct : tie.Need-slice-aggregate-correct
 slice-aggregate-correct c = search needs
@@ -57,14 +54,13 @@ pub outer-pass-spec : {M : Type 1} → statement M
 outer-pass-spec =
     tie.close
     (tie.spec
-    blank-requires
-    slice-aggregate-receive
-    receive-requires
-    slice-aggregate-are-code-words
     are-code-words-requires
     copy-requires
     same-length
     returns
+    blank-requires
+    slice-aggregate-receive
+    receive-requires
     slice-aggregate-correct
     correct-requires
     returns-2

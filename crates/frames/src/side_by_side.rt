@@ -422,7 +422,7 @@ fn coordinates(x: Lanes) -> Lanes {
 // A sequence repeats after this many numbers.
 const PERIOD: usize = 2047;
 
-// The numbers of a sequence that are kept: a block of eleven places that begins before the period's end ends before these do.
+// The numbers of a sequence that are kept: where a block of eleven places begins in the period, its last term, of degree 7 at most, ends 80 numbers further.
 const SEQUENCE: usize = PERIOD + 80;
 
 // Writes eleven numbers, from number m on.
@@ -457,7 +457,7 @@ fn sequence(locator: &[u64; BANK], i: usize, s: &mut [u64; SEQUENCE])
     }
 }
 
-// The sum of five terms.
+// The row of a place, from its terms.
 fn row(x0: Lanes, x1: Lanes, x2: Lanes, x4: Lanes, x8: Lanes) -> Lanes {
     coordinates(sum(x0, sum(sum(x1, x2), sum(x4, x8))))
 }
@@ -526,7 +526,7 @@ fn nonzero_2(rows: &[u64; BANK], q: usize) -> u64
     nonzero(get(rows, q))
 }
 
-// The same of degree 4 at most, with the sequence of degree 3, for a block that begins at place p.
+// The same of degree 4 at most, with the sequence of the term of degree 3: in it a block that begins at place p begins at number 3 p, less whole periods.
 fn nonzero_4(rows: &[u64; BANK], s3: &[u64; SEQUENCE], p: usize, q: usize) -> u64
     requires { ⌜ (p < 2040) × (q < 11) ⌝ }
 {

@@ -1,6 +1,6 @@
-// Division of outer words by the generator six symbols at a step, for the entries and for the crates above. The sixteen cells of the register stand in three numbers, ten bits
-// each. A step takes the first six cells away and adds the parity of what they and the six symbols are together; parity respects sums, so that it is the sum
-// of the parities of ten digits of six bits, and these stand in a table that is made once.
+// Division of outer words by the generator six symbols at a step, for the entries and for the crates above. The sixteen cells of the register stand in
+// three numbers, ten bits each. A step takes the first six cells away and adds the parity of what they and the six symbols are together; parity respects
+// sums, so that it is the sum of the parities of ten digits of six bits, and these stand in a table that is made once.
 use crate::Outer;
 use crate::reed_solomon;
 ghost use mathlib.Core.Path.{_≡_};

@@ -1,10 +1,11 @@
 -- The outer words of a block, read from its bytes six symbols at a time and tested. Assumes nothing.
 use mathlib.Core.Path.{_≡_, refl, sym, ap, ap₂, _∙_}
-use mathlib.Core.Bool.{Bool, true, false, not}
+use mathlib.Core.Bool.{_&&_, and-eq-true-iff, Bool, true, false, not}
 use mathlib.Core.List.{List}
 use Prim.Native.Nat.{ℕ, zero, suc, _+_, _-_, _*_, _/_, _%_, _^_, _≤_, _<_}
 use native.Mathlib.Nat.{le-refl, mod-lt}
 use native.Mathlib.Numerals.{add-one}
+use native.Mathlib.Decide.{decLt}
 use native.Mathlib.Omega.{arith}
 use borrow.Author.Tests.{not-true, not-false}
 use lib.Bits.{bitOr, bitXor, or-shifted}
@@ -19,18 +20,18 @@ use Rattle.fields.proofs.Lists.{tabulate-lt}
 use Rattle.fields.proofs.Xor.{xor-shifted}
 use Rattle.words.specs.Places.{at, every, allBelow, bitOf, numberOf, bitAt, horner}
 use Rattle.words.specs.OuterCode.{isOuter, generator, divided, outerParity}
-use Rattle.words.specs.SixSymbols.{joined, joinedFrom, Packs, sixParity}
+use Rattle.words.specs.SixSymbols.{joined, joinedFrom, six, Packs, sixParity}
 use Rattle.words.proofs.Places.Bytes.{bitAt-lt, number-of-bits}
 use Rattle.words.proofs.Places.Numbers.{numberOf-lt, numberOf-same, number-parts}
 use Rattle.words.proofs.Places.Tests.{every-false, below-at, below-all}
 use Rattle.words.proofs.Codes.Packing.{divided-same, joined-same, parity-joined}
 use Rattle.words.proofs.Steps.Loops.{dividedUpTo}
-use Rattle.words.proofs.Steps.Joining.{packs-remainder, outer-zero}
+use Rattle.words.proofs.Steps.Joining.{register-high, packs-next, packs-remainder, outer-zero}
 use Rattle.frames.specs.Frames.{symbolAt, dataIn}
 use Rattle.frames.specs.Correction.{receivedBit, receivedSymbol, receivedWord}
-use Rattle.frames.specs.Received.{outerCodes}
+use Rattle.frames.specs.Received.{dividedTo, outerCodes}
 use Rattle.frames.specs.Symbols.{numberAt}
-use Rattle.frames.proofs.FrameBits.{dataIn-le, dataIn-is}
+use Rattle.frames.proofs.FrameBits.{dataIn-first, dataIn-last, dataIn-le, dataIn-is}
 use Rattle.frames.proofs.Groups.{nine-are, number-bit}
 use Rattle.frames.proofs.ReceivedWords.{received-first, received-padding, received-last, received-length, received-at, received-lt, symbol-lt}
 
@@ -181,32 +182,47 @@ module _ (bytes : List ℕ) (w h m l : ℕ) where
   abbrev d : List ℕ
   d = receivedWord (bitAt bytes) w
 
-  pub division-first : (n x : ℕ) → x ≡ joinedFrom (receivedWord (bitAt bytes) w) 0 (n % 6) → Packs h m l (sixParity x) →
-      Packs h m l (dividedUpTo (receivedWord (bitAt bytes) w) (n % 6))
-  unfolding dividedUpTo joinedFrom
-  division-first n x ex p =
-      let same : joined (λ j. at d (0 + j)) (n % 6) ≡ joined (at d) (n % 6) = joined-same (λ j. at d (0 + j)) (at d) (n % 6) (λ j b. ap (at d) (omega arith)) in
-      let e : sixParity x ≡ divided timesA 16 (at generator) (at d) (n % 6) =
-      ap sixParity (ex ∙ same) ∙ parity-joined (at d) (below-at 1024 d (lit< tt) (word-small bytes w)) (n % 6) (omega arith) in
+  pub division-first : (n x : ℕ) → n < 6 → x ≡ joinedFrom (receivedWord (bitAt bytes) w) 0 n → Packs h m l (sixParity x) → Packs h m l (dividedTo (bitAt bytes) w n)
+  unfolding dividedTo joinedFrom
+  division-first n x few ex p =
+      let same : joined (λ j. at d (0 + j)) n ≡ joined (at d) n = joined-same (λ j. at d (0 + j)) (at d) n (λ j b. ap (at d) (omega arith)) in
+      let e : sixParity x ≡ divided timesA 16 (at generator) (at d) n =
+      ap sixParity (ex ∙ same) ∙ parity-joined (at d) (below-at 1024 d (lit< tt) (word-small bytes w)) n (omega arith) in
       rw e at p
 
-  pub division-end : (n i : ℕ) → n ≡ dataIn w → i ≤ n → n ≤ i → Packs h m l (dividedUpTo (receivedWord (bitAt bytes) w) i) →
-      Packs h m l (outerParity (take (dataIn w) (receivedWord (bitAt bytes) w)))
-  unfolding dividedUpTo outerParity
-  division-end n i en lo hi p =
-      let e : i ≡ dataIn w = omega arith in
+  -- six symbols more
+  module _ (i : ℕ) (so-far : Packs h m l (dividedTo (bitAt bytes) w i)) where
+    named : Packs h m l (dividedUpTo d i)
+    unfolding dividedTo dividedUpTo
+    named = so-far
+
+    pub division-high : h < 2 ^ 60
+    division-high = register-high d h m l i named (word-small bytes w)
+
+    pub division-next : (x a b c : ℕ) → x ≡ joinedFrom (receivedWord (bitAt bytes) w) i 6 → a ≡ xor m (six (sixParity (xor h x)) 0) → b ≡ xor l (six (sixParity (xor h x)) 6) →
+        c ≡ six (sixParity (xor h x)) 12 → Packs a b c (dividedTo (bitAt bytes) w (i + 6))
+    unfolding dividedTo dividedUpTo
+    division-next x a b c ex ea eb ec = packs-next d h m l i named (word-small bytes w) x a b c ex ea eb ec
+
+  pub division-end : (n i : ℕ) → n ≡ dataIn w → i ≤ n → n ≤ i → Packs h m l (dividedTo (bitAt bytes) w i) → Packs h m l (dividedTo (bitAt bytes) w (dataIn w))
+  division-end n i en lo hi p = let e : i ≡ dataIn w = omega arith in rw e at p
+
+  division-all : (i : ℕ) → i ≡ dataIn w → Packs h m l (dividedTo (bitAt bytes) w i) → Packs h m l (outerParity (take (dataIn w) (receivedWord (bitAt bytes) w)))
+  unfolding dividedTo outerParity
+  division-all i e p =
       let long : length (take (dataIn w) d) ≡ dataIn w = length-take-le (dataIn w) d (omega (arith, received-length (bitAt bytes) w)) in
       let same : divided timesA 16 (at generator) (at (take (dataIn w) d)) (length (take (dataIn w) d)) ≡ divided timesA 16 (at generator) (at d) i =
       ap (divided timesA 16 (at generator) (at (take (dataIn w) d))) (long ∙ sym e)
       ∙ divided-same timesA 16 (at generator) (at (take (dataIn w) d)) (at d) i (λ j b. getD-take (dataIn w) d j 0 (omega arith)) in
       rw (← same) at p
 
-  pub division-tested : (x y z : ℕ) → Packs h m l (outerParity (take (dataIn w) (receivedWord (bitAt bytes) w))) →
+  pub division-tested : (x y z : ℕ) → Packs h m l (dividedTo (bitAt bytes) w (dataIn w)) →
       x ≡ joinedFrom (receivedWord (bitAt bytes) w) (dataIn w + 0) 6 → y ≡ joinedFrom (receivedWord (bitAt bytes) w) (dataIn w + 6) 6 →
       z ≡ joinedFrom (receivedWord (bitAt bytes) w) (dataIn w + 12) 4 →
       eqb (bitOr (bitOr (bitXor h x) (bitXor m y)) (bitXor l (z * 2 ^ 20 % 2 ^ 64))) 0 ≡ isOuter (receivedWord (bitAt bytes) w)
   unfolding xor
-  division-tested x y z p ex ey ez =
+  division-tested x y z q ex ey ez =
+      let p = division-all (dataIn w) refl q in
       let long = received-length (bitAt bytes) w in
       let least : 16 ≤ length d = omega (arith, long) in
       let n : length d - 16 - 0 ≡ dataIn w = omega (arith, long) in
@@ -228,14 +244,60 @@ unfolding outerUpTo every
 outer-none b = refl
 
 module _ (b : ℕ → ℕ) (w : ℕ) (before : outerUpTo b w ≡ true) where
-  pub outer-not : (t : Bool) → t ≡ isOuter (receivedWord b w) → w < 16 → not t ≡ true → false ≡ outerCodes b
+  -- two words at a time
+  pub two-not : (t : Bool) → t ≡ (isOuter (receivedWord b w) && isOuter (receivedWord b (w + 1))) → w + 1 < 16 → not t ≡ true → false ≡ outerCodes b
   unfolding outerCodes
-  outer-not t test h f = sym (every-false 16 (λ v. isOuter (receivedWord b v)) w h (sym test ∙ not-true t f))
+  two-not t test h f = go (isOuter (receivedWord b w)) refl (sym test ∙ not-true t f)
+    where
+      go : (s : Bool) → isOuter (receivedWord b w) ≡ s → (s && isOuter (receivedWord b (w + 1))) ≡ false → false ≡ every 16 (λ v. isOuter (receivedWord b v))
+      go true e q = sym (every-false 16 (λ v. isOuter (receivedWord b v)) (w + 1) h q)
+      go false e q = sym (every-false 16 (λ v. isOuter (receivedWord b v)) w (omega arith) e)
 
-  pub outer-next : (t : Bool) → t ≡ isOuter (receivedWord b w) → not t ≡ false → outerUpTo b (w + 1) ≡ true
+  pub two-next : (t : Bool) → t ≡ (isOuter (receivedWord b w) && isOuter (receivedWord b (w + 1))) → not t ≡ false → outerUpTo b (w + 2) ≡ true
   unfolding outerUpTo every
-  outer-next t test f = rw (add-one, before) (sym test ∙ not-false t f)
+  two-next t test f =
+      let both = and-eq-true-iff (isOuter (receivedWord b w)) (isOuter (receivedWord b (w + 1))) .0 (sym test ∙ not-false t f) in
+      let e : w + 2 ≡ suc (w + 1) = omega arith in
+      let d : w + 1 ≡ suc w = omega arith in
+      rw (e, d) (rw (before, both .0) (rw d at (both .1)))
 
-  pub outer-all : w ≤ 16 → 16 ≤ w → true ≡ outerCodes b
-  unfolding outerUpTo outerCodes
-  outer-all l g = let e : w ≡ 16 = omega arith in sym (rw e at before)
+  -- the last two
+  pub last-not : (t : Bool) → t ≡ isOuter (receivedWord b 14) → not t ≡ true → false ≡ outerCodes b
+  unfolding outerCodes
+  last-not t test f = sym (every-false 16 (λ v. isOuter (receivedWord b v)) 14 (lit< tt) (sym test ∙ not-true t f))
+
+  pub last-all : (s t : Bool) → s ≡ isOuter (receivedWord b 14) → not s ≡ false → t ≡ isOuter (receivedWord b 15) → w ≤ 14 → 14 ≤ w → t ≡ outerCodes b
+  unfolding outerUpTo outerCodes every
+  last-all s t es f et l g =
+      let e : w ≡ 14 = omega arith in
+      let first : every 14 (λ v. isOuter (receivedWord b v)) ≡ true = rw e at before in
+      rw (first, ← es, not-false s f) et
+
+-- outer words have more than six data symbols each; those before the last as many as each other
+pub data-more : (w n : ℕ) → w < 16 → n < 6 → 0 + n ≤ dataIn w
+data-more w n h l = go (decLt w 15)
+  where
+    go : Dec (w < 15) → 0 + n ≤ dataIn w
+    go (yes b) = omega (arith, dataIn-first w b)
+    go (no b) = omega (arith, dataIn-last w (omega arith))
+
+module _ (w : ℕ) (h : w + 1 < 15) where
+  pub data-first : (i : ℕ) → i < 765 → (765 - i) % 6 ≡ 0 → i + 6 ≤ dataIn w
+  data-first i l e = omega (arith, dataIn-first w (omega arith))
+
+  pub data-second : (i : ℕ) → i < 765 → (765 - i) % 6 ≡ 0 → i + 6 ≤ dataIn (w + 1)
+  data-second i l e = omega (arith, dataIn-first (w + 1) h)
+
+pub data-packs : (b : ℕ → ℕ) (w x y z : ℕ) → w < 15 → Packs x y z (dividedTo b w 765) → Packs x y z (dividedTo b w (dataIn w))
+data-packs b w x y z h p = let e = dataIn-first w h in rw (← e) at p
+
+pub division-stop : (b : ℕ → ℕ) (w i x y z : ℕ) → i ≤ 765 → 765 ≤ i → Packs x y z (dividedTo b w i) → Packs x y z (dividedTo b w 765)
+division-stop b w i x y z l g p = let e : i ≡ 765 = omega arith in rw e at p
+
+-- the test of two words, one after the other
+module _ (s t : Bool) (x : Bool) (es : x ≡ s) where
+  pub two-first : not x ≡ true → false ≡ (s && t)
+  two-first h = rw (← es, not-true x h)
+
+  pub two-second : not x ≡ false → (y : Bool) → y ≡ t → y ≡ (s && t)
+  two-second h y e = rw (← es, not-false x h) e

@@ -3,8 +3,9 @@ use mathlib.Core.Bool.{Bool}
 use mathlib.Core.List.{List}
 use Prim.Native.Nat.{ℕ}
 use Rattle.fields.specs.Lists.{tabulate}
-use Rattle.words.specs.Places.{every}
-use Rattle.words.specs.OuterCode.{isOuter}
+use Rattle.fields.specs.Elements.{timesA}
+use Rattle.words.specs.Places.{at, every}
+use Rattle.words.specs.OuterCode.{generator, divided, isOuter}
 use Rattle.words.specs.InnerCode.{isInner}
 use Rattle.frames.specs.Frames.{innerWord}
 use Rattle.frames.specs.Correction.{receivedSymbol, receivedWord}
@@ -12,6 +13,10 @@ use Rattle.frames.specs.Correction.{receivedSymbol, receivedWord}
 -- the row
 unfoldable pub receivedRow : (ℕ → ℕ) → List ℕ
 receivedRow b = tabulate 12496 (receivedSymbol b)
+
+-- the division register after the first n symbols of outer word w
+unfoldable pub dividedTo : (ℕ → ℕ) → ℕ → ℕ → List ℕ
+dividedTo b w n = divided timesA 16 (at generator) (at (receivedWord b w)) n
 
 -- each outer word, and each inner word, is a code word
 unfoldable pub outerCodes : (ℕ → ℕ) → Bool

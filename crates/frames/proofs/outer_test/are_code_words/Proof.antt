@@ -1,19 +1,19 @@
 -- `frames::outer_test::are_code_words` meets its contract. Assumes nothing.
-use mathlib.Core.Path.{_≡_}
-use mathlib.Core.Bool.{true}
-use Prim.Native.Nat.{_-_, _≤_}
 use borrow.Author.Needs.{needs}
-use Rattle.words.specs.Places.{bitAt}
+use Rattle.frames.proofs.OuterTest.{outerUpTo, outer-none, two-not, two-next, last-not, last-all}
 use Rattle.words.specs.SixSymbols.{parities}
-use Rattle.frames.proofs.OuterTest.{outerUpTo, outer-none, outer-not, outer-next, outer-all}
+use Rattle.words.specs.Places.{bitAt}
+use Prim.Native.Nat.{_-_, _%_, _≤_}
+use mathlib.Core.Bool.{true}
+use mathlib.Core.Path.{_≡_}
 use Rattle.frames.proofs.outer_test.are_code_words.Statement.{statement}
 use Rattle.frames.proofs.outer_test.are_code_words.Tie as tie
 
 abbrev Inv-loop : tie.InvT-loop
-Inv-loop block table w₀ w = (w ≤ 16) × (table ≡ parities) × (outerUpTo (bitAt block) w ≡ true)
+Inv-loop block table w₀ w = (w ≤ 14) × (w % 2 ≡ 0) × (table ≡ parities) × (outerUpTo (bitAt block) w ≡ true)
 
 abbrev μ-loop : tie.MeasureT-loop
-μ-loop block table w₀ w = 16 - w
+μ-loop block table w₀ w = 14 - w
 
 table-requires : tie.Need-table-requires Inv-loop μ-loop
 table-requires c κs = search needs
@@ -21,14 +21,17 @@ table-requires c κs = search needs
 loop-holds : tie.Need-loop-holds Inv-loop μ-loop
 loop-holds c = search (needs, outer-none)
 
-slice-aggregate-is-code-word : tie.Need-slice-aggregate-is-code-word Inv-loop μ-loop
-slice-aggregate-is-code-word c = search needs
+sub-loop : tie.Need-sub-loop Inv-loop μ-loop
+sub-loop c = search needs
 
-is-code-word-requires : tie.Need-is-code-word-requires Inv-loop μ-loop
-is-code-word-requires c κs = search needs
+slice-aggregate-are-two : tie.Need-slice-aggregate-are-two Inv-loop μ-loop
+slice-aggregate-are-two c = search needs
+
+are-two-requires : tie.Need-are-two-requires Inv-loop μ-loop
+are-two-requires c κs = search needs
 
 returns : tie.Need-returns Inv-loop μ-loop
-returns c = search (needs, outer-not)
+returns c = two-not _ _ (c .before .before .before .before .loop .inv .3) _ (c .before .are-two .ensures) (search needs) (search needs)
 
 add-w : tie.Need-add-w Inv-loop μ-loop
 add-w c = search needs
@@ -37,10 +40,31 @@ loop-less : tie.Need-loop-less Inv-loop μ-loop
 loop-less c = search needs
 
 loop-again : tie.Need-loop-again Inv-loop μ-loop
-loop-again c = search (needs, outer-next)
+loop-again c = search (needs, two-next)
+
+slice-aggregate-is-code-word : tie.Need-slice-aggregate-is-code-word Inv-loop μ-loop
+slice-aggregate-is-code-word c = search needs
+
+sub-is-code-word : tie.Need-sub-is-code-word Inv-loop μ-loop
+sub-is-code-word c = search needs
+
+is-code-word-requires : tie.Need-is-code-word-requires Inv-loop μ-loop
+is-code-word-requires c κs = search needs
 
 returns-2 : tie.Need-returns-2 Inv-loop μ-loop
-returns-2 c = search (needs, outer-all)
+returns-2 c = search (needs, last-not)
+
+slice-aggregate-is-code-word-2 : tie.Need-slice-aggregate-is-code-word-2 Inv-loop μ-loop
+slice-aggregate-is-code-word-2 c = search needs
+
+sub-is-code-word-2 : tie.Need-sub-is-code-word-2 Inv-loop μ-loop
+sub-is-code-word-2 c = search needs
+
+is-code-word-requires-2 : tie.Need-is-code-word-requires-2 Inv-loop μ-loop
+is-code-word-requires-2 c κs = search needs
+
+returns-3 : tie.Need-returns-3 Inv-loop μ-loop
+returns-3 c = search (needs, last-all)
 
 pub are-code-words-spec : {M : Type 1} → statement M
 are-code-words-spec =
@@ -50,10 +74,18 @@ are-code-words-spec =
     μ-loop
     table-requires
     loop-holds
-    slice-aggregate-is-code-word
-    is-code-word-requires
+    sub-loop
+    slice-aggregate-are-two
+    are-two-requires
     returns
     add-w
     loop-less
     loop-again
-    returns-2)
+    slice-aggregate-is-code-word
+    sub-is-code-word
+    is-code-word-requires
+    returns-2
+    slice-aggregate-is-code-word-2
+    sub-is-code-word-2
+    is-code-word-requires-2
+    returns-3)

@@ -1,11 +1,8 @@
--- `frames::outer_test::is_code_word` meets its contract. Assumes nothing.
+-- `frames::outer_test::ends_with` meets its contract. Assumes nothing.
 use borrow.Author.Needs.{needs}
 use Rattle.frames.proofs.OuterTest.{division-tested}
-use Rattle.frames.proofs.outer_test.is_code_word.Statement.{statement}
-use Rattle.frames.proofs.outer_test.is_code_word.Tie as tie
-
-divide-requires : tie.Need-divide-requires
-divide-requires c κs = search needs
+use Rattle.frames.proofs.outer_test.ends_with.Statement.{statement}
+use Rattle.frames.proofs.outer_test.ends_with.Tie as tie
 
 parity-symbols-requires : tie.Need-parity-symbols-requires
 parity-symbols-requires c κs = search needs
@@ -25,11 +22,10 @@ shl-low c = search needs
 returns : tie.Need-returns
 returns c = search (needs, division-tested)
 
-pub is-code-word-spec : {M : Type 1} → statement M
-is-code-word-spec =
+pub ends-with-spec : {M : Type 1} → statement M
+ends-with-spec =
     tie.close
     (tie.spec
-    divide-requires
     parity-symbols-requires
     parity-symbols-requires-2
     mul-parity-symbols

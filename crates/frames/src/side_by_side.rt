@@ -672,6 +672,7 @@ fn search_8(locator: &[u64; BANK], wrong: u64, flips: &mut [u64])
 // Writes the places to be inverted in the wrong inner words: bit k of number p, the highest first, is 1 where word k is to be inverted in place p.
 pub fn propose(residues: &[u64; RESIDUES], wrong: u64, flips: &mut [u64])
     requires { ⌜ length (now flips) ≡ 2040 ⌝ }
+    ensures { λ _. ⌜ length (now (flips .exit)) ≡ 2040 ⌝ }
 {
     let mut bank = [0u64; BANK];
     syndromes(residues, &mut bank);

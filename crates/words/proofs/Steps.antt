@@ -7,6 +7,7 @@ pub mod Limbs
 pub mod LimbProducts
 pub mod FourPlaces
 pub mod Rows
+pub mod Massey
 pub mod Search
 pub mod RootsFound
 pub mod Errors

@@ -10,6 +10,7 @@ use Rattle.fields.specs.Elements.{xor}
 use Rattle.fields.specs.ByTables.{tableProduct, tableInverse, tablePower}
 use Rattle.words.specs.declared.decoder.Errors.{Errors}
 use Rattle.words.specs.declared.decoder.Places.{Places}
+use Rattle.words.specs.declared.decoder.Recurrence.{Recurrence}
 use Rattle.words.specs.declared.decoder.Row.{Row}
 use Rattle.words.specs.declared.decoder.Terms.{Terms}
 use Rattle.words.specs.Places.{at, horner}
@@ -73,6 +74,39 @@ pub record FirstNonzero (u : List ℕ) (j : ℕ) : Type 0 where
   pub most : j ≤ 8
   pub before : (i : ℕ) → i < j → at u i ≡ 0
   pub here : j < 8 → at u j ≡ 0 → ⊥
+
+-- the recurrence of the syndromes, lowest power first. The sum over i below k of c i times t (n - i)
+unfoldable pub convolved : List ℕ → List ℕ → List ℕ → List ℕ → ℕ → ℕ → ℕ
+convolved es ls c t n k = xorTo k (λ i. tableProduct es ls (at c i) (at t (n - i)))
+
+-- c plus f times x^s times the first k coefficients of p
+unfoldable pub plusShifted : List ℕ → List ℕ → List ℕ → ℕ → List ℕ → ℕ → ℕ → List ℕ
+plusShifted es ls c f p s zero = c
+plusShifted es ls c f p s (suc k) =
+    let r = plusShifted es ls c f p s k in
+    set r (s + k) (xor (at r (s + k)) (tableProduct es ls f (at p k)))
+
+-- the recurrence after step n, where that has the discrepancy d, not zero
+unfoldable pub adjusted : List ℕ → List ℕ → ℕ → ℕ → Recurrence → Recurrence
+adjusted es ls n d s =
+    let shift = n + 1 - s .since in
+    let c = plusShifted es ls (s .coefficients) (tableProduct es ls d (tableInverse es ls (s .discrepancy))) (s .previous) shift (9 - shift) in
+    cond (ltb n (2 * s .order)) (record { coefficients = c; previous = s .previous; order = s .order; since = s .since; discrepancy = s .discrepancy })
+    (record { coefficients = c; previous = s .coefficients; order = n + 1 - s .order; since = n + 1; discrepancy = d })
+
+unfoldable pub masseyStep : List ℕ → List ℕ → List ℕ → ℕ → Recurrence → Recurrence
+masseyStep es ls t n s =
+    let d = convolved es ls (s .coefficients) t n (s .order + 1) in
+    cond (eqb d 0) s (adjusted es ls n d s)
+
+-- the recurrence after the first n steps of Berlekamp and Massey's algorithm
+unfoldable pub massey : List ℕ → List ℕ → List ℕ → ℕ → Recurrence
+massey es ls t zero = record { coefficients = 1 ∷ replicate 8 0; previous = 1 ∷ replicate 8 0; order = 0; since = 0; discrepancy = 1 }
+massey es ls t (suc n) = masseyStep es ls t n (massey es ls t n)
+
+-- coefficient k, highest power first, of the polynomial of degree 8 that a recurrence of that order is
+unfoldable pub reversedAt : List ℕ → ℕ → ℕ → ℕ
+reversedAt c order k = cond (ltb (k + order) 8) 0 (at c (k + order - 8))
 
 -- ---- its roots
 

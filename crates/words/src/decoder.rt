@@ -1,6 +1,7 @@
 // Bounded-distance decoding, one text for all codes: the code's field is lent as its two tables, its word is known by sixteen syndromes.
 //
-//     annihilator   a polynomial of degree at most 8 that annihilates the syndromes, by elimination: the locators of up to eight errors are its roots
+//     annihilator   a polynomial of degree at most 8 that annihilates the syndromes: the locators of up to eight errors are its roots. That of the
+//                   shortest recurrence, by Berlekamp and Massey, if it is found to annihilate; else by elimination
 //     roots         the places of the word, never of the omitted front, whose locators are roots: from place to place each term of the polynomial is
 //                   divided by a power of a, which lowers its exponent, and a root that is found is divided out; the last by the table of exponents.
 //                   Or the terms' values at many places are read from rows of powers, which a caller with many words to decode lends
@@ -12,7 +13,7 @@
 // roots are errors.
 use crate::reed_solomon;
 ghost use mathlib.Core.Path.{_≡_};
-ghost use mathlib.Core.Bool.{cond};
+ghost use mathlib.Core.Bool.{true, cond};
 ghost use mathlib.Core.List.{List};
 ghost use Prim.Native.Nat.{ℕ, _+_, _-_, _*_, _%_, _≤_, _<_};
 ghost use lib.Dec.{eqb};
@@ -22,7 +23,7 @@ ghost use Rattle.fields.specs.Elements.{xor};
 ghost use Rattle.fields.specs.ByTables.{tableProduct};
 ghost use Rattle.words.specs.Places.{at, differs};
 ghost use Rattle.words.specs.Decoder.{Tables, locator, Decoded, weightOf};
-ghost use Rattle.words.specs.DecoderSteps.{Annihilates, powerRow, PlusPart, Zeros, cleared, cellsOf, reduced, FirstNonzero, kept, Roots, withTerm, termsTo, lessModulo, Exponents, powersTo, lowered, FirstRoot, quotientOf, filtered, errorValue, lessError, resolved, Located, lessPowers, flipped, flippedTo};
+ghost use Rattle.words.specs.DecoderSteps.{Annihilates, powerRow, PlusPart, Zeros, cleared, cellsOf, reduced, FirstNonzero, convolved, plusShifted, adjusted, masseyStep, massey, reversedAt, kept, Roots, withTerm, termsTo, lessModulo, Exponents, powersTo, lowered, FirstRoot, quotientOf, filtered, errorValue, lessError, resolved, Located, lessPowers, flipped, flippedTo};
 ghost use Rattle.words.specs.RowSearch.{Rows, reciprocals, rowBase, rowStart, rowBases, rowStarts, rowPosition, Inside, fourAt, eightAt, rowsSum, keptTo, RowsFor};
 
 // Errors in up to so many places are found.
@@ -126,7 +127,7 @@ fn coefficients(u: Row) -> [u16; COEFFICIENTS]
 
 // A polynomial that annihilates the syndromes. The rows of 1, x, x^2, .. are reduced one after the other; one with a cell left that is not zero becomes
 // the pivot of that cell, and the first with none is the answer. There are eight cells, so the ninth row has none left.
-fn annihilator(exp: &[u16], log: &[u16], t: [u16; SYNDROMES]) -> [u16; COEFFICIENTS]
+fn eliminated(exp: &[u16], log: &[u16], t: [u16; SYNDROMES]) -> [u16; COEFFICIENTS]
     requires { ⌜ Tables (now exp) (now log) ⌝ }
     ensures { λ r. ⌜ Annihilates (now (exp .entry)) (now (log .entry)) t r ⌝ }
 {
@@ -144,6 +145,168 @@ fn annihilator(exp: &[u16], log: &[u16], t: [u16; SYNDROMES]) -> [u16; COEFFICIE
         d += 1;
     }
     [0; COEFFICIENTS]
+}
+
+// The shortest recurrence of the syndromes up to a step of Berlekamp and Massey's algorithm: the coefficients of its connection polynomial, lowest power
+// first, without those above x^8, and its order. `previous` are the coefficients before the order last changed, which was by the step before step
+// `since` for the discrepancy kept.
+struct Recurrence {
+    coefficients: [u16; COEFFICIENTS],
+    previous: [u16; COEFFICIENTS],
+    order: usize,
+    since: usize,
+    discrepancy: u16,
+}
+
+// The sum of c i times t (n - i), for i below `count`.
+fn convolved(exp: &[u16], log: &[u16], c: &[u16], t: &[u16], n: usize, count: usize) -> u16
+    requires { ⌜ (n < length (now t)) × (count ≤ n + 1) ⌝ }
+    ensures { λ r. ⌜ r ≡ convolved (now (exp .entry)) (now (log .entry)) (now (c .entry)) (now (t .entry)) n count ⌝ }
+{
+    let mut v: u16 = 0;
+    let mut i: usize = 0;
+    while i < count {
+        v = reed_solomon::sum(
+            v,
+            fields::product(exp, log, reed_solomon::symbol(c, i), t[n - i]),
+        );
+        i += 1;
+    }
+    v
+}
+
+// c plus f times x^s times p.
+fn plus_shifted(
+    exp: &[u16],
+    log: &[u16],
+    c: [u16; COEFFICIENTS],
+    f: u16,
+    p: [u16; COEFFICIENTS],
+    s: usize,
+) -> [u16; COEFFICIENTS]
+    requires { ⌜ s ≤ 16 ⌝ }
+    ensures { λ r. ⌜ r ≡ plusShifted (now (exp .entry)) (now (log .entry)) c f p s (9 - s) ⌝ }
+{
+    let mut r = c;
+    let mut k: usize = 0;
+    while s + k < COEFFICIENTS {
+        r[s + k] = reed_solomon::sum(r[s + k], fields::product(exp, log, f, p[k]));
+        k += 1;
+    }
+    r
+}
+
+// The recurrence after step n, where that has the discrepancy d, not zero.
+fn adjusted(exp: &[u16], log: &[u16], s: Recurrence, n: usize, d: u16) -> Recurrence
+    requires { ⌜ (n < 16) × (s .order ≤ n) × (s .since ≤ n) ⌝ }
+    ensures { λ r. ⌜ (r ≡ adjusted (now (exp .entry)) (now (log .entry)) n d s) × (r .order ≤ n + 1) × (r .since ≤ n + 1) ⌝ }
+{
+    let c = s.coefficients;
+    let p = s.previous;
+    let f = fields::product(exp, log, d, fields::inverse(exp, log, s.discrepancy));
+    let r = plus_shifted(exp, log, c, f, p, n + 1 - s.since);
+    if n < 2 * s.order {
+        return Recurrence {
+            coefficients: r,
+            previous: p,
+            order: s.order,
+            since: s.since,
+            discrepancy: s.discrepancy,
+        };
+    }
+    Recurrence {
+        coefficients: r,
+        previous: c,
+        order: n + 1 - s.order,
+        since: n + 1,
+        discrepancy: d,
+    }
+}
+
+fn massey_step(exp: &[u16], log: &[u16], t: [u16; SYNDROMES], s: Recurrence, n: usize) -> Recurrence
+    requires { ⌜ (n < 16) × (s .order ≤ n) × (s .since ≤ n) ⌝ }
+    ensures { λ r. ⌜ (r ≡ masseyStep (now (exp .entry)) (now (log .entry)) t n s) × (r .order ≤ n + 1) × (r .since ≤ n + 1) ⌝ }
+{
+    let c = s.coefficients;
+    let d = convolved(exp, log, &c, &t, n, s.order + 1);
+    if d == 0 {
+        return s;
+    }
+    adjusted(exp, log, s, n, d)
+}
+
+fn shortest_recurrence(exp: &[u16], log: &[u16], t: [u16; SYNDROMES]) -> Recurrence
+    ensures { λ r. ⌜ (r ≡ massey (now (exp .entry)) (now (log .entry)) t 16) × (r .order ≤ 16) ⌝ }
+{
+    let mut s = Recurrence {
+        coefficients: [1, 0, 0, 0, 0, 0, 0, 0, 0],
+        previous: [1, 0, 0, 0, 0, 0, 0, 0, 0],
+        order: 0,
+        since: 0,
+        discrepancy: 1,
+    };
+    let mut n: usize = 0;
+    while n < SYNDROMES {
+        s = massey_step(exp, log, t, s, n);
+        n += 1;
+    }
+    s
+}
+
+// Coefficient k, highest power first, of the polynomial of degree 8 that a recurrence of that order is.
+fn reversed_at(c: [u16; COEFFICIENTS], order: usize, k: usize) -> u16
+    requires { ⌜ (order ≤ 16) × (k < 9) ⌝ }
+    ensures { λ r. ⌜ r ≡ reversedAt c order k ⌝ }
+{
+    if k + order < RADIUS {
+        return 0;
+    }
+    reed_solomon::symbol(&c, k + order - RADIUS)
+}
+
+fn reversed(s: Recurrence) -> [u16; COEFFICIENTS]
+    requires { ⌜ s .order ≤ 16 ⌝ }
+    ensures { λ r. ⌜ r ≡ tabulate 9 (reversedAt (s .coefficients) (s .order)) ⌝ }
+{
+    let c = s.coefficients;
+    let mut v = [0u16; COEFFICIENTS];
+    let mut k: usize = 0;
+    while k < COEFFICIENTS {
+        v[k] = reversed_at(c, s.order, k);
+        k += 1;
+    }
+    v
+}
+
+// The polynomial v, whose first coefficient but zeros is 1, annihilates the syndromes.
+fn annihilates(exp: &[u16], log: &[u16], t: [u16; SYNDROMES], v: [u16; COEFFICIENTS]) -> bool
+    requires { ⌜ ((k : ℕ) → at v k < length (now log)) ⌝ }
+    ensures { λ r. ⌜ (r ≡ true → Annihilates (now (exp .entry)) (now (log .entry)) t v) ⌝ }
+{
+    let k = leading_zeros(v);
+    if reed_solomon::symbol(&v, k) != 1 {
+        return false;
+    }
+    let mut j: usize = 0;
+    while j < RADIUS {
+        if convolved(exp, log, &v, &t, j + RADIUS, COEFFICIENTS) != 0 {
+            return false;
+        }
+        j += 1;
+    }
+    true
+}
+
+// A polynomial that annihilates the syndromes. The shortest recurrence does, where it is not too long: that is tested, which costs less than to eliminate.
+fn annihilator(exp: &[u16], log: &[u16], t: [u16; SYNDROMES]) -> [u16; COEFFICIENTS]
+    requires { ⌜ Tables (now exp) (now log) ⌝ }
+    ensures { λ r. ⌜ Annihilates (now (exp .entry)) (now (log .entry)) t r ⌝ }
+{
+    let v = reversed(shortest_recurrence(exp, log, t));
+    if annihilates(exp, log, t, v) {
+        return v;
+    }
+    eliminated(exp, log, t)
 }
 
 // The locator of place i of a word of n places.

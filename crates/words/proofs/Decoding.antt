@@ -5,6 +5,7 @@ pub mod RootPlaces
 pub mod Search
 pub mod LinearRoot
 pub mod RowSearch
+pub mod RowSums
 pub mod Values
 pub mod Changes
 pub mod Completeness

@@ -4,7 +4,7 @@ use mathlib.Core.Bool.{cond}
 use mathlib.Core.List.{List, [], _∷_}
 use Prim.Native.Nat.{ℕ, zero, suc, _+_, _-_, _*_, _%_, _≤_, _<_}
 use lib.Dec.{eqb}
-use lib.ListN.{length}
+use lib.ListN.{length, set}
 use Rattle.fields.specs.Lists.{tabulate}
 use Rattle.fields.specs.Elements.{xor}
 use Rattle.fields.specs.ByTables.{tablePower}
@@ -18,6 +18,31 @@ pub record Rows (es rows : List ℕ) : Type 0 where
   pub zeros : (m : ℕ) → m < 2087 → at rows m ≡ 0
   pub few : at rows 18783 ≤ 8
   pub powers : (d m : ℕ) → 0 < d → d ≤ at rows 18783 → m < 2087 → at rows (2087 * d + m) ≡ tablePower es ((2047 - d) * m)
+
+-- rows as before, but that the first m entries of row d are there; what stands behind these is left open
+pub record RowFilled (es before : List ℕ) (d m : ℕ) (rows : List ℕ) : Type 0 where
+  pub long : length rows ≡ length before
+  pub other : (i : ℕ) → i < 2087 * d → at rows i ≡ at before i
+  pub done : (l : ℕ) → l < m → at rows (2087 * d + l) ≡ tablePower es ((2047 - d) * l)
+
+-- an entry of row d is the sum of those so far before it: x^far = x^(far - near) + 1, for x = a^(-d)
+unfoldable pub near : List ℕ
+near = 135 ∷ 135 ∷ 135 ∷ 45 ∷ 135 ∷ 41 ∷ 45 ∷ 63 ∷ 135 ∷ []
+
+unfoldable pub far : List ℕ
+far = 147 ∷ 147 ∷ 147 ∷ 49 ∷ 147 ∷ 69 ∷ 49 ∷ 76 ∷ 147 ∷ []
+
+-- the sums of the blocks at positions a and b; rows with the first k entries of a block stored from position s on; and with the sums of the blocks that
+-- start p and q before
+unfoldable pub blockSum : List ℕ → ℕ → ℕ → ℕ → ℕ
+blockSum rows a b l = xor (at rows (a + l)) (at rows (b + l))
+
+unfoldable pub stored : List ℕ → ℕ → List ℕ → ℕ → List ℕ
+stored rows s block zero = rows
+stored rows s block (suc k) = set (stored rows s block k) (s + k) (at block k)
+
+unfoldable pub withSums : List ℕ → ℕ → ℕ → ℕ → List ℕ
+withSums rows s p q = stored rows s (tabulate 40 (blockSum rows (s - p) (s - q))) 40
 
 -- 1 / d modulo 2,047
 unfoldable pub reciprocals : List ℕ

@@ -19,12 +19,12 @@ ghost use Prim.Native.Nat.{ℕ, _+_, _-_, _*_, _%_, _≤_, _<_};
 ghost use lib.Dec.{eqb};
 ghost use lib.ListN.{length};
 ghost use Rattle.fields.specs.Lists.{tabulate};
-ghost use Rattle.fields.specs.Elements.{xor};
+ghost use Rattle.fields.specs.Elements.{xor, powersB};
 ghost use Rattle.fields.specs.ByTables.{tableProduct};
 ghost use Rattle.words.specs.Places.{at, differs};
 ghost use Rattle.words.specs.Decoder.{Tables, locator, Decoded, weightOf};
 ghost use Rattle.words.specs.DecoderSteps.{Annihilates, powerRow, PlusPart, Zeros, cleared, cellsOf, reduced, FirstNonzero, convolved, plusShifted, adjusted, masseyStep, massey, reversedAt, kept, Roots, withTerm, termsTo, lessModulo, Exponents, powersTo, lowered, FirstRoot, quotientOf, filtered, errorValue, lessError, resolved, Located, lessPowers, flipped, flippedTo};
-ghost use Rattle.words.specs.RowSearch.{Rows, reciprocals, rowBase, rowStart, rowBases, rowStarts, rowPosition, Inside, fourAt, eightAt, rowsSum, keptTo, RowsFor};
+ghost use Rattle.words.specs.RowSearch.{Rows, RowFilled, near, far, blockSum, stored, withSums, reciprocals, rowBase, rowStart, rowBases, rowStarts, rowPosition, Inside, fourAt, eightAt, rowsSum, keptTo, RowsFor};
 
 // Errors in up to so many places are found.
 pub const RADIUS: usize = 8;
@@ -574,25 +574,103 @@ pub fn empty_rows(rows: &mut [u16])
     rows[ROWS - 1] = 0;
 }
 
-// Fills row d, the first that is missing.
-fn fill_row(exp: &[u16], rows: &mut [u16], d: usize)
-    requires { ⌜ length (now exp) ≡ 2047 ⌝ }
-    requires { ⌜ Rows (now exp) (now rows) × (d ≤ 8) × (d ≡ at (now rows) 18783 + 1) ⌝ }
-    ensures { λ _. ⌜ Rows (now (exp .entry)) (now (rows .exit)) × (at (now (rows .exit)) 18783 ≡ d) ⌝ }
+// An entry of row d is the sum of the entries NEAR and FAR before it: the powers x^m of x = 1 / a^d have x^FAR = x^(FAR - NEAR) + 1. A block fits between
+// an entry and the near one.
+const NEAR: [usize; COEFFICIENTS] = [135, 135, 135, 45, 135, 41, 45, 63, 135];
+
+const FAR: [usize; COEFFICIENTS] = [147, 147, 147, 49, 147, 69, 49, 76, 147];
+
+// So many entries are read from the table of powers; the others are whole blocks.
+const STARTED: usize = 167;
+
+fn near(d: usize) -> usize
+    requires { ⌜ d < 9 ⌝ }
+    ensures { λ r. ⌜ (r ≡ at near d) × (r ≤ 147) ⌝ }
+{
+    NEAR[d]
+}
+
+fn far(d: usize) -> usize
+    requires { ⌜ d < 9 ⌝ }
+    ensures { λ r. ⌜ (r ≡ at far d) × (r ≤ 147) ⌝ }
+{
+    FAR[d]
+}
+
+fn start_row(exp: &[u16], rows: &mut [u16], d: usize)
+    requires { ⌜ (length (now exp) ≡ 2047) × (length (now rows) ≡ 18784) × (d ≤ 8) ⌝ }
+    ensures { λ _. ⌜ RowFilled (now (exp .entry)) (now (rows .entry)) d 167 (now (rows .exit)) ⌝ }
 {
     let mut k: usize = 0;
     let mut m: usize = 0;
-    while m < ROW {
+    while m < STARTED {
         rows[ROW * d + m] = exp[k];
         k = less(ORDER, k, d);
         m += 1;
     }
+}
+
+fn block_sums(rows: &[u16], a: usize, b: usize) -> [u16; BLOCK]
+    requires { ⌜ (a + 40 ≤ length (now rows)) × (b + 40 ≤ length (now rows)) ⌝ }
+    ensures { λ r. ⌜ r ≡ tabulate 40 (blockSum (now (rows .entry)) a b) ⌝ }
+{
+    let mut sums = [0u16; BLOCK];
+    let mut l: usize = 0;
+    while l < BLOCK {
+        sums[l] = reed_solomon::sum(rows[a + l], rows[b + l]);
+        l += 1;
+    }
+    sums
+}
+
+fn store_block(rows: &mut [u16], s: usize, block: [u16; BLOCK])
+    requires { ⌜ s + 40 ≤ length (now rows) ⌝ }
+    ensures { λ _. ⌜ now (rows .exit) ≡ stored (now (rows .entry)) s block 40 ⌝ }
+{
+    let mut l: usize = 0;
+    while l < BLOCK {
+        rows[s + l] = block[l];
+        l += 1;
+    }
+}
+
+// The sums are taken first and stored then: in one loop they would be taken one by one, since each might change the next.
+fn add_block(rows: &mut [u16], s: usize, p: usize, q: usize)
+    requires { ⌜ (s + 40 ≤ length (now rows)) × (p ≤ s) × (q ≤ s) ⌝ }
+    ensures { λ _. ⌜ now (rows .exit) ≡ withSums (now (rows .entry)) s p q ⌝ }
+{
+    let sums = block_sums(rows, s - p, s - q);
+    store_block(rows, s, sums);
+}
+
+// The other entries of row d.
+fn finish_row(rows: &mut [u16], d: usize)
+    requires { ⌜ (length (now rows) ≡ 18784) × (0 < d) × (d ≤ 8) × RowFilled powersB (now rows) d 167 (now rows) ⌝ }
+    ensures { λ _. ⌜ RowFilled powersB (now (rows .entry)) d 2087 (now (rows .exit)) ⌝ }
+{
+    let p = near(d);
+    let q = far(d);
+    let mut m = STARTED;
+    while m < ROW {
+        add_block(rows, ROW * d + m, p, q);
+        m += BLOCK;
+    }
+}
+
+// Fills row d, the first that is missing.
+fn fill_row(exp: &[u16], rows: &mut [u16], d: usize)
+    requires { ⌜ now exp ≡ powersB ⌝ }
+    requires { ⌜ Rows (now exp) (now rows) × (d ≤ 8) × (d ≡ at (now rows) 18783 + 1) ⌝ }
+    ensures { λ _. ⌜ Rows (now (exp .entry)) (now (rows .exit)) × (at (now (rows .exit)) 18783 ≡ d) ⌝ }
+{
+    start_row(exp, rows, d);
+    finish_row(rows, d);
     rows[ROWS - 1] = d as u16;
 }
 
 // Fills the rows up to that of the degree that are missing.
 fn need_rows(exp: &[u16], rows: &mut [u16], degree: usize)
-    requires { ⌜ length (now exp) ≡ 2047 ⌝ }
+    requires { ⌜ now exp ≡ powersB ⌝ }
     requires { ⌜ Rows (now exp) (now rows) × (degree ≤ 8) ⌝ }
     ensures { λ _. ⌜ Rows (now (exp .entry)) (now (rows .exit)) × (degree ≤ at (now (rows .exit)) 18783) ⌝ }
 {
@@ -827,7 +905,7 @@ fn roots_by_rows(
     requires { ⌜ Tables (now exp) (now log) ⌝ }
     requires { ⌜ (n ≤ length (now exp)) × (n < 65536) × (n % 40 ≡ 0) × (length (now exp) ≡ 2047) ⌝ }
     requires { ⌜ ((k : ℕ) → at polynomial k < length (now log)) ⌝ }
-    requires { ⌜ Rows (now exp) (now rows) ⌝ }
+    requires { ⌜ (now exp ≡ powersB) × Rows (now exp) (now rows) ⌝ }
     ensures { λ r. ⌜ Roots (now (exp .entry)) (now (log .entry)) polynomial n n (r .at) (r .count) ⌝ }
     ensures { λ _. ⌜ Rows (now (exp .entry)) (now (rows .exit)) ⌝ }
 {
@@ -1060,7 +1138,7 @@ pub fn decode_bits_by_rows(
 ) -> Errors
     requires { ⌜ Tables (now exp) (now log) ⌝ }
     requires { ⌜ (n ≤ length (now exp)) × (n < 65536) × (n % 40 ≡ 0) × (length (now exp) ≡ 2047) ⌝ }
-    requires { ⌜ Rows (now exp) (now rows) ⌝ }
+    requires { ⌜ (now exp ≡ powersB) × Rows (now exp) (now rows) ⌝ }
     ensures { λ r. ⌜ Decoded (now (exp .entry)) (now (log .entry)) t n (r .places .at) (r .values) (r .places .count) (r .left) ⌝ }
     ensures { λ _. ⌜ Rows (now (exp .entry)) (now (rows .exit)) ⌝ }
 {

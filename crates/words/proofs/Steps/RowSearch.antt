@@ -8,18 +8,21 @@ use native.Mathlib.Nat.{le-refl, mod-add-mod, mod-lt, mul-le-mul, mul-suc, mul-z
 use native.Mathlib.Numerals.{add-one}
 use native.Mathlib.Omega.{arith}
 use borrow.Author.Tests.{eq-eqb, ltb-true, ne-eqb, lt-ltb, le-ltb}
-use lib.Dec.{eqb, ltb, lit<}
+use lib.Dec.{eqb, ltb, lit<, lit≤}
 use lib.ListN.{length, getD, set, length-set}
 use lib.Seq.{getD-set-same, getD-set-other}
-use Rattle.fields.specs.Elements.{xor}
+use Rattle.fields.specs.Elements.{xor, powersB}
 use Rattle.fields.specs.ByTables.{tablePower}
 use Rattle.fields.specs.Lists.{tabulate}
 use Rattle.fields.proofs.Lists.{tabulate-at, tabulate-length, tabulate-lt}
+use Rattle.fields.proofs.Instances.{field-b}
 use Rattle.fields.proofs.Ways.{past}
 use Rattle.words.specs.declared.decoder.Places.{Places}
 use Rattle.words.specs.Places.{at, every, allBelow}
 use Rattle.words.specs.DecoderSteps.{lessModulo, kept}
-use Rattle.words.specs.RowSearch.{Rows, reciprocals, rowBase, rowStart, rowBases, rowStarts, rowPosition, fourAt, eightAt, rowsSum, keptTo}
+use Rattle.words.specs.RowSearch.{Rows, RowFilled, near, far, blockSum, stored, withSums, reciprocals, rowBase, rowStart, rowBases, rowStarts, rowPosition, fourAt, eightAt, rowsSum, keptTo}
+use Rattle.words.proofs.Algebra.Tables.{powers-length}
+use Rattle.words.proofs.Decoding.RowSums.{near-least, far-more, row-sum}
 use Rattle.words.proofs.Places.Tests.{below-at}
 use Rattle.words.proofs.Places.Filling.{Filled, filled-next, filled-end}
 
@@ -52,12 +55,10 @@ module _ {before : List ℕ} {m : ℕ} {rows : List ℕ} (so-far : Emptied befor
         powers = λ d i pos l. absurd (omega (arith, none));
       }
 
--- the first m entries of row d are there, k is the exponent of the next, and the rows before are as they were
-pub record RowFilled (es before : List ℕ) (d k m : ℕ) (rows : List ℕ) : Type 0 where
-  pub within : m ≤ 2087
-  pub long : length rows ≡ length before
-  pub other : (i : ℕ) → i < 2087 * d → at rows i ≡ at before i
-  pub done : (l : ℕ) → l < m → at rows (2087 * d + l) ≡ tablePower es ((2047 - d) * l)
+-- the first m entries of row d are there, and k is the exponent of the next
+pub record RowStarted (es before : List ℕ) (d k m : ℕ) (rows : List ℕ) : Type 0 where
+  pub within : m ≤ 167
+  pub filled : RowFilled es before d m rows
   pub exponent : k ≡ (2047 - d) * m % 2047
   pub inside : k < 2047
 
@@ -70,27 +71,27 @@ less-is e d he hd = go (decLt e d)
     go (no h) = rw (le-ltb e d (omega arith)) (omega arith)
 
 module _ (es before : List ℕ) (d : ℕ) where
-  pub filled-none : RowFilled es before d 0 0 before
-  filled-none =
+  pub started-none : RowStarted es before d 0 0 before
+  started-none =
       record {
         within = zero-le;
-        long = refl;
-        other = λ i h. refl;
-        done = λ l h. absurd (not-suc-le-zero h);
+        filled = record { long = refl; other = λ i h. refl; done = λ l h. absurd (not-suc-le-zero h) };
         exponent = sym (ap (λ (x : ℕ). x % 2047) (mul-zero (2047 - d)));
         inside = lit< tt;
       }
 
-  module _ (k m : ℕ) (rows : List ℕ) (so-far : RowFilled es before d k m rows) (order : length es ≡ 2047) (rows-are : Rows es before) (most : d ≤ 8)
-      (next : d ≡ at before 18783 + 1) where
-    pub row-next : (r : ℕ) → m < 2087 → r ≡ lessModulo 2047 k d → RowFilled es before d r (m + 1) (set rows (2087 * d + m) (getD es k 0))
+  module _ (k m : ℕ) (rows : List ℕ) (so-far : RowStarted es before d k m rows) (order : length es ≡ 2047) (size : length before ≡ 18784) (most : d ≤ 8) where
+    pub started-next : (r : ℕ) → m < 167 → r ≡ lessModulo 2047 k d → RowStarted es before d r (m + 1) (set rows (2087 * d + m) (getD es k 0))
     unfolding tablePower
-    row-next r h er =
+    started-next r h er =
         record {
           within = omega arith;
-          long = length-set rows (2087 * d + m) _ ∙ so-far .long;
-          other = λ i l. getD-set-other rows (2087 * d + m) i _ 0 (λ q. omega arith) ∙ so-far .other i l;
-          done = λ l b. go l b (ℕ-discrete l m);
+          filled =
+              record {
+                long = length-set rows (2087 * d + m) _ ∙ so-far .filled .long;
+                other = λ i l. getD-set-other rows (2087 * d + m) i _ 0 (λ q. omega arith) ∙ so-far .filled .other i l;
+                done = λ l b. go l b (ℕ-discrete l m);
+              };
           exponent = rw (add-one, mul-suc (2047 - d) m)
               (step ∙ ap (λ (x : ℕ). (x + (2047 - d)) % 2047) (so-far .exponent) ∙ mod-add-mod ((2047 - d) * m) 2047 (2047 - d));
           inside = rw step (mod-lt (k + (2047 - d)) (lit< tt));
@@ -100,31 +101,157 @@ module _ (es before : List ℕ) (d : ℕ) where
         step = er ∙ less-is k d (so-far .inside) (omega arith)
 
         go : (l : ℕ) → l < m + 1 → Dec (l ≡ m) → at (set rows (2087 * d + m) (getD es k 0)) (2087 * d + l) ≡ getD es ((2047 - d) * l % length es) 0
-        go l b (yes q) = rw (q, order, ← so-far .exponent) (getD-set-same rows (2087 * d + m) _ 0 (omega (arith, so-far .long, rows-are .long)))
-        go l b (no q) = getD-set-other rows (2087 * d + m) (2087 * d + l) _ 0 (λ e. q (omega arith)) ∙ so-far .done l (omega arith)
+        go l b (yes q) = rw (q, order, ← so-far .exponent) (getD-set-same rows (2087 * d + m) _ 0 (omega (arith, so-far .filled .long)))
+        go l b (no q) = getD-set-other rows (2087 * d + m) (2087 * d + l) _ 0 (λ e. q (omega arith)) ∙ so-far .filled .done l (omega arith)
 
-    pub row-count : 2087 ≤ m → at (set rows 18783 d) 18783 ≡ d
-    row-count h = getD-set-same rows 18783 d 0 (omega (arith, so-far .long, rows-are .long))
+    pub started-end : 167 ≤ m → RowFilled es before d 167 rows
+    started-end h = let q : m ≡ 167 = omega (arith, so-far .within) in rw q at (so-far .filled)
 
-    pub row-end : 2087 ≤ m → Rows es (set rows 18783 d)
-    row-end h =
+-- ---- the other entries of a row, block by block
+
+pub powers-long : (es : List ℕ) → es ≡ powersB → length es ≡ 2047
+powers-long es exp = rw (exp, powers-length 11 2053 field-b)
+
+pub near-most : (d : ℕ) → at near d ≤ 147
+unfolding near allBelow every
+near-most d = let h : at near d < 148 = below-at 148 near (lit< tt) refl d in omega arith
+
+pub far-most : (d : ℕ) → at far d ≤ 147
+unfolding far allBelow every
+far-most d = let h : at far d < 148 = below-at 148 far (lit< tt) refl d in omega arith
+
+pub sums-next : (rows sums : List ℕ) (a b l r : ℕ) → Filled 40 (blockSum rows a b) l sums → l < 40 → r ≡ xor (getD rows (a + l) 0) (getD rows (b + l) 0) →
+    Filled 40 (blockSum rows a b) (l + 1) (set sums l r)
+unfolding blockSum
+sums-next rows sums a b l r so-far h e = filled-next so-far h e
+
+module _ (rows : List ℕ) (s : ℕ) (block : List ℕ) where
+  pub stored-none : rows ≡ stored rows s block 0
+  unfolding stored
+  stored-none = refl
+
+  pub stored-next : (k : ℕ) (r : List ℕ) → r ≡ stored rows s block k → set r (s + k) (getD block k 0) ≡ stored rows s block (k + 1)
+  unfolding stored
+  stored-next k r e = rw (add-one, ← e)
+
+  pub stored-end : (k : ℕ) (r : List ℕ) → r ≡ stored rows s block k → k ≤ 40 → 40 ≤ k → r ≡ stored rows s block 40
+  stored-end k r e lo hi = let q : k ≡ 40 = omega arith in rw q at e
+
+  stored-long : (k : ℕ) → length (stored rows s block k) ≡ length rows
+  unfolding stored
+  stored-long zero = refl
+  stored-long (suc k) = length-set (stored rows s block k) (s + k) _ ∙ stored-long k
+
+  stored-before : (k i : ℕ) → i < s → at (stored rows s block k) i ≡ at rows i
+  unfolding stored
+  stored-before zero i h = refl
+  stored-before (suc k) i h = getD-set-other (stored rows s block k) (s + k) i _ 0 (λ e. omega arith) ∙ stored-before k i h
+
+  stored-at : (k l : ℕ) → s + k ≤ length rows → l < k → at (stored rows s block k) (s + l) ≡ at block l
+  unfolding stored
+  stored-at zero l fits h = absurd (not-suc-le-zero h)
+  stored-at (suc k) l fits h = go (ℕ-discrete l k) (stored-at k l (omega arith))
+    where
+      go : Dec (l ≡ k) → (l < k → at (stored rows s block k) (s + l) ≡ at block l) → at (set (stored rows s block k) (s + k) (at block k)) (s + l) ≡ at block l
+      go (yes e) before = rw e (getD-set-same (stored rows s block k) (s + k) _ 0 (omega (arith, stored-long k)))
+      go (no e) before = getD-set-other (stored rows s block k) (s + k) (s + l) _ 0 (λ q. e (omega arith)) ∙ before (omega arith)
+
+pub sums-stored : (rows sums after : List ℕ) (s p q : ℕ) → sums ≡ tabulate 40 (blockSum rows (s - p) (s - q)) → after ≡ stored rows s sums 40 → after ≡ withSums rows s p q
+unfolding withSums
+sums-stored rows sums after s p q es ea = rw (← es) ea
+
+-- the first m entries of row d are there, and whole blocks are left
+pub record RowBlocks (before : List ℕ) (d m : ℕ) (rows : List ℕ) : Type 0 where
+  pub least : 167 ≤ m
+  pub within : m ≤ 2087
+  pub whole : m % 40 ≡ 7
+  pub filled : RowFilled powersB before d m rows
+
+module _ (before : List ℕ) (d m : ℕ) (rows : List ℕ) (so-far : RowBlocks before d m rows) where
+  pub blocks-next : (p q : ℕ) (after : List ℕ) → length before ≡ 18784 → 0 < d → d ≤ 8 → m < 2087 → p ≡ at near d → q ≡ at far d →
+      after ≡ withSums rows (2087 * d + m) p q → RowBlocks before d (m + 40) after
+  unfolding withSums blockSum
+  blocks-next p q after size pos most h ep eq ea = rw ea (
+      record {
+        least = omega (arith, so-far .least);
+        within = fits;
+        whole = omega (arith, so-far .whole);
+        filled =
+            record {
+              long = stored-long rows s block 40 ∙ so-far .filled .long;
+              other = λ i b. stored-before rows s block 40 i (omega arith) ∙ so-far .filled .other i b;
+              done = λ l b. go l b (decLt l m);
+            };
+      })
+    where
+      s : ℕ
+      s = 2087 * d + m
+
+      block : List ℕ
+      block = tabulate 40 (blockSum rows (s - p) (s - q))
+
+      fits : m + 40 ≤ 2087
+      fits = omega (arith, so-far .whole)
+
+      entry : (l k : ℕ) → k < m → l ≡ 2087 * d + k → at rows l ≡ tablePower powersB ((2047 - d) * k)
+      entry l k b e = rw e (so-far .filled .done k b)
+
+      -- entry m + j is the sum of two before
+      new : (j : ℕ) → j < 40 → at (stored rows s block 40) (s + j) ≡ tablePower powersB ((2047 - d) * (m + j))
+      new j b =
+          let gap : 40 ≤ p = rw ep (near-least d most) in
+          let more : p < q = rw (ep, eq) (far-more d most) in
+          let short : q ≤ 147 = rw eq (far-most d) in
+          let lo : 167 ≤ m = so-far .least in
+          stored-at rows s block 40 j (omega (arith, fits, so-far .filled .long)) b
+          ∙ tabulate-at 40 (blockSum rows (s - p) (s - q)) j 0 b
+          ∙ ap₂ xor (entry (s - p + j) (m + j - p) (omega arith) (omega arith)) (entry (s - q + j) (m + j - q) (omega arith) (omega arith))
+          ∙ rw (ep, eq) (sym (row-sum d (m + j) pos most (omega (arith, eq))))
+
+      go : (l : ℕ) → l < m + 40 → Dec (l < m) → at (stored rows s block 40) (2087 * d + l) ≡ tablePower powersB ((2047 - d) * l)
+      go l b (yes c) = stored-before rows s block 40 (2087 * d + l) (omega arith) ∙ so-far .filled .done l c
+      go l b (no c) =
+          let e : 2087 * d + l ≡ s + (l - m) = omega arith in
+          let f : m + (l - m) ≡ l = omega arith in
+          ap (at (stored rows s block 40)) e ∙ new (l - m) (omega arith) ∙ ap (λ (k : ℕ). tablePower powersB ((2047 - d) * k)) f
+
+  pub blocks-end : 2087 ≤ m → RowFilled powersB before d 2087 rows
+  blocks-end h = let q : m ≡ 2087 = omega (arith, so-far .within) in rw q at (so-far .filled)
+
+pub blocks-none : {before : List ℕ} {d : ℕ} → RowFilled powersB before d 167 before → RowBlocks before d 167 before
+blocks-none F = record { least = lit≤ tt; within = lit≤ tt; whole = refl; filled = F }
+
+-- ---- a row that is filled
+
+module _ (es before started rows : List ℕ) (d : ℕ) (exp : es ≡ powersB) (start : RowFilled es before d 167 started) where
+  pub started-whole : RowFilled powersB started d 167 started
+  started-whole = record { long = refl; other = λ i h. refl; done = rw exp at (start .done) }
+
+  pub row-long : RowFilled powersB started d 2087 rows → length rows ≡ length before
+  row-long rest = rest .long ∙ start .long
+
+  module _ (rows-are : Rows es before) (most : d ≤ 8) (next : d ≡ at before 18783 + 1) (rest : RowFilled powersB started d 2087 rows) where
+    pub row-count : at (set rows 18783 d) 18783 ≡ d
+    row-count = getD-set-same rows 18783 d 0 (omega (arith, start .long, rest .long, rows-are .long))
+
+    pub row-end : Rows es (set rows 18783 d)
+    row-end =
         record {
-          long = length-set rows 18783 d ∙ so-far .long ∙ rows-are .long;
-          zeros = λ i l. other i (λ q. omega arith) ∙ so-far .other i (omega arith) ∙ rows-are .zeros i l;
-          few = rw last most;
-          powers = λ f i pos l b. go f i pos (omega (arith, last)) b (ℕ-discrete f d);
+          long = length-set rows 18783 d ∙ rest .long ∙ start .long ∙ rows-are .long;
+          zeros = λ i l. other i (omega arith) (omega arith) ∙ rows-are .zeros i l;
+          few = rw row-count most;
+          powers = λ f i pos l b. go f i pos (omega (arith, row-count)) b (ℕ-discrete f d);
         }
       where
-        last : at (set rows 18783 d) 18783 ≡ d
-        last = row-count h
+        same : (i : ℕ) → ¬ (i ≡ 18783) → at (set rows 18783 d) i ≡ at rows i
+        same i q = getD-set-other rows 18783 i d 0 q
 
-        other : (i : ℕ) → ¬ (i ≡ 18783) → at (set rows 18783 d) i ≡ at rows i
-        other i q = getD-set-other rows 18783 i d 0 q
+        other : (i : ℕ) → i < 18783 → i < 2087 * d → at (set rows 18783 d) i ≡ at before i
+        other i l h = same i (λ q. omega arith) ∙ rest .other i h ∙ start .other i h
 
         go : (f i : ℕ) → 0 < f → f ≤ d → i < 2087 → Dec (f ≡ d) → at (set rows 18783 d) (2087 * f + i) ≡ tablePower es ((2047 - f) * i)
-        go f i pos l b (yes q) = rw q (other (2087 * d + i) (λ e. omega arith) ∙ so-far .done i (omega arith))
-        go f i pos l b (no q) =
-            other (2087 * f + i) (λ e. omega arith) ∙ so-far .other (2087 * f + i) (omega arith) ∙ rows-are .powers f i pos (omega arith) b
+        go f i pos l b (yes q) = rw (q, exp) (same (2087 * d + i) (λ e. omega arith) ∙ rest .done i b)
+        go f i pos l b (no q) = other (2087 * f + i) (omega arith) (omega arith) ∙ rows-are .powers f i pos (omega arith) b
 
 -- ---- where the terms' values stand
 

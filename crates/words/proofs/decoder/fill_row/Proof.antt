@@ -1,87 +1,42 @@
 -- `words::decoder::fill_row` meets its contract. Assumes nothing.
-use Prim.Native.Nat.{_-_}
 use borrow.Author.Needs.{needs}
-use Rattle.words.proofs.Steps.RowSearch.{RowFilled, filled-none, row-count, row-next, row-end}
+use Rattle.words.proofs.Steps.RowSearch.{powers-long, started-whole, row-long, row-count, row-end}
 use Rattle.words.proofs.decoder.fill_row.Statement.{statement}
 use Rattle.words.proofs.decoder.fill_row.Tie as tie
 
-abbrev Inv-loop : tie.InvT-loop
-Inv-loop exp rows₀ d k₀ m₀ rows k m = RowFilled exp rows₀ d k m rows
+start-row-requires : tie.Need-start-row-requires
+start-row-requires c κs = search (needs, powers-long)
 
-abbrev μ-loop : tie.MeasureT-loop
-μ-loop exp rows₀ d k₀ m₀ rows k m = 2087 - m
+finish-row-requires : tie.Need-finish-row-requires
+finish-row-requires c κs = search (needs, started-whole)
 
-loop-holds : tie.Need-loop-holds Inv-loop μ-loop
-loop-holds c = search (needs, filled-none)
-
-mul-rows : tie.Need-mul-rows Inv-loop μ-loop
-mul-rows c = search needs
-
-shared-slice-read-rows : tie.Need-shared-slice-read-rows Inv-loop μ-loop
-shared-slice-read-rows c = search needs
-
-mul-rows-2 : tie.Need-mul-rows-2 Inv-loop μ-loop
-mul-rows-2 c = search needs
-
-add-rows : tie.Need-add-rows Inv-loop μ-loop
-add-rows c = search needs
-
-mul-rows-3 : tie.Need-mul-rows-3 Inv-loop μ-loop
-mul-rows-3 c = search needs
-
-slice-write-rows : tie.Need-slice-write-rows Inv-loop μ-loop
-slice-write-rows c = search needs
-
-less-requires : tie.Need-less-requires Inv-loop μ-loop
-less-requires c κs = search needs
-
-add-m : tie.Need-add-m Inv-loop μ-loop
-add-m c = search needs
-
-loop-less : tie.Need-loop-less Inv-loop μ-loop
-loop-less c = search needs
-
-loop-again : tie.Need-loop-again Inv-loop μ-loop
-loop-again c = search (needs, row-next)
-
-cast-rows : tie.Need-cast-rows Inv-loop μ-loop
+cast-rows : tie.Need-cast-rows
 cast-rows c = search needs
 
-sub-rows : tie.Need-sub-rows Inv-loop μ-loop
+sub-rows : tie.Need-sub-rows
 sub-rows c = search needs
 
-mul-rows-4 : tie.Need-mul-rows-4 Inv-loop μ-loop
-mul-rows-4 c = search needs
+mul-rows : tie.Need-mul-rows
+mul-rows c = search needs
 
-slice-write-rows-2 : tie.Need-slice-write-rows-2 Inv-loop μ-loop
-slice-write-rows-2 c = search needs
+slice-write-rows : tie.Need-slice-write-rows
+slice-write-rows c = search needs
 
-same-length : tie.Need-same-length Inv-loop μ-loop
-same-length c = search needs
+same-length : tie.Need-same-length
+same-length c = search (needs, row-long)
 
-returns : tie.Need-returns Inv-loop μ-loop
+returns : tie.Need-returns
 returns c = search (needs, row-end, row-count)
 
 pub fill-row-spec : {M : Type 1} → statement M
 fill-row-spec =
     tie.close
     (tie.spec
-    Inv-loop
-    μ-loop
-    loop-holds
-    mul-rows
-    shared-slice-read-rows
-    mul-rows-2
-    add-rows
-    mul-rows-3
-    slice-write-rows
-    less-requires
-    add-m
-    loop-less
-    loop-again
+    start-row-requires
+    finish-row-requires
     cast-rows
     sub-rows
-    mul-rows-4
-    slice-write-rows-2
+    mul-rows
+    slice-write-rows
     same-length
     returns)

@@ -27,10 +27,10 @@ pub record RowFilled (es before : List ℕ) (d m : ℕ) (rows : List ℕ) : Type
 
 -- an entry of row d is the sum of those so far before it: x^far = x^(far - near) + 1, for x = a^(-d)
 unfoldable pub near : List ℕ
-near = 135 ∷ 135 ∷ 135 ∷ 45 ∷ 135 ∷ 41 ∷ 45 ∷ 63 ∷ 135 ∷ []
+near = 135 ∷ 135 ∷ 135 ∷ 90 ∷ 135 ∷ 105 ∷ 90 ∷ 126 ∷ 135 ∷ []
 
 unfoldable pub far : List ℕ
-far = 147 ∷ 147 ∷ 147 ∷ 49 ∷ 147 ∷ 69 ∷ 49 ∷ 76 ∷ 147 ∷ []
+far = 147 ∷ 147 ∷ 147 ∷ 98 ∷ 147 ∷ 136 ∷ 98 ∷ 152 ∷ 147 ∷ []
 
 -- the sums of the blocks at positions a and b; rows with the first k entries of a block stored from position s on; and with the sums of the blocks that
 -- start p and q before

@@ -574,25 +574,25 @@ pub fn empty_rows(rows: &mut [u16])
     rows[ROWS - 1] = 0;
 }
 
-// An entry of row d is the sum of the entries NEAR and FAR before it: the powers x^m of x = 1 / a^d have x^FAR = x^(FAR - NEAR) + 1. A block fits between
-// an entry and the near one.
-const NEAR: [usize; COEFFICIENTS] = [135, 135, 135, 45, 135, 41, 45, 63, 135];
+// An entry of row d is the sum of the entries NEAR and FAR before it: the powers x^m of x = 1 / a^d have x^FAR = x^(FAR - NEAR) + 1. Two blocks fit
+// between, so that none waits for the one just stored.
+const NEAR: [usize; COEFFICIENTS] = [135, 135, 135, 90, 135, 105, 90, 126, 135];
 
-const FAR: [usize; COEFFICIENTS] = [147, 147, 147, 49, 147, 69, 49, 76, 147];
+const FAR: [usize; COEFFICIENTS] = [147, 147, 147, 98, 147, 136, 98, 152, 147];
 
 // So many entries are read from the table of powers; the others are whole blocks.
 const STARTED: usize = 167;
 
 fn near(d: usize) -> usize
     requires { ⌜ d < 9 ⌝ }
-    ensures { λ r. ⌜ (r ≡ at near d) × (r ≤ 147) ⌝ }
+    ensures { λ r. ⌜ (r ≡ at near d) × (r ≤ 167) ⌝ }
 {
     NEAR[d]
 }
 
 fn far(d: usize) -> usize
     requires { ⌜ d < 9 ⌝ }
-    ensures { λ r. ⌜ (r ≡ at far d) × (r ≤ 147) ⌝ }
+    ensures { λ r. ⌜ (r ≡ at far d) × (r ≤ 167) ⌝ }
 {
     FAR[d]
 }

@@ -112,13 +112,13 @@ module _ (es before : List ℕ) (d : ℕ) where
 pub powers-long : (es : List ℕ) → es ≡ powersB → length es ≡ 2047
 powers-long es exp = rw (exp, powers-length 11 2053 field-b)
 
-pub near-most : (d : ℕ) → at near d ≤ 147
+pub near-most : (d : ℕ) → at near d ≤ 167
 unfolding near allBelow every
-near-most d = let h : at near d < 148 = below-at 148 near (lit< tt) refl d in omega arith
+near-most d = let h : at near d < 168 = below-at 168 near (lit< tt) refl d in omega arith
 
-pub far-most : (d : ℕ) → at far d ≤ 147
+pub far-most : (d : ℕ) → at far d ≤ 167
 unfolding far allBelow every
-far-most d = let h : at far d < 148 = below-at 148 far (lit< tt) refl d in omega arith
+far-most d = let h : at far d < 168 = below-at 168 far (lit< tt) refl d in omega arith
 
 pub sums-next : (rows sums : List ℕ) (a b l r : ℕ) → Filled 40 (blockSum rows a b) l sums → l < 40 → r ≡ xor (getD rows (a + l) 0) (getD rows (b + l) 0) →
     Filled 40 (blockSum rows a b) (l + 1) (set sums l r)
@@ -201,7 +201,7 @@ module _ (before : List ℕ) (d m : ℕ) (rows : List ℕ) (so-far : RowBlocks b
       new j b =
           let gap : 40 ≤ p = rw ep (near-least d most) in
           let more : p < q = rw (ep, eq) (far-more d most) in
-          let short : q ≤ 147 = rw eq (far-most d) in
+          let short : q ≤ 167 = rw eq (far-most d) in
           let lo : 167 ≤ m = so-far .least in
           stored-at rows s block 40 j (omega (arith, fits, so-far .filled .long)) b
           ∙ tabulate-at 40 (blockSum rows (s - p) (s - q)) j 0 b

@@ -227,8 +227,7 @@ fn massey_step(exp: &[u16], log: &[u16], t: [u16; SYNDROMES], s: Recurrence, n: 
     requires { ⌜ (n < 16) × (s .order ≤ n) × (s .since ≤ n) ⌝ }
     ensures { λ r. ⌜ (r ≡ masseyStep (now (exp .entry)) (now (log .entry)) t n s) × (r .order ≤ n + 1) × (r .since ≤ n + 1) ⌝ }
 {
-    let c = s.coefficients;
-    let d = convolved(exp, log, &c, &t, n, s.order + 1);
+    let d = convolved(exp, log, &s.coefficients, &t, n, s.order + 1);
     if d == 0 {
         return s;
     }

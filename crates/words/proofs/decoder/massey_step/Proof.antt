@@ -7,9 +7,6 @@ use Rattle.words.proofs.decoder.massey_step.Tie as tie
 slice-aggregate-convolved : tie.Need-slice-aggregate-convolved
 slice-aggregate-convolved c = search needs
 
-slice-aggregate-convolved-2 : tie.Need-slice-aggregate-convolved-2
-slice-aggregate-convolved-2 c = search needs
-
 add-convolved : tie.Need-add-convolved
 add-convolved c = search needs
 
@@ -30,7 +27,6 @@ massey-step-spec =
     tie.close
     (tie.spec
     slice-aggregate-convolved
-    slice-aggregate-convolved-2
     add-convolved
     convolved-requires
     returns

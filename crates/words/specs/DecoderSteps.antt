@@ -75,7 +75,7 @@ pub record FirstNonzero (u : List ℕ) (j : ℕ) : Type 0 where
   pub before : (i : ℕ) → i < j → at u i ≡ 0
   pub here : j < 8 → at u j ≡ 0 → ⊥
 
--- the recurrence of the syndromes, lowest power first. The sum over i below k of c i times t (n - i)
+-- the recurrence of the syndromes: its coefficients are lowest power first. The sum over i below k of c i times t (n - i)
 unfoldable pub convolved : List ℕ → List ℕ → List ℕ → List ℕ → ℕ → ℕ → ℕ
 convolved es ls c t n k = xorTo k (λ i. tableProduct es ls (at c i) (at t (n - i)))
 
@@ -94,6 +94,7 @@ adjusted es ls n d s =
     cond (ltb n (2 * s .order)) (record { coefficients = c; previous = s .previous; order = s .order; since = s .since; discrepancy = s .discrepancy })
     (record { coefficients = c; previous = s .coefficients; order = n + 1 - s .order; since = n + 1; discrepancy = d })
 
+-- step n: where its discrepancy is zero, the recurrence stays
 unfoldable pub masseyStep : List ℕ → List ℕ → List ℕ → ℕ → Recurrence → Recurrence
 masseyStep es ls t n s =
     let d = convolved es ls (s .coefficients) t n (s .order + 1) in
@@ -104,7 +105,7 @@ unfoldable pub massey : List ℕ → List ℕ → List ℕ → ℕ → Recurrenc
 massey es ls t zero = record { coefficients = 1 ∷ replicate 8 0; previous = 1 ∷ replicate 8 0; order = 0; since = 0; discrepancy = 1 }
 massey es ls t (suc n) = masseyStep es ls t n (massey es ls t n)
 
--- coefficient k, highest power first, of the polynomial of degree 8 that a recurrence of that order is
+-- coefficient k, highest power first, of the polynomial that a recurrence of that order, at most 8, is
 unfoldable pub reversedAt : List ℕ → ℕ → ℕ → ℕ
 reversedAt c order k = cond (ltb (k + order) 8) 0 (at c (k + order - 8))
 

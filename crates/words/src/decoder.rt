@@ -148,8 +148,8 @@ fn eliminated(exp: &[u16], log: &[u16], t: [u16; SYNDROMES]) -> [u16; COEFFICIEN
 }
 
 // The shortest recurrence of the syndromes up to a step of Berlekamp and Massey's algorithm: the coefficients of its connection polynomial, lowest power
-// first, without those above x^8, and its order. `previous` are the coefficients before the order last changed, which was by the step before step
-// `since` for the discrepancy kept.
+// first, without those above x^8, and its order. `previous` are the coefficients before the order last changed, `discrepancy` is the one for which it
+// did, and `since` the number of steps up to then.
 struct Recurrence {
     coefficients: [u16; COEFFICIENTS],
     previous: [u16; COEFFICIENTS],
@@ -252,7 +252,8 @@ fn shortest_recurrence(exp: &[u16], log: &[u16], t: [u16; SYNDROMES]) -> Recurre
     s
 }
 
-// Coefficient k, highest power first, of the polynomial of degree 8 that a recurrence of that order is.
+// Coefficient k of the polynomial that a recurrence of that order is: its coefficients, the last of them that of x^0. An order above 8 leaves no such
+// polynomial; the test decides on what stands there then.
 fn reversed_at(c: [u16; COEFFICIENTS], order: usize, k: usize) -> u16
     requires { ⌜ (order ≤ 16) × (k < 9) ⌝ }
     ensures { λ r. ⌜ r ≡ reversedAt c order k ⌝ }
@@ -277,7 +278,7 @@ fn reversed(s: Recurrence) -> [u16; COEFFICIENTS]
     v
 }
 
-// The polynomial v, whose first coefficient but zeros is 1, annihilates the syndromes.
+// Whether the polynomial v, of elements, annihilates the syndromes, its first coefficient but zeros being 1.
 fn annihilates(exp: &[u16], log: &[u16], t: [u16; SYNDROMES], v: [u16; COEFFICIENTS]) -> bool
     requires { ⌜ ((k : ℕ) → at v k < length (now log)) ⌝ }
     ensures { λ r. ⌜ (r ≡ true → Annihilates (now (exp .entry)) (now (log .entry)) t v) ⌝ }

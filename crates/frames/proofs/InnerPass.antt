@@ -2,7 +2,7 @@
 use mathlib.Core.Path.{_≡_, refl, sym, ap, _∙_}
 use mathlib.Core.Bool.{Bool, true, _&&_, cond, and-eq-true-iff}
 use mathlib.Core.List.{List}
-use mathlib.Core.Option.{Option, none, some}
+use mathlib.Core.Option.{Option, none, some, Option·getD}
 use Prim.Native.Nat.{ℕ, zero, suc, _+_, _-_, _*_, _/_, _%_, _^_, _≤_, _<_, zero-le}
 use native.Mathlib.Decide.{ℕ-discrete}
 use native.Mathlib.Nat.{not-suc-le-zero}
@@ -52,6 +52,14 @@ module _ (w : List ℕ) where
   pub restored-code : isInner w ≡ true → innerRestored w ≡ w
   restored-code h = let l = inner-is w h .long in restored-some w (codes .inner-nearest .complete w w l l h (omega (arith, apart-self w)))
 
+pub restored-length : (w : List ℕ) → length w ≡ 2040 → length (innerRestored w) ≡ 2040
+unfolding innerRestored
+restored-length w long = go (nearest isInner 2 8 w) refl
+  where
+    go : (o : Option (List ℕ)) → nearest isInner 2 8 w ≡ o → length (Option·getD o w) ≡ 2040
+    go none e = long
+    go (some c) e = codes .inner-nearest .sound w c long e .0
+
 -- a word that is not among those that are wrong is a code word
 pub right-stays : (block : List ℕ) (k x : ℕ) → bitOf 64 x k ≡ cond (isInner (innerWord (bitAt block) k)) 0 1 → (bitAnd (x / 2 ^ (63 - k)) 1 ≡ 1 → ⊥) → k < 64 →
     WordCorrected k block block true
@@ -93,7 +101,7 @@ passing-start =
     }
 
 -- an inner word that is not written stays
-word-other : {k : ℕ} {c : ℕ → ℕ} {before after : List ℕ} → WordPut k c before after → (j : ℕ) → j < 64 → (j ≡ k → ⊥) →
+pub word-other : {k : ℕ} {c : ℕ → ℕ} {before after : List ℕ} → WordPut k c before after → (j : ℕ) → j < 64 → (j ≡ k → ⊥) →
     innerWord (bitAt after) j ≡ innerWord (bitAt before) j
 unfolding innerWord
 word-other put j h n = tabulate-same 2040 _ _ (λ p l. put .others (64 * p + j) (omega arith) (λ e. n (omega arith)))

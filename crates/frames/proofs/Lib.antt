@@ -16,6 +16,7 @@ pub mod InnerPass
 pub mod ReportCounts
 pub mod TakenProposals
 pub mod WordErrors
+pub mod SingleErrors
 pub mod ReceivedWords
 pub mod Options
 pub mod Permitted

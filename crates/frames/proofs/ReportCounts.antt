@@ -15,7 +15,7 @@ use Rattle.fields.specs.Elements.{xor}
 use Rattle.fields.proofs.Lists.{tabulate-at, tabulate-is, tabulate-length, tabulate-same}
 use Rattle.fields.proofs.Ways.{past}
 use Rattle.words.specs.Places.{at, bitOf, bitAt, sumTo, differs, apart}
-use Rattle.words.proofs.Places.Counting.{differs-most, sum-most}
+use Rattle.words.proofs.Places.Counting.{sum-most, sum-same}
 use Rattle.words.proofs.Places.Filling.{FilledOver, over-next, filled-end}
 use Rattle.words.proofs.Places.Numbers.{bitOf-lt, bitOf-zero}
 use Rattle.words.proofs.Codes.ShiftedBits.{bitOf-sum}
@@ -51,7 +51,7 @@ module _ (before counts : List ℕ) (x k : ℕ) (so-far : FilledOver 64 (counted
   unfolding countedAt counted
   count-end h = filled-end (so-far .filled) h
 
--- ---- all places
+-- ---- all places of every inner word
 
 module _ (block frame : List ℕ) where
   pub wrong-in : (k : ℕ) → apart (innerWord (bitAt block) k) (innerWord (bitAt frame) k) ≡ wrongIn block frame k
@@ -63,59 +63,70 @@ module _ (block frame : List ℕ) where
   unfolding reportOf wrongCounts
   report-counts = tabulate-same 64 _ _ (λ k l. wrong-in k)
 
--- how many of the first p places of inner word k are wrong
-unfoldable pub wrongUpTo : List ℕ → List ℕ → ℕ → ℕ → ℕ
-wrongUpTo block frame p k = sumTo p (λ q. wrongAt block frame (64 * q + k))
+-- how many of the first p numbers have a 1 in bit k
+unfoldable pub onesUpTo : (ℕ → ℕ) → ℕ → ℕ → ℕ
+onesUpTo xs p k = sumTo p (λ q. bitOf 64 (xs q) k)
 
--- the invariant: the first p places are counted
-pub record Counting (block frame : List ℕ) (p : ℕ) (counts : List ℕ) : Type 0 where
+-- the invariant: the first p numbers are counted
+pub record Counting (xs : ℕ → ℕ) (p : ℕ) (counts : List ℕ) : Type 0 where
   pub long : length counts ≡ 64
-  pub value : counts ≡ tabulate 64 (wrongUpTo block frame p)
+  pub value : counts ≡ tabulate 64 (onesUpTo xs p)
 
-pub counting-start : {block frame : List ℕ} → Counting block frame 0 (replicate 64 0)
-unfolding wrongUpTo sumTo tabulate
+pub counting-start : {xs : ℕ → ℕ} → Counting xs 0 (replicate 64 0)
+unfolding onesUpTo sumTo tabulate
 counting-start = record { long = refl; value = refl }
 
+module _ (xs : ℕ → ℕ) (counts : List ℕ) (p : ℕ) (so-far : Counting xs p counts) where
+  count-at : (k : ℕ) → k < 64 → at counts k ≡ onesUpTo xs p k
+  count-at k l = ap (λ (c : List ℕ). at c k) (so-far .value) ∙ tabulate-at 64 (onesUpTo xs p) k 0 l
+
+  pub counting-few : p ≤ 2040 → (k : ℕ) → at counts k ≤ 2040
+  unfolding onesUpTo
+  counting-few within k = go (decLt k 64)
+    where
+      go : Dec (k < 64) → at counts k ≤ 2040
+      go (yes l) =
+          let few = sum-most 0 p (λ q. bitOf 64 (xs q) k) (λ i h. absurd (not-suc-le-zero h)) (λ q. omega (arith, bitOf-lt 64 (xs q) k)) in
+          omega (arith, count-at k l, rw zero-add at few)
+      go (no g) = omega (arith, past counts k (omega (arith, so-far .long)))
+
+  pub counting-next : (x : ℕ) (next : List ℕ) → x ≡ xs p → next ≡ counted counts x → Counting xs (p + 1) next
+  unfolding onesUpTo sumTo counted
+  counting-next x next ex e =
+      record {
+        long = ap length e ∙ tabulate-length 64 _;
+        value = e ∙ rw (ex, add-one) (tabulate-same 64 _ _ (λ k l. ap (λ (n : ℕ). n + bitOf 64 (xs p) k) (count-at k l)));
+      }
+
+-- the places of every inner word in which two blocks differ
+unfoldable pub differences : List ℕ → List ℕ → ℕ → ℕ
+differences block frame p = xor (placeAt block p) (placeAt frame p)
+
 -- a bit is 1 where it differs from 0
-bit-is : (x : ℕ) → x < 2 → x ≡ differs x 0
+pub bit-is : (x : ℕ) → x < 2 → x ≡ differs x 0
 unfolding differs
 bit-is zero h = refl
 bit-is (suc zero) h = refl
 bit-is (suc (suc x)) h = absurd (omega arith)
 
-module _ (block frame counts : List ℕ) (p : ℕ) (so-far : Counting block frame p counts) where
-  count-at : (k : ℕ) → k < 64 → at counts k ≡ wrongUpTo block frame p k
-  count-at k l = ap (λ (c : List ℕ). at c k) (so-far .value) ∙ tabulate-at 64 (wrongUpTo block frame p) k 0 l
+module _ (block frame counts : List ℕ) (p : ℕ) (so-far : Counting (differences block frame) p counts) where
+  place-wrong : (q k : ℕ) → k < 64 → bitOf 64 (differences block frame q) k ≡ wrongAt block frame (64 * q + k)
+  unfolding wrongAt differences
+  place-wrong q k l =
+      bit-is _ (bitOf-lt 64 (xor (placeAt block q) (placeAt frame q)) k)
+      ∙ ap (λ (x : ℕ). differs x 0) (bitOf-sum 64 k (placeAt block q) (placeAt frame q) ∙ ap₂ xor (place-bit block q k l) (place-bit frame q k l))
+      ∙ differs-sum (bitAt block (64 * q + k)) (bitAt frame (64 * q + k))
 
-  pub counting-few : p ≤ 2040 → (k : ℕ) → at counts k ≤ 2040
-  unfolding wrongUpTo wrongAt
-  counting-few within k = go (decLt k 64)
-    where
-      go : Dec (k < 64) → at counts k ≤ 2040
-      go (yes l) =
-          let few = sum-most 0 p (λ q. wrongAt block frame (64 * q + k)) (λ i h. absurd (not-suc-le-zero h)) (λ q. differs-most _ _) in
-          omega (arith, count-at k l, rw zero-add at few)
-      go (no g) = omega (arith, past counts k (omega (arith, so-far .long)))
+  pub report-next : (x y : ℕ) (next : List ℕ) → x ≡ placeAt block p → y ≡ placeAt frame p → next ≡ counted counts (bitXor x y) →
+      Counting (differences block frame) (p + 1) next
+  unfolding differences xor
+  report-next x y next ex ey e = counting-next (differences block frame) counts p so-far (bitXor x y) next (ap₂ bitXor ex ey) e
 
-  place-wrong : (k : ℕ) → k < 64 → bitOf 64 (xor (placeAt block p) (placeAt frame p)) k ≡ wrongAt block frame (64 * p + k)
-  unfolding wrongAt
-  place-wrong k l =
-      bit-is _ (bitOf-lt 64 (xor (placeAt block p) (placeAt frame p)) k)
-      ∙ ap (λ (x : ℕ). differs x 0) (bitOf-sum 64 k (placeAt block p) (placeAt frame p) ∙ ap₂ xor (place-bit block p k l) (place-bit frame p k l))
-      ∙ differs-sum (bitAt block (64 * p + k)) (bitAt frame (64 * p + k))
-
-  pub counting-next : (x y : ℕ) (next : List ℕ) → x ≡ placeAt block p → y ≡ placeAt frame p → next ≡ counted counts (bitXor x y) →
-      Counting block frame (p + 1) next
-  unfolding wrongUpTo sumTo counted xor
-  counting-next x y next ex ey e =
-      record {
-        long = ap length e ∙ tabulate-length 64 _;
-        value = e ∙ rw (ex, ey, add-one) (tabulate-same 64 _ _ (λ k l. ap₂ _+_ (count-at k l) (place-wrong k l)));
-      }
-
-  pub counting-end : p ≤ 2040 → 2040 ≤ p → counts ≡ reportOf block frame
-  unfolding wrongUpTo wrongIn wrongCounts
-  counting-end within h = let e : p ≡ 2040 = omega arith in rw e at (so-far .value) ∙ sym (report-counts block frame)
+  pub report-end : p ≤ 2040 → 2040 ≤ p → counts ≡ reportOf block frame
+  unfolding onesUpTo wrongIn wrongCounts
+  report-end within h =
+      let e : p ≡ 2040 = omega arith in
+      rw e at (so-far .value) ∙ tabulate-same 64 _ _ (λ k l. sum-same 2040 _ _ (λ q b. place-wrong q k l)) ∙ sym (report-counts block frame)
 
 -- ---- the sum
 

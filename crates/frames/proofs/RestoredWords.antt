@@ -4,7 +4,7 @@ use mathlib.Core.Path.{_≡_, refl, sym, ap, _∙_, subst}
 use mathlib.Core.Bool.{Bool, true, false, cond}
 use mathlib.Core.List.{List, []}
 use mathlib.Core.Logic.{_⊎_, inl, inr}
-use mathlib.Core.Option.{Option, none, some, Option·getD, Option·map}
+use mathlib.Core.Option.{Option, none, some, Option·map}
 use Prim.Native.Nat.{ℕ, _+_, _*_, _/_, _%_, _≤_, _<_}
 use native.Mathlib.Omega.{arith}
 use borrow.Author.Tests.{eq-eqb}
@@ -14,7 +14,7 @@ use Rattle.fields.proofs.Lists.{tabulate-at, tabulate-is, tabulate-length}
 use Rattle.words.specs.Places.{bitAt, apart}
 use Rattle.words.specs.OuterCode.{isOuter}
 use Rattle.words.specs.InnerCode.{isInner}
-use Rattle.words.specs.Nearest.{nearest, Decodes}
+use Rattle.words.specs.Nearest.{Decodes}
 use Rattle.words.proofs.Places.Tests.{every-at}
 use Rattle.words.proofs.Codes.OuterWords.{outer-is}
 use Rattle.words.proofs.Codes.InnerWords.{inner-is}
@@ -27,20 +27,12 @@ use Rattle.frames.specs.Received.{outerCodes, innerCodes}
 use Rattle.frames.specs.Demands.{Uncorrectable, Restored}
 use Rattle.frames.proofs.Differences.{apart-self}
 use Rattle.frames.proofs.FrameBits.{inner-word-length, frame-block, frame-inner, dataIn-le, outer-word-length, payloadOf-length}
-use Rattle.frames.proofs.InnerPass.{restored-none, restored-some}
+use Rattle.frames.proofs.InnerPass.{restored-none, restored-some, restored-length}
 use Rattle.frames.proofs.ReceivedWords.{received-length, received-words, received-own, code-words-frame, same-frame}
 use Rattle.frames.proofs.Options.{every-some, every-missing, every-none, every-all}
 use Rattle.frames.proofs.Permitted.{permitted-is, permitted-nearest, padded-row, payload-permitted}
 
 -- ---- the inner pass
-
-restored-length : (w : List ℕ) → length w ≡ 2040 → length (innerRestored w) ≡ 2040
-unfolding innerRestored
-restored-length w long = go (nearest isInner 2 8 w) refl
-  where
-    go : (o : Option (List ℕ)) → nearest isInner 2 8 w ≡ o → length (Option·getD o w) ≡ 2040
-    go none e = long
-    go (some c) e = codes .inner-nearest .sound w c long e .0
 
 module _ (b : ℕ → ℕ) (k : ℕ) where
   -- the inner words after the pass are the restored words

@@ -8,7 +8,7 @@ use native.Mathlib.Nat.{not-suc-le-zero}
 use native.Mathlib.Numerals.{add-one}
 use native.Mathlib.Omega.{arith}
 use borrow.Author.Tests.{lt-ltb, le-ltb}
-use lib.Bits.{bitAnd, bitOr, bitXor, and-le-l}
+use lib.Bits.{bitAnd, bitOr, bitXor, and-le-l, and-zero-r}
 use lib.Dec.{ltb, lit<}
 use lib.ListN.{length, set}
 use lib.Pow.{pow-mono}
@@ -17,24 +17,28 @@ use mir.Val.{Fits}
 use Rattle.fields.specs.Lists.{tabulate}
 use Rattle.fields.specs.Elements.{xor, scale}
 use Rattle.fields.proofs.Lists.{tabulate-at, tabulate-length, tabulate-same}
-use Rattle.fields.proofs.Xor.{xor-assoc, xor-self, xor-zero-r}
-use Rattle.words.specs.Places.{at, bitOf, numberOf, bitAt, apart}
+use Rattle.fields.proofs.Xor.{xor-assoc, xor-cancel, xor-self, xor-zero-r}
+use Rattle.words.specs.Places.{at, bitOf, numberOf, bitAt, differs, apart}
 use Rattle.words.specs.InnerCode.{isInner}
-use Rattle.words.proofs.Places.Numbers.{bitOf-lt, bitOf-number, numberOf-lt, numberOf-same, numberOf-bits}
+use Rattle.words.proofs.Places.Counting.{sum-same}
+use Rattle.words.proofs.Places.Numbers.{bitOf-lt, bitOf-zero, bitOf-number, numberOf-lt, numberOf-same, numberOf-bits}
 use Rattle.words.proofs.Codes.ShiftedBits.{bitOf-sum}
 use Rattle.words.proofs.Codes.InnerWords.{inner-is}
 use Rattle.words.proofs.Codes.Proved.{codes}
+use Rattle.words.proofs.Decoding.Changes.{differs-sum}
 use Rattle.frames.specs.Frames.{innerWord}
-use Rattle.frames.specs.Correction.{innerRestored, reportOf, innerPass}
+use Rattle.frames.specs.Correction.{innerRestored, innerPass}
 use Rattle.frames.specs.SideBySide.{placeAt, byteOf64}
 use Rattle.frames.specs.Symbols.{Placed}
 use Rattle.frames.specs.Passes.{wrongWords, InnerPassed}
-use Rattle.frames.specs.Proposals.{Flipped, overRadius, beyondRadius, Nearer}
+use Rattle.frames.specs.Proposals.{Flipped, flipCounts, overRadius, beyondRadius, Nearer}
 use Rattle.frames.proofs.Placing.{Placing, placing-start, placing-next, placing-end}
+use Rattle.frames.proofs.Differences.{apart-tables}
 use Rattle.frames.proofs.FrameBits.{inner-word-length}
 use Rattle.frames.proofs.SideBySide.{place-bit, bit-product, bit-or, all-ones}
 use Rattle.frames.proofs.InnerSteps.{wrong-lt, wrong-not, wrong-bit}
 use Rattle.frames.proofs.InnerPass.{restored-some, restored-code, none-passed}
+use Rattle.frames.proofs.ReportCounts.{onesUpTo, Counting, bit-is}
 
 -- ---- one place of every inner word, written
 
@@ -110,6 +114,10 @@ pub flipping-end : {flips before after : List ℕ} {mask p : ℕ} → Flipping f
 flipping-end s h = record { long = s .long; bits = λ i b. s .done i (omega arith) }
 
 -- ---- the count of an inner word
+
+pub flips-end : (flips counts : List ℕ) (p : ℕ) → Counting (at flips) p counts → p ≤ 2040 → 2040 ≤ p → counts ≡ flipCounts flips
+unfolding onesUpTo flipCounts
+flips-end flips counts p so-far within h = let e : p ≡ 2040 = omega arith in rw e at (so-far .value)
 
 pub over-is : (n : ℕ) → 8 < n → (1 ≡ overRadius n) × (1 < 2)
 unfolding overRadius
@@ -190,18 +198,33 @@ module _ (flips : List ℕ) (mask : ℕ) (before after : List ℕ) (f : Flipped 
 all-bit : (k : ℕ) → k < 64 → bitOf 64 18446744073709551615 k ≡ 1
 all-bit k l = ap (λ (x : ℕ). bitOf 64 x k) all-ones ∙ bitOf-number (λ i. 1) (λ i. lit< tt) 64 k l
 
-module _ (flips before mid last : List ℕ) (back : ℕ) (f : Flipped flips 18446744073709551615 before mid) (g : Flipped flips back mid last) (k : ℕ) (l : k < 64) where
+module _ (flips before mid : List ℕ) (f : Flipped flips 18446744073709551615 before mid) (k : ℕ) (l : k < 64) where
+  abbrev bit : ℕ → ℕ
+  bit p = bitAt before (64 * p + k)
+
+  abbrev flip : ℕ → ℕ
+  flip p = bitOf 64 (at flips p) k
+
+  flipped-once : (p : ℕ) → p < 2040 → bitAt mid (64 * p + k) ≡ xor (bit p) (flip p)
+  flipped-once p h =
+      flipped-place flips 18446744073709551615 before mid f k l p h ∙ ap (xor (bit p)) (rw (all-bit k l) (scale-one (flip p) (bitOf-lt 64 (at flips p) k)))
+
+  -- an inner word is as far from what it was as it has places inverted
+  flips-apart : apart (innerWord (bitAt before) k) (innerWord (bitAt mid) k) ≡ at (flipCounts flips) k
+  unfolding innerWord flipCounts
+  flips-apart =
+      apart-tables 2040 bit (λ p. bitAt mid (64 * p + k)) ∙ sum-same 2040 _ flip (λ p h.
+      ap (differs (bit p)) (flipped-once p h) ∙ sym (differs-sum (bit p) (xor (bit p) (flip p)))
+      ∙ ap (λ (x : ℕ). differs x 0) (xor-cancel (bit p) (flip p)) ∙ sym (bit-is (flip p) (bitOf-lt 64 (at flips p) k)))
+      ∙ sym (tabulate-at 64 _ k 0 l)
+
   -- an inner word that is inverted twice is as it was
-  word-back : bitOf 64 back k ≡ 1 → innerWord (bitAt last) k ≡ innerWord (bitAt before) k
+  word-back : (last : List ℕ) (back : ℕ) → Flipped flips back mid last → bitOf 64 back k ≡ 1 → innerWord (bitAt last) k ≡ innerWord (bitAt before) k
   unfolding innerWord
-  word-back e =
+  word-back last back g e =
       tabulate-same 2040 _ _ (λ p h.
-      let c = bitOf 64 (at flips p) k in
-      let b = bitAt before (64 * p + k) in
-      let once : bitAt mid (64 * p + k) ≡ xor b c =
-      flipped-place flips 18446744073709551615 before mid f k l p h ∙ ap (xor b) (rw (all-bit k l) (scale-one c (bitOf-lt 64 (at flips p) k))) in
-      flipped-place flips back mid last g k l p h ∙ ap₂ xor once (rw e (scale-one c (bitOf-lt 64 (at flips p) k))) ∙ xor-assoc b c c
-      ∙ ap (xor b) (xor-self c) ∙ xor-zero-r b)
+      flipped-place flips back mid last g k l p h ∙ ap₂ xor (flipped-once p h) (rw e (scale-one (flip p) (bitOf-lt 64 (at flips p) k)))
+      ∙ xor-assoc (bit p) (flip p) (flip p) ∙ ap (xor (bit p)) (xor-self (flip p)) ∙ xor-zero-r (bit p))
 
 bits-or-zero : (x y : ℕ) → x < 2 → y < 2 → bitOr x y ≡ 0 → (x ≡ 0) × (y ≡ 0)
 bits-or-zero zero zero hx hy e = (refl, refl)
@@ -224,8 +247,8 @@ not-over n e = go (decLe n 8)
     go (yes h) = h
     go (no g) = absurd (omega (arith, rw (lt-ltb 8 n (omega arith)) at e))
 
-module _ (received before mid last flips counts : List ℕ) (wrong now m : ℕ) (same : before ≡ received) (told : wrong ≡ wrongWords (bitAt before))
-    (f : Flipped flips 18446744073709551615 before mid) (en : now ≡ wrongWords (bitAt mid)) (ec : counts ≡ reportOf received mid) (em : m ≡ beyondRadius counts)
+module _ (before mid last flips counts : List ℕ) (wrong now m : ℕ) (told : wrong ≡ wrongWords (bitAt before))
+    (f : Flipped flips 18446744073709551615 before mid) (en : now ≡ wrongWords (bitAt mid)) (ec : counts ≡ flipCounts flips) (em : m ≡ beyondRadius counts)
     (g : Flipped flips (bitOr now m) mid last) where
   abbrev back : ℕ
   back = bitOr now m
@@ -241,10 +264,10 @@ module _ (received before mid last flips counts : List ℕ) (wrong now m : ℕ) 
     back-bit = bit-or 64 k now m
 
     beyond-bit : bitOf 64 m k ≡ overRadius (apart w c)
-    unfolding beyondRadius reportOf
+    unfolding beyondRadius
     beyond-bit =
         ap (λ (x : ℕ). bitOf 64 x k) em ∙ bitOf-number (λ k. overRadius (at counts k)) (λ k. over-lt (at counts k)) 64 k l
-        ∙ ap overRadius (ap (λ (x : List ℕ). at x k) ec ∙ tabulate-at 64 _ k 0 l ∙ ap (λ (b : List ℕ). apart (innerWord (bitAt b) k) c) (sym same))
+        ∙ ap overRadius (ap (λ (x : List ℕ). at x k) ec ∙ sym (flips-apart flips before mid f k l))
 
     -- what is not inverted back is the code word within eight places
     module _ (e : bitOf 64 back k ≡ 0) where
@@ -263,7 +286,7 @@ module _ (received before mid last flips counts : List ℕ) (wrong now m : ℕ) 
           (not-over (apart w c) (sym beyond-bit ∙ none .1)))
 
     kept : bitOf 64 back k ≡ 1 → innerWord (bitAt last) k ≡ w
-    kept e = word-back flips before mid last back f g k l e
+    kept e = word-back flips before mid f k l last back g e
 
     restored : (x : ℕ) → bitOf 64 back k ≡ x → x < 2 → innerRestored (innerWord (bitAt last) k) ≡ innerRestored w
     restored zero e h = ap innerRestored (taken e) ∙ restored-code c (code e) ∙ sym (found e)
@@ -290,6 +313,29 @@ module _ (received before mid last flips counts : List ℕ) (wrong now m : ℕ) 
         word = λ k l. restored k l (bitOf 64 back k) refl (bitOf-lt 64 back k);
         kept = λ k l e. kept k l (scaled-one (bitOf 64 wrong k) (bitOf 64 back k) (bitOf-lt 64 back k) (sym (bit-product 64 k wrong back) ∙ e));
       }
+
+-- the same where nothing is to be inverted back
+module _ (before mid flips counts : List ℕ) (wrong now m : ℕ) (told : wrong ≡ wrongWords (bitAt before)) (f : Flipped flips 18446744073709551615 before mid)
+    (en : now ≡ wrongWords (bitAt mid)) (ec : counts ≡ flipCounts flips) (em : m ≡ beyondRadius counts) (none : bitOr now m ≡ 0) where
+  none-flipped : Flipped flips (bitOr now m) mid mid
+  none-flipped =
+      record { long = refl; bits = λ i b. rw (none, and-zero-r, bitOf-zero 64 (i % 64)) (sym (xor-zero-r (bitAt mid i))) }
+
+  none-left : 0 ≡ bitAnd wrong (bitOr now m)
+  none-left = rw (none, and-zero-r)
+
+  pub all-left : 0 ≡ wrongWords (bitAt mid)
+  all-left = none-left ∙ taken-left before mid mid flips counts wrong now m told f en ec em none-flipped
+
+  pub all-nearer : Nearer 0 before mid
+  all-nearer = rw none-left (taken-nearer before mid mid flips counts wrong now m told f en ec em none-flipped)
+
+-- what is left wrong was wrong before
+pub nearer-wrong : (x y : ℕ) (before after : List ℕ) → x ≡ wrongWords (bitAt before) → Nearer y before after → y ≡ wrongWords (bitAt after) →
+    (k : ℕ) → k < 64 → bitOf 64 y k ≡ 1 → bitOf 64 x k ≡ 1
+nearer-wrong x y before after told m still k l e =
+    ap (λ (z : ℕ). bitOf 64 z k) told ∙ wrong-bit (bitAt before) k l ∙ ap (λ (w : List ℕ). cond (isInner w) 0 1) (sym (m .kept k l e))
+    ∙ sym (wrong-bit (bitAt after) k l) ∙ ap (λ (z : ℕ). bitOf 64 z k) (sym still) ∙ e
 
 -- the inner pass may go on from there
 pub nearer-passed : (left : ℕ) (before mid after : List ℕ) → Nearer left before mid → InnerPassed mid after → InnerPassed before after

@@ -39,12 +39,13 @@ use Rattle.words.proofs.Decoding.Inner.{flip-at, inner-found, inner-lost}
 use Rattle.frames.specs.Frames.{innerWord}
 use Rattle.frames.specs.Correction.{innerRestored}
 use Rattle.frames.specs.InnerResidues.{coefficient, wordResidue, residuesOf, WordResidues, oddValue}
-use Rattle.frames.specs.Passes.{WordPut, WordCorrected}
+use Rattle.frames.specs.Passes.{wrongWords, WordPut, WordCorrected}
 use Rattle.frames.specs.Proposals.{Nearer}
 use Rattle.frames.proofs.Windows.{masked-bit}
 use Rattle.frames.proofs.FrameBits.{bytes-bit, bytes-length, inner-word-length, place-to-bit}
 use Rattle.frames.proofs.ResidueCodes.{residue-bit, residue-value, residue-lt}
 use Rattle.frames.proofs.InnerPass.{restored-none, restored-some, Passing, word-same, wrong-set}
+use Rattle.frames.proofs.TakenProposals.{nearer-wrong}
 
 -- ---- a term of a value
 
@@ -133,15 +134,18 @@ module _ (block : List ℕ) (k : ℕ) where
         let e : 11 - suc (11 - suc i) ≡ i = omega arith in
         ap₂ _*_ (R .each (11 * j + i) (omega arith) ∙ rw (q, r, e)) (table-power 11 2053 field-b ((2 * j + 1) * i))
 
-    odd-value : (j : ℕ) → j < 8 → oddValue powersB residues k j ≡ at (oddValues powersB (remainder 88 divisor (bitAt w) 2040)) j
+    pub odd-value-word : (j : ℕ) → j < 8 → oddValue powersB residues k j ≡ value 11 2053 (powerB (2 * j + 1)) b 2040
     unfolding oddValue wordResidue
-    odd-value j h =
+    odd-value-word j h =
         let e = 2 * j + 1 in
         let r = wordResidue j block 2040 k in
         let bits : (p : ℕ) → b p < 2 = λ p. bitAt-lt block _ in
         xorTo-same 11 _ _ (λ i l. residue-term j i h l) ∙ sym (value-powers 11 2053 field-b e (bitOf 11 r) (bitOf-lt 11 r) 11)
         ∙ sym (valueOf-bits _ 11 r) ∙ sym (valueOf-more _ (times-power-sum e) 1 11 r (residue-lt b bits 2040 j h)) ∙ residue-value b bits 2040 j h
-        ∙ horner-same _ b (bitAt w) 2040 (λ p l. sym (word-bit p l))
+
+    odd-value : (j : ℕ) → j < 8 → oddValue powersB residues k j ≡ at (oddValues powersB (remainder 88 divisor (bitAt w) 2040)) j
+    odd-value j h =
+        odd-value-word j h ∙ horner-same _ b (bitAt w) 2040 (λ p l. sym (word-bit p l))
         ∙ sym (odd-value-b (remainder 88 divisor (bitAt w) 2040) j h ∙ remainder-bits (bitAt w) (bitAt-lt w) 2040 j h)
 
     values-are : tabulate 8 (oddValue powersB residues k) ≡ oddValues powersB (remainder 88 divisor (bitAt w) 2040)
@@ -236,19 +240,27 @@ unfolding wordResidue
 residue-same b c j k e =
     horner-same _ _ _ 2040 (λ p l. sym (place-to-bit (bitAt b) k p l) ∙ ap (λ (w : List ℕ). at w p) e ∙ place-to-bit (bitAt c) k p l)
 
+pub whole-residues : (residues block : List ℕ) → residues ≡ residuesOf block (5 + 11 * 185) → (k : ℕ) → k < 64 → WordResidues residues k block
+whole-residues residues block e k l = record { each = λ c h. ap (λ (r : List ℕ). bitOf 64 (at r c) k) e ∙ residue-bit block 2040 k c l h }
+
+-- a word that is as it was has the residues that it had
+pub residues-kept : {residues before after : List ℕ} {k : ℕ} → innerWord (bitAt after) k ≡ innerWord (bitAt before) k → WordResidues residues k before → WordResidues residues k after
+residues-kept {residues} {before} {after} {k} same R =
+    record { each = λ c h. R .each c h ∙ ap (coefficient (c % 11)) (residue-same before after (c / 11) k (sym same)) }
+
 pub left-residues : (residues before mid : List ℕ) (left : ℕ) → residues ≡ residuesOf before (5 + 11 * 185) → Nearer left before mid →
     (k : ℕ) → k < 64 → bitOf 64 left k ≡ 1 → WordResidues residues k mid
 left-residues residues before mid left e n k l q =
-    record {
-      each = λ c h. ap (λ (r : List ℕ). bitOf 64 (at r c) k) e ∙ residue-bit before 2040 k c l h
-          ∙ ap (coefficient (c % 11)) (residue-same before mid (c / 11) k (sym (n .kept k l q)));
-    }
+    residues-kept (n .kept k l q) (whole-residues residues before e k l)
+
+pub rest-residues : (residues before after : List ℕ) (x y : ℕ) → ((k : ℕ) → k < 64 → bitOf 64 x k ≡ 1 → WordResidues residues k before) → x ≡ wrongWords (bitAt before) →
+    Nearer y before after → y ≡ wrongWords (bitAt after) → (k : ℕ) → k < 64 → bitOf 64 y k ≡ 1 → WordResidues residues k after
+rest-residues residues before after x y R told m still k l e = residues-kept (m .kept k l e) (R k l (nearer-wrong x y before after told m still k l e))
 
 -- a pass does not change the words ahead of it
 pub left-ahead : (residues before after : List ℕ) (k x : ℕ) (all : Bool) → Passing before k all after → k < 64 →
     ((k : ℕ) → k < 64 → bitOf 64 x k ≡ 1 → WordResidues residues k before) → bitOf 64 x k ≡ 1 → WordResidues residues k after
-left-ahead residues before after k x all s l R q =
-    record { each = λ c h. R k l q .each c h ∙ ap (coefficient (c % 11)) (residue-same before after (c / 11) k (sym (word-same s l))) }
+left-ahead residues before after k x all s l R q = residues-kept (word-same s l) (R k l q)
 
 -- the residues of a word that its bit tells to be wrong
 pub wrong-residues : (residues block : List ℕ) (k x : ℕ) → (bitOf 64 x k ≡ 1 → WordResidues residues k block) → bitAnd (x / 2 ^ (63 - k)) 1 ≡ 1 → k < 64 →

@@ -1,14 +1,14 @@
 -- The residues of the 64 inner words modulo the eight factors of the divisor, side by side: bit k of a number, the highest of 64 first, belongs to inner
 -- word k.
 use mathlib.Core.Path.{_≡_}
-use mathlib.Core.Bool.{cond}
+use mathlib.Core.Bool.{Bool, cond}
 use mathlib.Core.List.{List, [], _∷_}
 use Prim.Native.Nat.{ℕ, _+_, _-_, _*_, _/_, _%_, _^_, _<_}
-use lib.Dec.{ltb}
+use lib.Dec.{eqb, ltb}
 use Rattle.fields.specs.Lists.{tabulate}
 use Rattle.fields.specs.Elements.{xor, scale}
 use Rattle.fields.specs.ByTables.{tablePower}
-use Rattle.words.specs.Places.{at, bitOf, numberOf, bitAt}
+use Rattle.words.specs.Places.{at, every, bitOf, numberOf, bitAt}
 use Rattle.words.specs.InnerCode.{factors, remainder}
 use Rattle.words.specs.Decoder.{xorTo}
 use Rattle.frames.specs.declared.residues.Lanes.{Lanes}
@@ -54,6 +54,10 @@ pub record WordResidues (residues : List ℕ) (k : ℕ) (block : List ℕ) : Typ
 -- the value at a^(2j+1) of inner word k, from its residue modulo factor j: the sum of a^((2j+1) i) over its coefficients i that are 1
 unfoldable pub oddValue : List ℕ → List ℕ → ℕ → ℕ → ℕ
 oddValue es residues k j = xorTo 11 (λ i. bitOf 64 (at residues (11 * j + i)) k * tablePower es ((2 * j + 1) * i))
+
+-- inner word k has the values of a single wrong place, whose locator is a^e: a^e, a^(3 e), .. a^(15 e)
+unfoldable pub isSingle : List ℕ → List ℕ → ℕ → ℕ → Bool
+isSingle es residues k e = every 8 (λ j. eqb (oddValue es residues k j) (tablePower es ((2 * j + 1) * e)))
 
 -- ---- the steps
 

@@ -30,6 +30,14 @@ pub record WordCorrected (k : ℕ) (before after : List ℕ) (r : Bool) : Type 0
   pub put : WordPut k (at (innerRestored (innerWord (bitAt before) k))) before after
   pub code : r ≡ true → isInner (innerWord (bitAt after) k) ≡ true
 
+-- inner word k is restored or as it was; the bit is 1 if it is no code word, and then it is as it was. The others are as they were
+pub record WordTried (k : ℕ) (before after : List ℕ) (bit : ℕ) : Type 0 where
+  pub long : length after ≡ length before
+  pub told : bit ≡ cond (isInner (innerWord (bitAt after) k)) 0 1
+  pub word : innerRestored (innerWord (bitAt after) k) ≡ innerRestored (innerWord (bitAt before) k)
+  pub kept : bit ≡ 1 → innerWord (bitAt after) k ≡ innerWord (bitAt before) k
+  pub others : (j : ℕ) → j < 64 → (j ≡ k → ⊥) → innerWord (bitAt after) j ≡ innerWord (bitAt before) j
+
 -- the inner pass over a block
 pub record InnerPassed (before after : List ℕ) : Type 0 where
   pub long : length after ≡ length before

@@ -6,8 +6,9 @@ use Prim.Native.Nat.{ℕ, _/_, _%_, _<_}
 use lib.Bits.{bitAnd}
 use lib.Dec.{ltb}
 use lib.ListN.{length}
+use Rattle.fields.specs.Lists.{tabulate}
 use Rattle.fields.specs.Elements.{xor}
-use Rattle.words.specs.Places.{at, bitOf, numberOf, bitAt}
+use Rattle.words.specs.Places.{at, bitOf, numberOf, bitAt, sumTo}
 use Rattle.frames.specs.Frames.{innerWord}
 use Rattle.frames.specs.Correction.{innerRestored}
 
@@ -15,6 +16,10 @@ use Rattle.frames.specs.Correction.{innerRestored}
 pub record Flipped (flips : List ℕ) (mask : ℕ) (before after : List ℕ) : Type 0 where
   pub long : length after ≡ length before
   pub bits : (i : ℕ) → i < 130560 → bitAt after i ≡ xor (bitAt before i) (bitOf 64 (bitAnd (at flips (i / 64)) mask) (i % 64))
+
+-- in how many places each inner word is to be inverted
+unfoldable pub flipCounts : List ℕ → List ℕ
+flipCounts flips = tabulate 64 (λ k. sumTo 2040 (λ p. bitOf 64 (at flips p) k))
 
 -- 1 for a count beyond the radius; and for each inner word
 unfoldable pub overRadius : ℕ → ℕ

@@ -9,7 +9,7 @@ ghost use Rattle.frames.specs.Correction.{reportOf, total};
 ghost use Rattle.frames.specs.Passes.{counted};
 
 // Counts one place of every inner word: bit k of x, the highest first, is 1 where word k is wrong there.
-fn count(counts: &mut [u16], x: u64)
+pub fn count(counts: &mut [u16], x: u64)
     requires { ⌜ (length (now counts) ≡ 64) × ((k : ℕ) → at (now counts) k ≤ 2040) ⌝ }
     ensures { λ _. ⌜ now (counts .exit) ≡ counted (now (counts .entry)) x ⌝ }
 {

@@ -1,14 +1,15 @@
 // The 64 inner words of a frame, side by side: eight bytes are one place of them all, the bits of one number. Their residues (module residues) give the
-// parity bits (module parity), and tell which inner words of a block are no code words; many of those are corrected at once (module proposals), few one by
-// one.
+// parity bits (module parity), and tell which inner words of a block are no code words; of those the ones with a single wrong place are corrected at sight,
+// many others at once (module proposals), few others one by one.
 use crate::Frame;
 use crate::parity;
 use crate::proposals;
 use crate::residues;
 use words::bch;
 use words::decoder;
+use words::reed_solomon;
 ghost use mathlib.Core.Path.{_≡_};
-ghost use mathlib.Core.Bool.{true, _&&_, cond};
+ghost use mathlib.Core.Bool.{true, false, _&&_, cond};
 ghost use Prim.Native.Nat.{ℕ, _+_, _*_, _≤_, _<_};
 ghost use lib.ListN.{length};
 ghost use Rattle.fields.specs.Lists.{tabulate};
@@ -21,8 +22,9 @@ ghost use Rattle.frames.specs.Frames.{innerWord, withParity};
 ghost use Rattle.frames.specs.Received.{innerCodes};
 ghost use Rattle.frames.specs.Symbols.{Placed};
 ghost use Rattle.frames.specs.SideBySide.{placeAt, parities, byteOf64, parityBytes};
-ghost use Rattle.frames.specs.InnerResidues.{WordResidues, oddValue};
-ghost use Rattle.frames.specs.Passes.{wrongWords, WordCorrected, InnerPassed};
+ghost use Rattle.frames.specs.InnerResidues.{WordResidues, oddValue, isSingle};
+ghost use Rattle.frames.specs.Passes.{wrongWords, WordCorrected, WordTried, InnerPassed};
+ghost use Rattle.frames.specs.Proposals.{Nearer};
 
 const PARITY_BYTES: usize = Frame::BYTES - Frame::DATA_BYTES;
 
@@ -147,6 +149,100 @@ fn odd_values(exp: &[u16], residues: &[u64], k: usize) -> bch::OddValues
     bch::OddValues { at }
 }
 
+// The order of a.
+const ORDER: usize = (1 << residues::DEGREE) - 1;
+
+// a^n, for an exponent of many times the order.
+fn power(exp: &[u16], n: usize) -> u16
+    requires { ⌜ length (now exp) ≡ 2047 ⌝ }
+    ensures { λ r. ⌜ r ≡ tablePower (now (exp .entry)) n ⌝ }
+{
+    exp[n % ORDER]
+}
+
+// Inner word k has the values of a single wrong place, whose locator is a^e, at a^3, .. a^15 too.
+fn is_single(exp: &[u16], residues: &[u64], k: usize, e: usize) -> bool
+    requires { ⌜ (length (now exp) ≡ 2047) × (length (now residues) ≡ 88) × (k < 64) × (e < 2040) ⌝ }
+    requires { ⌜ oddValue (now exp) (now residues) k 0 ≡ tablePower (now exp) e ⌝ }
+    ensures { λ r. ⌜ r ≡ isSingle (now (exp .entry)) (now (residues .entry)) k e ⌝ }
+{
+    let mut j: usize = 1;
+    while j < residues::FACTORS {
+        if odd_value(exp, residues, k, j) != power(exp, (2 * j + 1) * e) {
+            return false;
+        }
+        j += 1;
+    }
+    true
+}
+
+// Inner word k of the block is corrected if a single place of it is wrong, and the answer is true; else it is left as received.
+fn correct_single(exp: &[u16], log: &[u16], residues: &[u64], k: usize, block: &mut [u8]) -> bool
+    requires { ⌜ (now exp ≡ powersB) × (length (now residues) ≡ 88) × (length (now block) ≡ 16320) × (k < 64) ⌝ }
+    requires { ⌜ WordResidues (now residues) k (now block) ⌝ }
+    ensures corrected { λ r. ⌜ (r ≡ true → WordCorrected k (now (block .entry)) (now (block .exit)) true) ⌝ }
+    ensures left { λ r. ⌜ (r ≡ false → now (block .exit) ≡ now (block .entry)) ⌝ }
+{
+    let x = odd_value(exp, residues, k, 0);
+    let e = reed_solomon::symbol(log, x as usize) as usize;
+    if words::Inner::PLACES <= e {
+        return false;
+    }
+    if x != power(exp, e) {
+        return false;
+    }
+    if !is_single(exp, residues, k, e) {
+        return false;
+    }
+    bch::flip(
+        block,
+        Frame::INNER_WORDS * (words::Inner::PLACES - 1 - e) + k,
+        1,
+    );
+    true
+}
+
+// The same where the word's bit of those that are wrong is 1. The answer is 1 for a word that is left wrong.
+fn try_single(
+    exp: &[u16],
+    log: &[u16],
+    residues: &[u64],
+    wrong: u64,
+    k: usize,
+    block: &mut [u8],
+) -> u64
+    requires { ⌜ (now exp ≡ powersB) × (length (now residues) ≡ 88) × (length (now block) ≡ 16320) × (k < 64) ⌝ }
+    requires { ⌜ bitOf 64 wrong k ≡ cond (isInner (innerWord (bitAt (now block)) k)) 0 1 ⌝ }
+    requires { ⌜ (bitOf 64 wrong k ≡ 1 → WordResidues (now residues) k (now block)) ⌝ }
+    ensures { λ r. ⌜ WordTried k (now (block .entry)) (now (block .exit)) r ⌝ }
+{
+    if (wrong >> (Frame::INNER_WORDS - 1 - k)) & 1 == 1 {
+        if correct_single(exp, log, residues, k, block) {
+            return 0;
+        }
+        return 1;
+    }
+    0
+}
+
+// The inner words of the block with a single wrong place are corrected by their residues; what is left wrong is the answer, bit k, the highest first, for
+// word k.
+fn correct_singles(residues: &[u64], wrong: u64, block: &mut [u8]) -> u64
+    requires { ⌜ (length (now residues) ≡ 88) × (length (now block) ≡ 16320) × (wrong ≡ wrongWords (bitAt (now block))) ⌝ }
+    requires { ⌜ ((k : ℕ) → k < 64 → bitOf 64 wrong k ≡ 1 → WordResidues (now residues) k (now block)) ⌝ }
+    ensures { λ r. ⌜ (r ≡ wrongWords (bitAt (now (block .exit)))) × Nearer r (now (block .entry)) (now (block .exit)) ⌝ }
+{
+    let exp = fields::exp_b();
+    let log = fields::log_b();
+    let mut left: u64 = 0;
+    let mut k: usize = 0;
+    while k < Frame::INNER_WORDS {
+        left = 2 * left + try_single(&exp, &log, residues, wrong, k, block);
+        k += 1;
+    }
+    left
+}
+
 // Inner word k of the block becomes the code word within eight places, and the answer is true; without one it is left as received.
 fn correct_word(
     exp: &[u16],
@@ -228,10 +324,25 @@ fn correct_each(residues: &[u64], wrong: u64, block: &mut [u8]) -> bool
     all
 }
 
+// The inner words of the block that are no code words, by their residues: many at once, and what is left one by one. True only if all inner words are code
+// words then.
+fn correct_rest(residues: &[u64; words::Inner::PARITY], wrong: u64, block: &mut [u8]) -> bool
+    requires { ⌜ (length (now block) ≡ 16320) × (wrong ≡ wrongWords (bitAt (now block))) ⌝ }
+    requires { ⌜ ((k : ℕ) → k < 64 → bitOf 64 wrong k ≡ 1 → WordResidues (now residues) k (now block)) ⌝ }
+    ensures passed { λ _. ⌜ InnerPassed (now (block .entry)) (now (block .exit)) ⌝ }
+    ensures codes { λ r. ⌜ (r ≡ true → innerCodes (bitAt (now (block .exit))) ≡ true) ⌝ }
+{
+    let left = proposals::correct(residues, wrong, block);
+    if left == 0 {
+        return true;
+    }
+    correct_each(residues, left, block)
+}
+
 // The inner pass over a copy of the received block: each inner word becomes the code word within eight places; where there is none it is left as received.
 // True only if all inner words are code words then.
-pub fn correct(received: &[u8], block: &mut [u8]) -> bool
-    requires { ⌜ (length (now received) ≡ 16320) × (length (now block) ≡ 16320) × (now block ≡ now received) ⌝ }
+pub fn correct(block: &mut [u8]) -> bool
+    requires { ⌜ length (now block) ≡ 16320 ⌝ }
     ensures passed { λ _. ⌜ InnerPassed (now (block .entry)) (now (block .exit)) ⌝ }
     ensures codes { λ r. ⌜ (r ≡ true → innerCodes (bitAt (now (block .exit))) ≡ true) ⌝ }
 {
@@ -240,9 +351,9 @@ pub fn correct(received: &[u8], block: &mut [u8]) -> bool
     if wrong == 0 {
         return true;
     }
-    let left = proposals::correct(received, &residues, wrong, block);
+    let left = correct_singles(&residues, wrong, block);
     if left == 0 {
         return true;
     }
-    correct_each(&residues, left, block)
+    correct_rest(&residues, left, block)
 }

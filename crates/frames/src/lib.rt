@@ -184,7 +184,7 @@ pub fn correct_frame(block: &[u8], out: &mut [u8]) -> Report
     }
     let mut passed = inner_words::blank();
     bch::copy(block, &mut passed);
-    let inner = inner_words::correct(block, &mut passed);
+    let inner = inner_words::correct(&mut passed);
     if !outer_pass(&passed, inner, out) {
         return refused(5);
     }

@@ -12,7 +12,7 @@ ghost use Rattle.words.specs.Places.{bitAt};
 ghost use Rattle.frames.specs.SideBySide.{byteOf64};
 ghost use Rattle.frames.specs.Symbols.{Placed};
 ghost use Rattle.frames.specs.Passes.{wrongWords};
-ghost use Rattle.frames.specs.Proposals.{Flipped, overRadius, beyondRadius, Nearer};
+ghost use Rattle.frames.specs.Proposals.{Flipped, flipCounts, overRadius, beyondRadius, Nearer};
 
 // Every inner word.
 const ALL: u64 = 0xffff_ffff_ffff_ffff;
@@ -67,18 +67,33 @@ fn beyond_radius(counts: &[u16]) -> u64
     m
 }
 
-// Takes the proposal in a copy of the received block, where it holds; what is left as received and is no code word is the answer, bit k, the highest first,
-// for word k.
-pub fn take(received: &[u8], wrong: u64, flips: &[u64], block: &mut [u8]) -> u64
-    requires { ⌜ (length (now received) ≡ 16320) × (length (now block) ≡ 16320) × (length (now flips) ≡ 2040) ⌝ }
-    requires { ⌜ now block ≡ now received ⌝ }
+// In how many places the proposal inverts each inner word.
+fn flip_counts(flips: &[u64]) -> [u16; Frame::INNER_WORDS]
+    requires { ⌜ length (now flips) ≡ 2040 ⌝ }
+    ensures { λ r. ⌜ r ≡ flipCounts (now (flips .entry)) ⌝ }
+{
+    let mut counts = [0u16; Frame::INNER_WORDS];
+    let mut p: usize = 0;
+    while p < words::Inner::PLACES {
+        comparison::count(&mut counts, flips[p]);
+        p += 1;
+    }
+    counts
+}
+
+// Takes the proposal in the block, where it holds; what is left as it was and is no code word is the answer, bit k, the highest first, for word k.
+pub fn take(wrong: u64, flips: &[u64], block: &mut [u8]) -> u64
+    requires { ⌜ (length (now block) ≡ 16320) × (length (now flips) ≡ 2040) ⌝ }
     requires { ⌜ wrong ≡ wrongWords (bitAt (now block)) ⌝ }
     ensures { λ r. ⌜ (r ≡ wrongWords (bitAt (now (block .exit)))) × Nearer r (now (block .entry)) (now (block .exit)) ⌝ }
 {
     flip_places(flips, ALL, block);
     let wrong_now = inner_words::wrong_words(block);
-    let counts = comparison::counts(received, block);
+    let counts = flip_counts(flips);
     let back = wrong_now | beyond_radius(&counts);
+    if back == 0 {
+        return 0;
+    }
     flip_places(flips, back, block);
     wrong & back
 }
@@ -107,15 +122,10 @@ fn blank() -> [u64; words::Inner::PLACES]
     [0; words::Inner::PLACES]
 }
 
-// Where many inner words of the block are wrong, a proposal is made and taken; the wrong words that are left are the answer.
-pub fn correct(
-    received: &[u8],
-    residues: &[u64; words::Inner::PARITY],
-    wrong: u64,
-    block: &mut [u8],
-) -> u64
-    requires { ⌜ (length (now received) ≡ 16320) × (length (now block) ≡ 16320) ⌝ }
-    requires { ⌜ (now block ≡ now received) × (wrong ≡ wrongWords (bitAt (now block))) ⌝ }
+// Where many inner words of the block are wrong, a proposal is made by the residues of the wrong ones, and taken; the wrong words that are left are the
+// answer.
+pub fn correct(residues: &[u64; words::Inner::PARITY], wrong: u64, block: &mut [u8]) -> u64
+    requires { ⌜ (length (now block) ≡ 16320) × (wrong ≡ wrongWords (bitAt (now block))) ⌝ }
     ensures { λ r. ⌜ (r ≡ wrongWords (bitAt (now (block .exit)))) × Nearer r (now (block .entry)) (now (block .exit)) ⌝ }
 {
     if !has_many(wrong) {
@@ -123,5 +133,5 @@ pub fn correct(
     }
     let mut flips = blank();
     side_by_side::propose(residues, wrong, &mut flips);
-    take(received, wrong, &flips, block)
+    take(wrong, &flips, block)
 }

@@ -1,12 +1,12 @@
 -- `frames::comparison::counts` meets its contract. Assumes nothing.
 use Prim.Native.Nat.{_-_, _≤_}
 use borrow.Author.Needs.{needs}
-use Rattle.frames.proofs.ReportCounts.{Counting, counting-start, counting-few, counting-next, counting-end}
+use Rattle.frames.proofs.ReportCounts.{Counting, differences, counting-start, counting-few, report-next, report-end}
 use Rattle.frames.proofs.comparison.counts.Statement.{statement}
 use Rattle.frames.proofs.comparison.counts.Tie as tie
 
 abbrev Inv-loop : tie.InvT-loop
-Inv-loop block frame counts₀ p₀ counts p = (p ≤ 2040) × Counting block frame p counts
+Inv-loop block frame counts₀ p₀ counts p = (p ≤ 2040) × Counting (differences block frame) p counts
 
 abbrev μ-loop : tie.MeasureT-loop
 μ-loop block frame counts₀ p₀ counts p = 2040 - p
@@ -33,10 +33,10 @@ loop-less : tie.Need-loop-less Inv-loop μ-loop
 loop-less c = search needs
 
 loop-again : tie.Need-loop-again Inv-loop μ-loop
-loop-again c = search (needs, counting-next)
+loop-again c = search (needs, report-next)
 
 returns : tie.Need-returns Inv-loop μ-loop
-returns c = search (needs, counting-end)
+returns c = search (needs, report-end)
 
 pub counts-spec : {M : Type 1} → statement M
 counts-spec =

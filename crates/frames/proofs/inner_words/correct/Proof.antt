@@ -1,6 +1,6 @@
 -- `frames::inner_words::correct` meets its contract. Assumes nothing.
 use borrow.Author.Needs.{needs}
-use Rattle.frames.proofs.WordErrors.{left-residues}
+use Rattle.frames.proofs.WordErrors.{whole-residues, left-residues}
 use Rattle.frames.proofs.ResidueCodes.{words-wrong}
 use Rattle.frames.proofs.InnerPass.{none-codes, none-passed}
 use Rattle.frames.proofs.TakenProposals.{nearer-passed, nearer-done}
@@ -22,8 +22,11 @@ same-length c = search needs
 returns : tie.Need-returns
 returns c = (search (needs, words-wrong, none-passed), λ t. search (needs, words-wrong, none-codes))
 
-correct-requires : tie.Need-correct-requires
-correct-requires c κs = search (needs, words-wrong)
+slice-aggregate-correct-singles : tie.Need-slice-aggregate-correct-singles
+slice-aggregate-correct-singles c = search needs
+
+correct-singles-requires : tie.Need-correct-singles-requires
+correct-singles-requires c κs = (search (needs, words-wrong), λ k l q. search (needs, whole-residues))
 
 same-length-2 : tie.Need-same-length-2
 same-length-2 c = search needs
@@ -31,11 +34,8 @@ same-length-2 c = search needs
 returns-2 : tie.Need-returns-2
 returns-2 c = (search (needs, nearer-done), λ t. search (needs, none-codes))
 
-slice-aggregate-correct-each : tie.Need-slice-aggregate-correct-each
-slice-aggregate-correct-each c = search needs
-
-correct-each-requires : tie.Need-correct-each-requires
-correct-each-requires c κs = (search needs, λ k l q. search (needs, left-residues))
+correct-rest-requires : tie.Need-correct-rest-requires
+correct-rest-requires c κs = (search needs, λ k l q. search (needs, left-residues))
 
 same-length-3 : tie.Need-same-length-3
 same-length-3 c = search needs
@@ -52,10 +52,10 @@ correct-spec =
     wrong-requires
     same-length
     returns
-    correct-requires
+    slice-aggregate-correct-singles
+    correct-singles-requires
     same-length-2
     returns-2
-    slice-aggregate-correct-each
-    correct-each-requires
+    correct-rest-requires
     same-length-3
     returns-3)

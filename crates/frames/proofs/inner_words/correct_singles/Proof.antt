@@ -1,0 +1,71 @@
+-- `frames::inner_words::correct_singles` meets its contract. Assumes nothing.
+use borrow.Author.Needs.{needs}
+use Rattle.frames.proofs.SingleErrors.{Trying, trying-start, trying-wrong, trying-residues, trying-twice, trying-fits, trying-next, trying-left, trying-end}
+use Prim.Native.Nat.{_-_}
+use Rattle.frames.proofs.inner_words.correct_singles.Statement.{statement}
+use Rattle.frames.proofs.inner_words.correct_singles.Tie as tie
+
+abbrev Inv-loop : tie.InvT-loop
+Inv-loop residues wrong block₀ exp log left₀ k₀ block left k = Trying block₀ k left block
+
+abbrev μ-loop : tie.MeasureT-loop
+μ-loop residues wrong block₀ exp log left₀ k₀ block left k = 64 - k
+
+exp-b-requires : tie.Need-exp-b-requires Inv-loop μ-loop
+exp-b-requires c κs = search needs
+
+log-b-requires : tie.Need-log-b-requires Inv-loop μ-loop
+log-b-requires c κs = search needs
+
+loop-holds : tie.Need-loop-holds Inv-loop μ-loop
+loop-holds c = search (needs, trying-start)
+
+mul-left : tie.Need-mul-left Inv-loop μ-loop
+mul-left c = search (needs, trying-twice)
+
+slice-aggregate-try-single : tie.Need-slice-aggregate-try-single Inv-loop μ-loop
+slice-aggregate-try-single c = search needs
+
+slice-aggregate-try-single-2 : tie.Need-slice-aggregate-try-single-2 Inv-loop μ-loop
+slice-aggregate-try-single-2 c = search needs
+
+try-single-requires : tie.Need-try-single-requires Inv-loop μ-loop
+try-single-requires c κs = (search needs, (search (needs, trying-wrong), λ q. search (needs, trying-residues)))
+
+add-left : tie.Need-add-left Inv-loop μ-loop
+add-left c = search (needs, trying-fits)
+
+add-k : tie.Need-add-k Inv-loop μ-loop
+add-k c = search needs
+
+loop-less : tie.Need-loop-less Inv-loop μ-loop
+loop-less c = search needs
+
+loop-again : tie.Need-loop-again Inv-loop μ-loop
+loop-again c = search (needs, trying-next)
+
+same-length : tie.Need-same-length Inv-loop μ-loop
+same-length c = search needs
+
+returns : tie.Need-returns Inv-loop μ-loop
+returns c = (search (needs, trying-left), search (needs, trying-end))
+
+pub correct-singles-spec : {M : Type 1} → statement M
+correct-singles-spec =
+    tie.close
+    (tie.spec
+    Inv-loop
+    μ-loop
+    exp-b-requires
+    log-b-requires
+    loop-holds
+    mul-left
+    slice-aggregate-try-single
+    slice-aggregate-try-single-2
+    try-single-requires
+    add-left
+    add-k
+    loop-less
+    loop-again
+    same-length
+    returns)

@@ -18,7 +18,7 @@ use Rattle.fields.specs.Lists.{tabulate}
 use Rattle.fields.specs.Elements.{xor, scale}
 use Rattle.fields.proofs.Lists.{tabulate-at, tabulate-length, tabulate-same}
 use Rattle.fields.proofs.Xor.{xor-assoc, xor-cancel, xor-self, xor-zero-r}
-use Rattle.words.specs.Places.{at, bitOf, numberOf, bitAt, differs, apart}
+use Rattle.words.specs.Places.{at, bitOf, numberOf, bitAt, sumTo, differs, apart}
 use Rattle.words.specs.InnerCode.{isInner}
 use Rattle.words.proofs.Places.Counting.{sum-same}
 use Rattle.words.proofs.Places.Numbers.{bitOf-lt, bitOf-zero, bitOf-number, numberOf-lt, numberOf-same, numberOf-bits}
@@ -31,7 +31,8 @@ use Rattle.frames.specs.Correction.{innerRestored, innerPass}
 use Rattle.frames.specs.SideBySide.{placeAt, byteOf64}
 use Rattle.frames.specs.Symbols.{Placed}
 use Rattle.frames.specs.Passes.{wrongWords, InnerPassed}
-use Rattle.frames.specs.Proposals.{Flipped, flipCounts, overRadius, beyondRadius, Nearer}
+use Rattle.frames.specs.Proposals.{Flipped, flipCounts, overRadius, beyondRadius, ones, Nearer}
+use Rattle.frames.proofs.Windows.{masked-bit}
 use Rattle.frames.proofs.Placing.{Placing, placing-start, placing-next, placing-end}
 use Rattle.frames.proofs.Differences.{apart-tables}
 use Rattle.frames.proofs.FrameBits.{inner-word-length}
@@ -162,6 +163,33 @@ module _ {counts : List ℕ} {k m : ℕ} (s : Testing counts k m) where
   pub testing-end : 64 ≤ k → m ≡ beyondRadius counts
   unfolding beyondRadius
   testing-end l = let e : k ≡ 64 = omega (arith, s .within) in rw e at (s .value)
+
+-- ---- how many inner words are wrong
+
+-- the invariant: the first k bits are counted
+pub record Ones (x k n : ℕ) : Type 0 where
+  pub within : k ≤ 64
+  pub value : n ≡ sumTo k (bitOf 64 x)
+  pub few : n ≤ k
+
+pub ones-start : {x : ℕ} → Ones x 0 0
+unfolding sumTo
+ones-start = record { within = zero-le; value = refl; few = zero-le }
+
+module _ {x k n : ℕ} (s : Ones x k n) (l : k < 64) where
+  here-is : bitAnd (x / 2 ^ (63 - k)) 1 ≡ bitOf 64 x k
+  here-is = masked-bit 64 x k (63 - k) (omega arith)
+
+  pub ones-fits : Fits w64 (n + bitAnd (x / 2 ^ (63 - k)) 1)
+  ones-fits = record { fits = omega (arith, s .few, here-is, bitOf-lt 64 x k) }
+
+  pub ones-next : Ones x (k + 1) (n + bitAnd (x / 2 ^ (63 - k)) 1)
+  unfolding sumTo
+  ones-next = record { within = omega arith; value = rw (add-one, here-is, s .value); few = omega (arith, s .few, here-is, bitOf-lt 64 x k) }
+
+pub ones-end : {x k n : ℕ} → Ones x k n → 64 ≤ k → n ≡ ones x
+unfolding ones
+ones-end {x} {k} s h = let e : k ≡ 64 = omega (arith, s .within) in rw e at (s .value)
 
 -- ---- the test of a proposal
 

@@ -28,6 +28,10 @@ overRadius count = cond (ltb 8 count) 1 0
 unfoldable pub beyondRadius : List ℕ → ℕ
 beyondRadius counts = numberOf 64 (λ k. overRadius (at counts k))
 
+-- how many of 64 bits are 1
+unfoldable pub ones : ℕ → ℕ
+ones x = sumTo 64 (bitOf 64 x)
+
 -- inner words may have become code words within eight places: what they are restored to is the same. Those that `left` has a 1 for are as they were
 pub record Nearer (left : ℕ) (before after : List ℕ) : Type 0 where
   pub long : length after ≡ length before

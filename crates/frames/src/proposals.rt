@@ -12,7 +12,7 @@ ghost use Rattle.words.specs.Places.{bitAt};
 ghost use Rattle.frames.specs.SideBySide.{byteOf64};
 ghost use Rattle.frames.specs.Symbols.{Placed};
 ghost use Rattle.frames.specs.Passes.{wrongWords};
-ghost use Rattle.frames.specs.Proposals.{Flipped, flipCounts, overRadius, beyondRadius, Nearer};
+ghost use Rattle.frames.specs.Proposals.{Flipped, flipCounts, overRadius, beyondRadius, ones, Nearer};
 
 // Every inner word.
 const ALL: u64 = 0xffff_ffff_ffff_ffff;
@@ -101,18 +101,17 @@ pub fn take(wrong: u64, flips: &[u64], block: &mut [u8]) -> u64
 // More wrong inner words than this are worth a proposal; a proposal for one takes as long as for all.
 const FEW: usize = 10;
 
-// The number has more bits than that.
-fn has_many(x: u64) -> bool {
-    let mut y = x;
-    let mut i: usize = 0;
-    while i < FEW {
-        if y == 0 {
-            return false;
-        }
-        y = y & (y - 1);
-        i += 1;
+// How many bits of the number are 1.
+fn ones(x: u64) -> usize
+    ensures { λ r. ⌜ r ≡ ones x ⌝ }
+{
+    let mut n: usize = 0;
+    let mut k: usize = 0;
+    while k < Frame::INNER_WORDS {
+        n += ((x >> (Frame::INNER_WORDS - 1 - k)) & 1) as usize;
+        k += 1;
     }
-    y != 0
+    n
 }
 
 // A proposal to write into: its length is all that is promised.
@@ -128,7 +127,7 @@ pub fn correct(residues: &[u64; words::Inner::PARITY], wrong: u64, block: &mut [
     requires { ⌜ (length (now block) ≡ 16320) × (wrong ≡ wrongWords (bitAt (now block))) ⌝ }
     ensures { λ r. ⌜ (r ≡ wrongWords (bitAt (now (block .exit)))) × Nearer r (now (block .entry)) (now (block .exit)) ⌝ }
 {
-    if !has_many(wrong) {
+    if ones(wrong) <= FEW {
         return wrong;
     }
     let mut flips = blank();

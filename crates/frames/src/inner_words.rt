@@ -152,7 +152,7 @@ fn odd_values(exp: &[u16], residues: &[u64], k: usize) -> bch::OddValues
 // The order of a.
 const ORDER: usize = (1 << residues::DEGREE) - 1;
 
-// a^n, for an exponent of many times the order.
+// a^n, by one division: the exponent may be many times the order.
 fn power(exp: &[u16], n: usize) -> u16
     requires { ⌜ length (now exp) ≡ 2047 ⌝ }
     ensures { λ r. ⌜ r ≡ tablePower (now (exp .entry)) n ⌝ }

@@ -227,17 +227,16 @@ fn try_single(
 
 // The inner words of the block with a single wrong place are corrected by their residues; what is left wrong is the answer, bit k, the highest first, for
 // word k.
-fn correct_singles(residues: &[u64], wrong: u64, block: &mut [u8]) -> u64
+fn correct_singles(exp: &[u16], log: &[u16], residues: &[u64], wrong: u64, block: &mut [u8]) -> u64
+    requires { ⌜ now exp ≡ powersB ⌝ }
     requires { ⌜ (length (now residues) ≡ 88) × (length (now block) ≡ 16320) × (wrong ≡ wrongWords (bitAt (now block))) ⌝ }
     requires { ⌜ ((k : ℕ) → k < 64 → bitOf 64 wrong k ≡ 1 → WordResidues (now residues) k (now block)) ⌝ }
     ensures { λ r. ⌜ (r ≡ wrongWords (bitAt (now (block .exit)))) × Nearer r (now (block .entry)) (now (block .exit)) ⌝ }
 {
-    let exp = fields::exp_b();
-    let log = fields::log_b();
     let mut left: u64 = 0;
     let mut k: usize = 0;
     while k < Frame::INNER_WORDS {
-        left = 2 * left + try_single(&exp, &log, residues, wrong, k, block);
+        left = 2 * left + try_single(exp, log, residues, wrong, k, block);
         k += 1;
     }
     left
@@ -302,14 +301,13 @@ fn blank_rows() -> [u16; decoder::ROWS]
 }
 
 // The inner words of the block that are no code words, one after the other, by their residues. True only if all inner words are code words then.
-fn correct_each(residues: &[u64], wrong: u64, block: &mut [u8]) -> bool
+fn correct_each(exp: &[u16], log: &[u16], residues: &[u64], wrong: u64, block: &mut [u8]) -> bool
+    requires { ⌜ (now exp ≡ powersB) × (now log ≡ exponentsB) ⌝ }
     requires { ⌜ (length (now residues) ≡ 88) × (length (now block) ≡ 16320) × (wrong ≡ wrongWords (bitAt (now block))) ⌝ }
     requires { ⌜ ((k : ℕ) → k < 64 → bitOf 64 wrong k ≡ 1 → WordResidues (now residues) k (now block)) ⌝ }
     ensures passed { λ _. ⌜ InnerPassed (now (block .entry)) (now (block .exit)) ⌝ }
     ensures codes { λ r. ⌜ (r ≡ true → innerCodes (bitAt (now (block .exit))) ≡ true) ⌝ }
 {
-    let exp = fields::exp_b();
-    let log = fields::log_b();
     let mut rows = blank_rows();
     decoder::empty_rows(&mut rows);
     let mut all = true;
@@ -317,7 +315,7 @@ fn correct_each(residues: &[u64], wrong: u64, block: &mut [u8]) -> bool
     while k < Frame::INNER_WORDS {
         all = both(
             all,
-            correct_wrong(&exp, &log, &mut rows, residues, wrong, k, block),
+            correct_wrong(exp, log, &mut rows, residues, wrong, k, block),
         );
         k += 1;
     }
@@ -326,7 +324,14 @@ fn correct_each(residues: &[u64], wrong: u64, block: &mut [u8]) -> bool
 
 // The inner words of the block that are no code words, by their residues: many at once, and what is left one by one. True only if all inner words are code
 // words then.
-fn correct_rest(residues: &[u64; words::Inner::PARITY], wrong: u64, block: &mut [u8]) -> bool
+fn correct_rest(
+    exp: &[u16],
+    log: &[u16],
+    residues: &[u64; words::Inner::PARITY],
+    wrong: u64,
+    block: &mut [u8],
+) -> bool
+    requires { ⌜ (now exp ≡ powersB) × (now log ≡ exponentsB) ⌝ }
     requires { ⌜ (length (now block) ≡ 16320) × (wrong ≡ wrongWords (bitAt (now block))) ⌝ }
     requires { ⌜ ((k : ℕ) → k < 64 → bitOf 64 wrong k ≡ 1 → WordResidues (now residues) k (now block)) ⌝ }
     ensures passed { λ _. ⌜ InnerPassed (now (block .entry)) (now (block .exit)) ⌝ }
@@ -336,7 +341,7 @@ fn correct_rest(residues: &[u64; words::Inner::PARITY], wrong: u64, block: &mut 
     if left == 0 {
         return true;
     }
-    correct_each(residues, left, block)
+    correct_each(exp, log, residues, left, block)
 }
 
 // The inner pass over a copy of the received block: each inner word becomes the code word within eight places; where there is none it is left as received.
@@ -351,9 +356,11 @@ pub fn correct(block: &mut [u8]) -> bool
     if wrong == 0 {
         return true;
     }
-    let left = correct_singles(&residues, wrong, block);
+    let exp = fields::exp_b();
+    let log = fields::log_b();
+    let left = correct_singles(&exp, &log, &residues, wrong, block);
     if left == 0 {
         return true;
     }
-    correct_rest(&residues, left, block)
+    correct_rest(&exp, &log, &residues, left, block)
 }

@@ -22,11 +22,23 @@ same-length c = search needs
 returns : tie.Need-returns
 returns c = (search (needs, words-wrong, none-passed), λ t. search (needs, words-wrong, none-codes))
 
+exp-b-requires : tie.Need-exp-b-requires
+exp-b-requires c κs = search needs
+
+log-b-requires : tie.Need-log-b-requires
+log-b-requires c κs = search needs
+
 slice-aggregate-correct-singles : tie.Need-slice-aggregate-correct-singles
 slice-aggregate-correct-singles c = search needs
 
+slice-aggregate-correct-singles-2 : tie.Need-slice-aggregate-correct-singles-2
+slice-aggregate-correct-singles-2 c = search needs
+
+slice-aggregate-correct-singles-3 : tie.Need-slice-aggregate-correct-singles-3
+slice-aggregate-correct-singles-3 c = search needs
+
 correct-singles-requires : tie.Need-correct-singles-requires
-correct-singles-requires c κs = (search (needs, words-wrong), λ k l q. search (needs, whole-residues))
+correct-singles-requires c κs = (search needs, (search (needs, words-wrong), λ k l q. search (needs, whole-residues)))
 
 same-length-2 : tie.Need-same-length-2
 same-length-2 c = search needs
@@ -34,8 +46,14 @@ same-length-2 c = search needs
 returns-2 : tie.Need-returns-2
 returns-2 c = (search (needs, nearer-done), λ t. search (needs, none-codes))
 
+slice-aggregate-correct-rest : tie.Need-slice-aggregate-correct-rest
+slice-aggregate-correct-rest c = search needs
+
+slice-aggregate-correct-rest-2 : tie.Need-slice-aggregate-correct-rest-2
+slice-aggregate-correct-rest-2 c = search needs
+
 correct-rest-requires : tie.Need-correct-rest-requires
-correct-rest-requires c κs = (search needs, λ k l q. search (needs, left-residues))
+correct-rest-requires c κs = (search needs, (search needs, λ k l q. search (needs, left-residues)))
 
 same-length-3 : tie.Need-same-length-3
 same-length-3 c = search needs
@@ -52,10 +70,16 @@ correct-spec =
     wrong-requires
     same-length
     returns
+    exp-b-requires
+    log-b-requires
     slice-aggregate-correct-singles
+    slice-aggregate-correct-singles-2
+    slice-aggregate-correct-singles-3
     correct-singles-requires
     same-length-2
     returns-2
+    slice-aggregate-correct-rest
+    slice-aggregate-correct-rest-2
     correct-rest-requires
     same-length-3
     returns-3)

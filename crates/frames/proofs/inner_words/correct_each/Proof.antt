@@ -8,16 +8,10 @@ use Rattle.frames.proofs.inner_words.correct_each.Statement.{statement}
 use Rattle.frames.proofs.inner_words.correct_each.Tie as tie
 
 abbrev Inv-loop : tie.InvT-loop
-Inv-loop residues wrong block₀ exp log rows₀ all₀ k₀ block rows all k = Passing block₀ k all block × Rows exp rows
+Inv-loop exp log residues wrong block₀ rows₀ all₀ k₀ block rows all k = Passing block₀ k all block × Rows exp rows
 
 abbrev μ-loop : tie.MeasureT-loop
-μ-loop residues wrong block₀ exp log rows₀ all₀ k₀ block rows all k = 64 - k
-
-exp-b-requires : tie.Need-exp-b-requires Inv-loop μ-loop
-exp-b-requires c κs = search needs
-
-log-b-requires : tie.Need-log-b-requires Inv-loop μ-loop
-log-b-requires c κs = search needs
+μ-loop exp log residues wrong block₀ rows₀ all₀ k₀ block rows all k = 64 - k
 
 blank-rows-requires : tie.Need-blank-rows-requires Inv-loop μ-loop
 blank-rows-requires c κs = search needs
@@ -34,12 +28,6 @@ loop-holds c = (search (needs, passing-start), c .before .empty-rows .ensures _)
 slice-aggregate-correct-wrong : tie.Need-slice-aggregate-correct-wrong Inv-loop μ-loop
 slice-aggregate-correct-wrong c = search needs
 
-slice-aggregate-correct-wrong-2 : tie.Need-slice-aggregate-correct-wrong-2 Inv-loop μ-loop
-slice-aggregate-correct-wrong-2 c = search needs
-
-slice-aggregate-correct-wrong-3 : tie.Need-slice-aggregate-correct-wrong-3 Inv-loop μ-loop
-slice-aggregate-correct-wrong-3 c = search needs
-
 correct-wrong-requires : tie.Need-correct-wrong-requires Inv-loop μ-loop
 correct-wrong-requires c κs = (search needs, (search needs, (search (needs, passing-wrong), λ q. search (needs, left-ahead))))
 
@@ -53,7 +41,7 @@ loop-less : tie.Need-loop-less Inv-loop μ-loop
 loop-less c = search needs
 
 loop-again : tie.Need-loop-again Inv-loop μ-loop
-loop-again c = (passing-next (c .before .before .before .before .before .before .before .before .before .before .loop .inv .0) (search needs) (c .before .before .before .before .correct-wrong .ensures .0) (c .both .ensures), search needs)
+loop-again c = (passing-next (c .before .before .before .before .before .before .before .before .loop .inv .0) (search needs) (c .before .before .before .before .correct-wrong .ensures .0) (c .both .ensures), search needs)
 
 same-length : tie.Need-same-length Inv-loop μ-loop
 same-length c = search needs
@@ -67,15 +55,11 @@ correct-each-spec =
     (tie.spec
     Inv-loop
     μ-loop
-    exp-b-requires
-    log-b-requires
     blank-rows-requires
     slice-aggregate-empty-rows
     empty-rows-requires
     loop-holds
     slice-aggregate-correct-wrong
-    slice-aggregate-correct-wrong-2
-    slice-aggregate-correct-wrong-3
     correct-wrong-requires
     both-requires
     add-k

@@ -16,7 +16,7 @@ returns : tie.Need-returns
 returns c = (search (needs, nearer-done), λ t. search (needs, none-codes))
 
 correct-each-requires : tie.Need-correct-each-requires
-correct-each-requires c κs = (search needs, λ k l q. search (needs, rest-residues))
+correct-each-requires c κs = (search needs, (search needs, λ k l q. search (needs, rest-residues)))
 
 same-length-2 : tie.Need-same-length-2
 same-length-2 c = search needs

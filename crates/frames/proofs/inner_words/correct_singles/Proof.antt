@@ -6,28 +6,16 @@ use Rattle.frames.proofs.inner_words.correct_singles.Statement.{stateme
 use Rattle.frames.proofs.inner_words.correct_singles.Tie as tie
 
 abbrev Inv-loop : tie.InvT-loop
-Inv-loop residues wrong block₀ exp log left₀ k₀ block left k = Trying block₀ k left block
+Inv-loop exp log residues wrong block₀ left₀ k₀ block left k = Trying block₀ k left block
 
 abbrev μ-loop : tie.MeasureT-loop
-μ-loop residues wrong block₀ exp log left₀ k₀ block left k = 64 - k
-
-exp-b-requires : tie.Need-exp-b-requires Inv-loop μ-loop
-exp-b-requires c κs = search needs
-
-log-b-requires : tie.Need-log-b-requires Inv-loop μ-loop
-log-b-requires c κs = search needs
+μ-loop exp log residues wrong block₀ left₀ k₀ block left k = 64 - k
 
 loop-holds : tie.Need-loop-holds Inv-loop μ-loop
 loop-holds c = search (needs, trying-start)
 
 mul-left : tie.Need-mul-left Inv-loop μ-loop
 mul-left c = search (needs, trying-twice)
-
-slice-aggregate-try-single : tie.Need-slice-aggregate-try-single Inv-loop μ-loop
-slice-aggregate-try-single c = search needs
-
-slice-aggregate-try-single-2 : tie.Need-slice-aggregate-try-single-2 Inv-loop μ-loop
-slice-aggregate-try-single-2 c = search needs
 
 try-single-requires : tie.Need-try-single-requires Inv-loop μ-loop
 try-single-requires c κs = (search needs, (search (needs, trying-wrong), λ q. search (needs, trying-residues)))
@@ -56,12 +44,8 @@ correct-singles-spec =
     (tie.spec
     Inv-loop
     μ-loop
-    exp-b-requires
-    log-b-requires
     loop-holds
     mul-left
-    slice-aggregate-try-single
-    slice-aggregate-try-single-2
     try-single-requires
     add-left
     add-k

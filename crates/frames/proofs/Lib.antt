@@ -14,6 +14,7 @@ pub mod ParityBits
 pub mod InnerSteps
 pub mod InnerPass
 pub mod ReportCounts
+pub mod LaneSteps
 pub mod TakenProposals
 pub mod WordErrors
 pub mod SingleErrors

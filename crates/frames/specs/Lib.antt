@@ -13,3 +13,4 @@ pub mod InnerResidues
 pub mod ParityMatrix
 pub mod Passes
 pub mod Proposals
+pub mod LaneSteps

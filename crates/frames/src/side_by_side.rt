@@ -11,6 +11,7 @@ use crate::residues::Lanes;
 ghost use mathlib.Core.Path.{_≡_};
 ghost use Prim.Native.Nat.{_+_, _≤_, _<_};
 ghost use lib.ListN.{length};
+ghost use Rattle.frames.specs.LaneSteps.{bit, sum, masked, nonzero, doubled, timesPower, productStep, product, square, chosen, coordinates, row};
 
 // Bits of an element.
 const BITS: usize = 11;
@@ -32,7 +33,9 @@ const RESIDUES: usize = 88;
 const ALL: u64 = 0xffff_ffff_ffff_ffff;
 
 // The element 0 or 1 of each inner word, by its bit of x.
-fn bit(x: u64) -> Lanes {
+fn bit(x: u64) -> Lanes
+    ensures { λ r. ⌜ r ≡ bit x ⌝ }
+{
     Lanes {
         r0: x,
         r1: 0,
@@ -48,7 +51,9 @@ fn bit(x: u64) -> Lanes {
     }
 }
 
-fn sum(x: Lanes, y: Lanes) -> Lanes {
+fn sum(x: Lanes, y: Lanes) -> Lanes
+    ensures { λ r. ⌜ r ≡ sum x y ⌝ }
+{
     Lanes {
         r0: x.r0 ^ y.r0,
         r1: x.r1 ^ y.r1,
@@ -65,7 +70,9 @@ fn sum(x: Lanes, y: Lanes) -> Lanes {
 }
 
 // x in the inner words of the mask, 0 in the others.
-fn masked(x: Lanes, mask: u64) -> Lanes {
+fn masked(x: Lanes, mask: u64) -> Lanes
+    ensures { λ r. ⌜ r ≡ masked x mask ⌝ }
+{
     Lanes {
         r0: x.r0 & mask,
         r1: x.r1 & mask,
@@ -82,12 +89,16 @@ fn masked(x: Lanes, mask: u64) -> Lanes {
 }
 
 // The inner words in which x is not zero.
-fn nonzero(x: Lanes) -> u64 {
+fn nonzero(x: Lanes) -> u64
+    ensures { λ r. ⌜ r ≡ nonzero x ⌝ }
+{
     x.r0 | x.r1 | x.r2 | x.r3 | x.r4 | x.r5 | x.r6 | x.r7 | x.r8 | x.r9 | x.r10
 }
 
 // a times x: z^11 is z^2 + 1.
-fn doubled(x: Lanes) -> Lanes {
+fn doubled(x: Lanes) -> Lanes
+    ensures { λ r. ⌜ r ≡ doubled x ⌝ }
+{
     Lanes {
         r0: x.r10,
         r1: x.r0,
@@ -104,20 +115,28 @@ fn doubled(x: Lanes) -> Lanes {
 }
 
 // a^2, a^4 and a^8 times x.
-fn times_a2(x: Lanes) -> Lanes {
+fn times_a2(x: Lanes) -> Lanes
+    ensures { λ r. ⌜ r ≡ timesPower x 2 ⌝ }
+{
     doubled(doubled(x))
 }
 
-fn times_a4(x: Lanes) -> Lanes {
+fn times_a4(x: Lanes) -> Lanes
+    ensures { λ r. ⌜ r ≡ timesPower x 4 ⌝ }
+{
     times_a2(times_a2(x))
 }
 
-fn times_a8(x: Lanes) -> Lanes {
+fn times_a8(x: Lanes) -> Lanes
+    ensures { λ r. ⌜ r ≡ timesPower x 8 ⌝ }
+{
     times_a4(times_a4(x))
 }
 
 // a^n times x.
-fn times_power(x: Lanes, n: usize) -> Lanes {
+fn times_power(x: Lanes, n: usize) -> Lanes
+    ensures { λ r. ⌜ r ≡ timesPower x n ⌝ }
+{
     let mut y = x;
     let mut i: usize = 0;
     while i < n {
@@ -128,11 +147,15 @@ fn times_power(x: Lanes, n: usize) -> Lanes {
 }
 
 // One more bit of y, the highest first, in the product of x and y.
-fn product_step(p: Lanes, x: Lanes, y: u64) -> Lanes {
+fn product_step(p: Lanes, x: Lanes, y: u64) -> Lanes
+    ensures { λ r. ⌜ r ≡ productStep p x y ⌝ }
+{
     sum(doubled(p), masked(x, y))
 }
 
-fn product(x: Lanes, y: Lanes) -> Lanes {
+fn product(x: Lanes, y: Lanes) -> Lanes
+    ensures { λ r. ⌜ r ≡ product x y ⌝ }
+{
     let p9 = product_step(masked(x, y.r10), x, y.r9);
     let p8 = product_step(p9, x, y.r8);
     let p7 = product_step(p8, x, y.r7);
@@ -146,7 +169,9 @@ fn product(x: Lanes, y: Lanes) -> Lanes {
 }
 
 // The product with a coefficient x, which often is zero in every inner word: then nothing is multiplied.
-fn sparse_product(x: Lanes, y: Lanes) -> Lanes {
+fn sparse_product(x: Lanes, y: Lanes) -> Lanes
+    ensures { λ r. ⌜ r ≡ product x y ⌝ }
+{
     if nonzero(x) == 0 {
         return x;
     }
@@ -154,7 +179,9 @@ fn sparse_product(x: Lanes, y: Lanes) -> Lanes {
 }
 
 // The square, which is additive: z^12, z^14, .. z^20 are z^3 + z, z^5 + z^3, z^7 + z^5, z^9 + z^7, z^9 + z^2 + 1.
-fn square(x: Lanes) -> Lanes {
+fn square(x: Lanes) -> Lanes
+    ensures { λ r. ⌜ r ≡ square x ⌝ }
+{
     Lanes {
         r0: x.r0 ^ x.r10,
         r1: x.r6,
@@ -268,7 +295,9 @@ fn combine(locator: &mut [u64; BANK], g: Lanes, other: &[u64; BANK], d: Lanes) {
 }
 
 // x in the inner words of the mask, y in the others.
-fn chosen(mask: u64, x: Lanes, y: Lanes) -> Lanes {
+fn chosen(mask: u64, x: Lanes, y: Lanes) -> Lanes
+    ensures { λ r. ⌜ r ≡ chosen mask x y ⌝ }
+{
     sum(y, masked(sum(x, y), mask))
 }
 
@@ -403,7 +432,9 @@ fn first_term(locator: &[u64; BANK], i: usize) -> Lanes
 // sequence, from number n on, and each number of it is the sum of those nine and eleven before: z^11 is z^2 + 1. So from one place to the next the term of
 // degree i moves by i in its sequence, and nothing is multiplied. The terms of degree 1, 2, 4 and 8 are additive: their sum at a place is the sum of their
 // sums nine and eleven places before. With the constant term it is the place's row.
-fn coordinates(x: Lanes) -> Lanes {
+fn coordinates(x: Lanes) -> Lanes
+    ensures { λ r. ⌜ r ≡ coordinates x ⌝ }
+{
     Lanes {
         r0: x.r10,
         r1: x.r9,
@@ -458,7 +489,9 @@ fn sequence(locator: &[u64; BANK], i: usize, s: &mut [u64; SEQUENCE])
 }
 
 // The row of a place, from its terms.
-fn row(x0: Lanes, x1: Lanes, x2: Lanes, x4: Lanes, x8: Lanes) -> Lanes {
+fn row(x0: Lanes, x1: Lanes, x2: Lanes, x4: Lanes, x8: Lanes) -> Lanes
+    ensures { λ r. ⌜ r ≡ row x0 x1 x2 x4 x8 ⌝ }
+{
     coordinates(sum(x0, sum(sum(x1, x2), sum(x4, x8))))
 }
 

@@ -1,17 +1,20 @@
 -- `frames::side_by_side::times_power` meets its contract. Assumes nothing.
+use mathlib.Core.Path.{_≡_}
+use Rattle.frames.proofs.LaneSteps.{power-none, power-next, power-end}
+use Rattle.frames.specs.LaneSteps.{timesPower}
 use borrow.Author.Needs.{needs}
 use Prim.Native.Nat.{_-_, _≤_}
 use Rattle.frames.proofs.side_by_side.times_power.Statement.{statement}
 use Rattle.frames.proofs.side_by_side.times_power.Tie as tie
 
 abbrev Inv-loop : tie.InvT-loop
-Inv-loop n y₀ i₀ y i = i ≤ n
+Inv-loop n y₀ i₀ y i = (i ≤ n) × (y ≡ timesPower y₀ i)
 
 abbrev μ-loop : tie.MeasureT-loop
 μ-loop n y₀ i₀ y i = n - i
 
 loop-holds : tie.Need-loop-holds Inv-loop μ-loop
-loop-holds c = search needs
+loop-holds c = search (needs, power-none)
 
 doubled-requires : tie.Need-doubled-requires Inv-loop μ-loop
 doubled-requires c κs = search needs
@@ -23,10 +26,10 @@ loop-less : tie.Need-loop-less Inv-loop μ-loop
 loop-less c = search needs
 
 loop-again : tie.Need-loop-again Inv-loop μ-loop
-loop-again c = search needs
+loop-again c = search (needs, power-next)
 
 returns : tie.Need-returns Inv-loop μ-loop
-returns c = search needs
+returns c = search (needs, power-end)
 
 pub times-power-spec : {M : Type 1} → statement M
 times-power-spec =

@@ -1,0 +1,12 @@
+-- `frames::side_by_side::bit` meets its contract. Assumes nothing.
+use Rattle.frames.specs.LaneSteps.{bit}
+use borrow.Author.Needs.{needs}
+use Rattle.frames.proofs.side_by_side.bit.Statement.{statement}
+use Rattle.frames.proofs.side_by_side.bit.Tie as tie
+
+returns : tie.Need-returns
+unfolding bit
+returns c = search needs
+
+pub bit-spec : {M : Type 1} → statement M
+bit-spec = tie.close (tie.spec returns)

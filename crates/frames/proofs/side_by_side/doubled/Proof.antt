@@ -1,0 +1,13 @@
+-- `frames::side_by_side::doubled` meets its contract. Assumes nothing.
+use Rattle.fields.specs.Elements.{xor}
+use Rattle.frames.specs.LaneSteps.{doubled}
+use borrow.Author.Needs.{needs}
+use Rattle.frames.proofs.side_by_side.doubled.Statement.{statement}
+use Rattle.frames.proofs.side_by_side.doubled.Tie as tie
+
+returns : tie.Need-returns
+unfolding doubled xor
+returns c = search needs
+
+pub doubled-spec : {M : Type 1} → statement M
+doubled-spec = tie.close (tie.spec returns)

@@ -1,0 +1,13 @@
+-- `frames::side_by_side::nonzero` meets its contract. Assumes nothing.
+use Rattle.frames.specs.SideBySide.{orTo}
+use Rattle.frames.specs.LaneSteps.{nonzero}
+use borrow.Author.Needs.{needs}
+use Rattle.frames.proofs.side_by_side.nonzero.Statement.{statement}
+use Rattle.frames.proofs.side_by_side.nonzero.Tie as tie
+
+returns : tie.Need-returns
+unfolding nonzero orTo
+returns c = search needs
+
+pub nonzero-spec : {M : Type 1} → statement M
+nonzero-spec = tie.close (tie.spec returns)

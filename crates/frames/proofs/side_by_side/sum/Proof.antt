@@ -1,0 +1,13 @@
+-- `frames::side_by_side::sum` meets its contract. Assumes nothing.
+use Rattle.fields.specs.Elements.{xor}
+use Rattle.frames.specs.LaneSteps.{sum}
+use borrow.Author.Needs.{needs}
+use Rattle.frames.proofs.side_by_side.sum.Statement.{statement}
+use Rattle.frames.proofs.side_by_side.sum.Tie as tie
+
+returns : tie.Need-returns
+unfolding sum xor
+returns c = search needs
+
+pub sum-spec : {M : Type 1} → statement M
+sum-spec = tie.close (tie.spec returns)

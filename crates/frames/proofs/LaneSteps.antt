@@ -67,7 +67,7 @@ all-none x e =
     eleven ea eb ec ed ee ef eg eh ei ej ek = rw (ea, eb, ec, ed, ee, ef, eg, eh, ei, ej, ek)
 
 none-times : (y : Lanes) → bit 0 ≡ product (bit 0) y
-unfolding product productStep sum masked doubled bit xor
+unfolding product turns productStep sum masked doubled bit xor
 none-times y = refl
 
 -- nothing is multiplied where x is zero everywhere
@@ -75,13 +75,17 @@ pub sparse-none : (x y : Lanes) {n : ℕ} → n ≡ nonzero x → n ≡ 0 → x 
 sparse-none x y e z = let q : x ≡ bit 0 = all-none x (sym e ∙ z) in rw q (none-times y)
 
 -- the product, bit by bit
+first-bit : (x : Lanes) (y : ℕ) → masked x y ≡ productStep (bit 0) x y
+unfolding productStep sum masked doubled bit xor
+first-bit x y = refl
+
 pub product-is : (x y : Lanes) {p10 p9 p8 p7 p6 p5 p4 p3 p2 p1 p0 : Lanes} → p10 ≡ masked x (y .r10) → p9 ≡ productStep p10 x (y .r9) →
     p8 ≡ productStep p9 x (y .r8) → p7 ≡ productStep p8 x (y .r7) → p6 ≡ productStep p7 x (y .r6) → p5 ≡ productStep p6 x (y .r5) →
     p4 ≡ productStep p5 x (y .r4) → p3 ≡ productStep p4 x (y .r3) → p2 ≡ productStep p3 x (y .r2) → p1 ≡ productStep p2 x (y .r1) →
     p0 ≡ productStep p1 x (y .r0) → p0 ≡ product x y
-unfolding product
+unfolding product turns
 product-is x y e10 e9 e8 e7 e6 e5 e4 e3 e2 e1 e0 =
     let next : (p q : Lanes) (b : ℕ) → p ≡ q → productStep p x b ≡ productStep q x b = λ p q b e. ap (λ (r : Lanes). productStep r x b) e in
-    let f7 = e7 ∙ next _ _ _ (e8 ∙ next _ _ _ (e9 ∙ next _ _ _ e10)) in
+    let f7 = e7 ∙ next _ _ _ (e8 ∙ next _ _ _ (e9 ∙ next _ _ _ (e10 ∙ first-bit x (y .r10)))) in
     let f3 = e3 ∙ next _ _ _ (e4 ∙ next _ _ _ (e5 ∙ next _ _ _ (e6 ∙ next _ _ _ f7))) in
     e0 ∙ next _ _ _ (e1 ∙ next _ _ _ (e2 ∙ next _ _ _ f3))

@@ -1,12 +1,12 @@
 -- `frames::side_by_side::coordinates` meets its contract. Assumes nothing.
 use Rattle.fields.specs.Elements.{xor}
-use Rattle.frames.specs.LaneSteps.{coordinates}
+use Rattle.frames.specs.LaneSteps.{turns, doubled, timesPower, coordinates}
 use borrow.Author.Needs.{needs}
 use Rattle.frames.proofs.side_by_side.coordinates.Statement.{statement}
 use Rattle.frames.proofs.side_by_side.coordinates.Tie as tie
 
 returns : tie.Need-returns
-unfolding coordinates xor
+unfolding coordinates timesPower turns doubled xor
 returns c = search needs
 
 pub coordinates-spec : {M : Type 1} → statement M

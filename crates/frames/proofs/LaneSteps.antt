@@ -1,18 +1,21 @@
 -- What the functions compute that find the wrong places of all inner words at once. Assumes nothing.
-use mathlib.Core.Path.{_≡_, refl, sym, ap, _∙_}
-use Prim.Native.Nat.{ℕ, zero, suc, _+_, _≤_, _<_}
+use mathlib.Core.Path.{_≡_, refl, sym, ap, ap₂, _∙_}
+use mathlib.Core.List.{List}
+use Prim.Native.Nat.{ℕ, zero, suc, _+_, _-_, _*_, _≤_, _<_}
 use native.Mathlib.Decide.{ℕ-discrete}
-use native.Mathlib.Nat.{not-suc-le-zero}
+use native.Mathlib.Nat.{add-zero, not-suc-le-zero}
 use native.Mathlib.Numerals.{add-one}
 use native.Mathlib.Omega.{arith}
 use lib.Bits.{bitOr, or-add-and, and-le-l, and-le-r}
 use lib.Dec.{lit<}
+use lib.ListN.{getD, set}
 use Rattle.fields.specs.Elements.{xor}
 use Rattle.words.specs.Places.{at}
+use Rattle.words.proofs.Places.Filling.{Filled, filled-end}
 use Rattle.frames.specs.declared.residues.Lanes.{Lanes}
 use Rattle.frames.specs.SideBySide.{orTo}
 use Rattle.frames.specs.InnerResidues.{cells}
-use Rattle.frames.specs.LaneSteps.{turns, bit, sum, masked, nonzero, doubled, timesPower, productStep, product}
+use Rattle.frames.specs.LaneSteps.{turns, bit, sum, masked, nonzero, doubled, timesPower, productStep, product, square, get, stored, put, copied, oddStep, oddSyndrome, syndromeStep, syndromes}
 
 -- ---- loops
 
@@ -89,3 +92,53 @@ product-is x y e10 e9 e8 e7 e6 e5 e4 e3 e2 e1 e0 =
     let f7 = e7 ∙ next _ _ _ (e8 ∙ next _ _ _ (e9 ∙ next _ _ _ (e10 ∙ first-bit x (y .r10)))) in
     let f3 = e3 ∙ next _ _ _ (e4 ∙ next _ _ _ (e5 ∙ next _ _ _ (e6 ∙ next _ _ _ f7))) in
     e0 ∙ next _ _ _ (e1 ∙ next _ _ _ (e2 ∙ next _ _ _ f3))
+
+-- ---- banks
+
+pub element-read : (bank : List ℕ) (e : ℕ) →
+    _≡_ {A = Lanes} (record {
+      r0 = getD bank (11 * e) 0;
+      r1 = getD bank (11 * e + 1) 0;
+      r2 = getD bank (11 * e + 2) 0;
+      r3 = getD bank (11 * e + 3) 0;
+      r4 = getD bank (11 * e + 4) 0;
+      r5 = getD bank (11 * e + 5) 0;
+      r6 = getD bank (11 * e + 6) 0;
+      r7 = getD bank (11 * e + 7) 0;
+      r8 = getD bank (11 * e + 8) 0;
+      r9 = getD bank (11 * e + 9) 0;
+      r10 = getD bank (11 * e + 10) 0;
+    }) (get bank e)
+unfolding get
+element-read bank e = rw (add-zero (11 * e))
+
+pub element-stored : (s : List ℕ) (m : ℕ) (x : Lanes) →
+    set (set (set (set (set (set (set (set (set (set (set s m (x .r0)) (m + 1) (x .r1)) (m + 2) (x .r2)) (m + 3) (x .r3)) (m + 4) (x .r4)) (m + 5) (x .r5))
+    (m + 6) (x .r6)) (m + 7) (x .r7)) (m + 8) (x .r8)) (m + 9) (x .r9)) (m + 10) (x .r10) ≡ stored s m x
+unfolding stored turns
+element-stored s m x = rw (add-zero m)
+
+pub copied-end : (bank out : List ℕ) (i : ℕ) → Filled 176 (at bank) i out → 176 ≤ i → out ≡ copied bank
+unfolding copied
+copied-end bank out i f h = filled-end f h
+
+-- ---- syndromes
+
+module _ (residues : List ℕ) where
+  pub odd-next : (j i : ℕ) (s : Lanes) {v t b w : Lanes} → v ≡ turns (oddStep residues j) i s → t ≡ timesPower v (2 * j + 1) →
+      b ≡ bit (getD residues (11 * j + (10 - i)) 0) → w ≡ sum t b → w ≡ turns (oddStep residues j) (i + 1) s
+  unfolding oddStep
+  odd-next j i s ev et eb ew = turns-next _ s i ev (ew ∙ ap₂ sum et eb)
+
+  pub odd-end : (j i : ℕ) {s v : Lanes} → v ≡ turns (oddStep residues j) i s → i ≤ 11 → 11 ≤ i → s ≡ bit 0 → v ≡ oddSyndrome residues j
+  unfolding oddSyndrome
+  odd-end j i {s} e l h es = turns-over _ s i e 11 (bit 0) l h es
+
+  pub syndromes-next : (j : ℕ) (s : List ℕ) {a b c : List ℕ} {x y z : Lanes} → a ≡ turns (syndromeStep residues) j s → x ≡ oddSyndrome residues j →
+      b ≡ put a (2 * j) x → y ≡ get b j → z ≡ square y → c ≡ put b (2 * j + 1) z → c ≡ turns (syndromeStep residues) (j + 1) s
+  unfolding syndromeStep
+  syndromes-next j s ea ex eb ey ez ec = turns-next _ s j ea (cc)
+
+  pub syndromes-end : (j : ℕ) (s : List ℕ) {a : List ℕ} → a ≡ turns (syndromeStep residues) j s → j ≤ 8 → 8 ≤ j → a ≡ syndromes residues s
+  unfolding syndromes
+  syndromes-end j s e l h = turns-over _ s j e 8 s l h refl

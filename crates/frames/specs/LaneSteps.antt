@@ -1,7 +1,10 @@
 -- What the steps give that find the wrong places of all 64 inner words at once. An element of field B for each inner word is eleven numbers (`Lanes`), bit
 -- k of a number, the highest of 64 first, for inner word k; a bank is sixteen elements, one after the other.
-use Prim.Native.Nat.{ℕ, zero, suc, _-_}
+use mathlib.Core.List.{List}
+use Prim.Native.Nat.{ℕ, zero, suc, _+_, _-_, _*_}
 use lib.Bits.{bitAnd}
+use lib.ListN.{set}
+use Rattle.fields.specs.Lists.{tabulate}
 use Rattle.fields.specs.Elements.{xor}
 use Rattle.words.specs.Places.{at}
 use Rattle.frames.specs.SideBySide.{orTo}
@@ -88,3 +91,38 @@ coordinates x = lanes (λ i. timesPower x i .r10)
 -- the row of a place, from its terms of degree 0, 1, 2, 4 and 8
 unfoldable pub row : Lanes → Lanes → Lanes → Lanes → Lanes → Lanes
 row x0 x1 x2 x4 x8 = coordinates (sum x0 (sum (sum x1 x2) (sum x4 x8)))
+
+-- ---- banks
+
+-- element e of a bank
+unfoldable pub get : List ℕ → ℕ → Lanes
+get bank e = lanes (λ i. at bank (11 * e + i))
+
+-- a list with the numbers of x from number m on; a bank with x as element e
+unfoldable pub stored : List ℕ → ℕ → Lanes → List ℕ
+stored s m x = turns (λ i t. set t (m + i) (at (cells x) i)) 11 s
+
+abbrev pub put : List ℕ → ℕ → Lanes → List ℕ
+put bank e x = stored bank (11 * e) x
+
+-- the 176 numbers of a bank
+unfoldable pub copied : List ℕ → List ℕ
+copied bank = tabulate 176 (at bank)
+
+-- ---- syndromes
+
+-- Horner's rule at a^(2 j + 1): one coefficient more of the residue modulo factor j, the highest first
+unfoldable pub oddStep : List ℕ → ℕ → ℕ → Lanes → Lanes
+oddStep residues j i v = sum (timesPower v (2 * j + 1)) (bit (at residues (11 * j + (10 - i))))
+
+unfoldable pub oddSyndrome : List ℕ → ℕ → Lanes
+oddSyndrome residues j = turns (oddStep residues j) 11 (bit 0)
+
+-- the values at a^(2 j + 1) and at a^(2 j + 2), which is the square of that at a^(j + 1)
+unfoldable pub syndromeStep : List ℕ → ℕ → List ℕ → List ℕ
+syndromeStep residues j bank =
+    let b = put bank (2 * j) (oddSyndrome residues j) in
+    put b (2 * j + 1) (square (get b j))
+
+unfoldable pub syndromes : List ℕ → List ℕ → List ℕ
+syndromes residues bank = turns (syndromeStep residues) 8 bank

@@ -7,30 +7,26 @@
 //
 // What comes out is a proposal, and nothing is promised of it but its size: how wrong places are found is free, and module `proposals` takes a word only
 // after a test.
+use crate::residues::DEGREE;
+use crate::residues::FACTORS;
 use crate::residues::Lanes;
+use words::Inner;
 ghost use mathlib.Core.Path.{_≡_};
 ghost use Prim.Native.Nat.{_+_, _≤_, _<_};
 ghost use lib.ListN.{length};
 ghost use Rattle.frames.specs.LaneSteps.{bit, sum, masked, nonzero, doubled, timesPower, productStep, product, square, chosen, coordinates, row};
-
-// Bits of an element.
-const BITS: usize = 11;
+ghost use Rattle.frames.specs.LaneSteps.{get, stored, put, copied, oddSyndrome, syndromes};
 
 // Elements that a bank has place for, and its numbers.
 const ELEMENTS: usize = 16;
 
-const BANK: usize = BITS * ELEMENTS;
+const BANK: usize = DEGREE * ELEMENTS;
 
 // Coefficients of a locator polynomial, which has degree eight at most.
-const COEFFICIENTS: usize = 9;
-
-const RADIUS: usize = 8;
-
-// The numbers of all residues.
-const RESIDUES: usize = 88;
+const COEFFICIENTS: usize = Inner::RADIUS + 1;
 
 // Every inner word.
-const ALL: u64 = 0xffff_ffff_ffff_ffff;
+pub const ALL: u64 = 0xffff_ffff_ffff_ffff;
 
 // The element 0 or 1 of each inner word, by its bit of x.
 fn bit(x: u64) -> Lanes
@@ -200,8 +196,9 @@ fn square(x: Lanes) -> Lanes
 // Element i of a bank.
 fn get(bank: &[u64; BANK], i: usize) -> Lanes
     requires { ⌜ i < 16 ⌝ }
+    ensures { λ r. ⌜ r ≡ get (now (bank .entry)) i ⌝ }
 {
-    let m = BITS * i;
+    let m = DEGREE * i;
     Lanes {
         r0: bank[m],
         r1: bank[m + 1],
@@ -220,8 +217,9 @@ fn get(bank: &[u64; BANK], i: usize) -> Lanes
 // Writes element i of a bank.
 fn put(bank: &mut [u64; BANK], i: usize, x: Lanes)
     requires { ⌜ i < 16 ⌝ }
+    ensures { λ _. ⌜ now (bank .exit) ≡ put (now (bank .entry)) i x ⌝ }
 {
-    let m = BITS * i;
+    let m = DEGREE * i;
     bank[m] = x.r0;
     bank[m + 1] = x.r1;
     bank[m + 2] = x.r2;
@@ -236,15 +234,16 @@ fn put(bank: &mut [u64; BANK], i: usize, x: Lanes)
 }
 
 // The value at a^e of the residue modulo the least polynomial of a^e, which is the j-th: Horner's rule.
-fn odd_syndrome(residues: &[u64; RESIDUES], j: usize) -> Lanes
+fn odd_syndrome(residues: &[u64; Inner::PARITY], j: usize) -> Lanes
     requires { ⌜ j < 8 ⌝ }
+    ensures { λ r. ⌜ r ≡ oddSyndrome (now (residues .entry)) j ⌝ }
 {
     let mut v = bit(0);
     let mut i: usize = 0;
-    while i < BITS {
+    while i < DEGREE {
         v = sum(
             times_power(v, 2 * j + 1),
-            bit(residues[BITS * j + (BITS - 1 - i)]),
+            bit(residues[DEGREE * j + (DEGREE - 1 - i)]),
         );
         i += 1;
     }
@@ -252,9 +251,11 @@ fn odd_syndrome(residues: &[u64; RESIDUES], j: usize) -> Lanes
 }
 
 // The values at a, a^2, .. a^16.
-fn syndromes(residues: &[u64; RESIDUES], bank: &mut [u64; BANK]) {
+fn syndromes(residues: &[u64; Inner::PARITY], bank: &mut [u64; BANK])
+    ensures { λ _. ⌜ now (bank .exit) ≡ syndromes (now (residues .entry)) (now (bank .entry)) ⌝ }
+{
     let mut j: usize = 0;
-    while j < RADIUS {
+    while j < FACTORS {
         put(bank, 2 * j, odd_syndrome(residues, j));
         let root = get(bank, j);
         put(bank, 2 * j + 1, square(root));
@@ -303,7 +304,7 @@ fn chosen(mask: u64, x: Lanes, y: Lanes) -> Lanes
 
 // The polynomial becomes the one given in the inner words of the mask; then it is multiplied by x^2, without the terms of too high a degree.
 fn follow(other: &mut [u64; BANK], mask: u64, locator: &[u64; BANK]) {
-    let mut i: usize = RADIUS;
+    let mut i: usize = Inner::RADIUS;
     while 2 <= i {
         let x = chosen(mask, get(locator, i - 2), get(other, i - 2));
         put(other, i, x);
@@ -313,12 +314,16 @@ fn follow(other: &mut [u64; BANK], mask: u64, locator: &[u64; BANK]) {
     put(other, 1, bit(0));
 }
 
-fn copy(bank: &[u64; BANK], out: &mut [u64; BANK]) {
+fn copy(bank: &[u64; BANK]) -> [u64; BANK]
+    ensures { λ r. ⌜ r ≡ copied (now (bank .entry)) ⌝ }
+{
+    let mut out = [0u64; BANK];
     let mut i: usize = 0;
     while i < BANK {
         out[i] = bank[i];
         i += 1;
     }
+    out
 }
 
 // Number j, from 1 to 9, has the inner words in which the shortest recurrence of the syndromes so far has at least length j.
@@ -379,8 +384,7 @@ fn step(
     let lengths = progress.lengths;
     let factor = progress.factor;
     let grows = wrong & (lengths.at[r + 1] ^ ALL);
-    let mut old = [0u64; BANK];
-    copy(locator, &mut old);
+    let old = copy(locator);
     combine(locator, factor, other, d);
     follow(other, grows, &old);
     Progress {
@@ -401,7 +405,7 @@ fn locators(syndromes: &[u64; BANK], locator: &mut [u64; BANK]) {
         },
     };
     let mut r: usize = 0;
-    while r < RADIUS {
+    while r < Inner::RADIUS {
         progress = step(progress, r, syndromes, locator, &mut other);
         r += 1;
     }
@@ -409,7 +413,7 @@ fn locators(syndromes: &[u64; BANK], locator: &mut [u64; BANK]) {
 
 // The largest degree of the locator polynomials.
 fn degree(locator: &[u64; BANK]) -> usize {
-    let mut i: usize = RADIUS;
+    let mut i: usize = Inner::RADIUS;
     while 0 < i {
         if nonzero(get(locator, i)) != 0 {
             return i;
@@ -418,8 +422,6 @@ fn degree(locator: &[u64; BANK]) -> usize {
     }
     0
 }
-
-const PLACES: usize = words::Inner::PLACES;
 
 // The term of degree i at place 0, where a locator's inverse is a^8.
 fn first_term(locator: &[u64; BANK], i: usize) -> Lanes
@@ -459,6 +461,7 @@ const SEQUENCE: usize = PERIOD + 80;
 // Writes eleven numbers, from number m on.
 fn put_numbers(s: &mut [u64; SEQUENCE], m: usize, x: Lanes)
     requires { ⌜ m < 12 ⌝ }
+    ensures { λ _. ⌜ now (s .exit) ≡ stored (now (s .entry)) m x ⌝ }
 {
     s[m] = x.r0;
     s[m + 1] = x.r1;
@@ -480,7 +483,7 @@ fn sequence(locator: &[u64; BANK], i: usize, s: &mut [u64; SEQUENCE])
 {
     let x = first_term(locator, i);
     put_numbers(s, 0, coordinates(x));
-    put_numbers(s, BITS, coordinates(sum(x, times_a2(x))));
+    put_numbers(s, DEGREE, coordinates(sum(x, times_a2(x))));
     let mut n: usize = 22;
     while n < SEQUENCE {
         s[n] = s[n - 18] ^ s[n - 22];
@@ -503,7 +506,7 @@ fn first_rows(locator: &[u64; BANK], rows: &mut [u64; BANK]) {
     let mut x4 = first_term(locator, 4);
     let mut x8 = first_term(locator, 8);
     let mut q: usize = 0;
-    while q < BITS {
+    while q < DEGREE {
         put(rows, q, row(x0, x1, x2, x4, x8));
         x1 = doubled(x1);
         x2 = times_a2(x2);
@@ -517,7 +520,7 @@ fn first_rows(locator: &[u64; BANK], rows: &mut [u64; BANK]) {
 fn constants(locator: &[u64; BANK], constant: &mut [u64; BANK]) {
     let x = coordinates(get(locator, 0));
     let mut q: usize = 0;
-    while q < BITS {
+    while q < DEGREE {
         put(constant, q, x);
         q += 1;
     }
@@ -527,16 +530,16 @@ fn constants(locator: &[u64; BANK], constant: &mut [u64; BANK]) {
 // have, is added as a fourth.
 fn next_nine(rows: &mut [u64; BANK], constant: &[u64; BANK]) {
     let mut m: usize = 0;
-    while m < BITS * 9 {
-        rows[m] = rows[m] ^ rows[m + BITS * 2] ^ constant[m];
+    while m < DEGREE * 9 {
+        rows[m] = rows[m] ^ rows[m + DEGREE * 2] ^ constant[m];
         m += 1;
     }
 }
 
 fn next_two(rows: &mut [u64; BANK], constant: &[u64; BANK]) {
     let mut m: usize = 0;
-    while m < BITS * 2 {
-        rows[m + BITS * 9] = rows[m + BITS * 9] ^ rows[m] ^ constant[m];
+    while m < DEGREE * 2 {
+        rows[m + DEGREE * 9] = rows[m + DEGREE * 9] ^ rows[m] ^ constant[m];
         m += 1;
     }
 }
@@ -546,10 +549,10 @@ fn block_places(p: usize) -> usize
     requires { ⌜ p < 2040 ⌝ }
     ensures { λ r. ⌜ (r ≤ 11) × (p + r ≤ 2040) ⌝ }
 {
-    if PLACES - p < BITS {
-        return PLACES - p;
+    if Inner::PLACES - p < DEGREE {
+        return Inner::PLACES - p;
     }
-    BITS
+    DEGREE
 }
 
 // The inner words whose polynomial, of degree 2 at most, is not zero at place q of a block.
@@ -566,8 +569,8 @@ fn nonzero_4(rows: &[u64; BANK], s3: &[u64; SEQUENCE], p: usize, q: usize) -> u6
     let n3 = 3 * p % PERIOD + 3 * q;
     let mut x: u64 = 0;
     let mut b: usize = 0;
-    while b < BITS {
-        x = x | (rows[BITS * q + b] ^ s3[n3 + b]);
+    while b < DEGREE {
+        x = x | (rows[DEGREE * q + b] ^ s3[n3 + b]);
         b += 1;
     }
     x
@@ -591,8 +594,8 @@ fn nonzero_8(
     let n7 = 7 * p % PERIOD + 7 * q;
     let mut x: u64 = 0;
     let mut b: usize = 0;
-    while b < BITS {
-        x = x | (rows[BITS * q + b] ^ s3[n3 + b] ^ s5[n5 + b] ^ s6[n6 + b] ^ s7[n7 + b]);
+    while b < DEGREE {
+        x = x | (rows[DEGREE * q + b] ^ s3[n3 + b] ^ s5[n5 + b] ^ s6[n6 + b] ^ s7[n7 + b]);
         b += 1;
     }
     x
@@ -650,11 +653,11 @@ fn search_2(locator: &[u64; BANK], wrong: u64, flips: &mut [u64])
     let mut constant = [0u64; BANK];
     constants(locator, &mut constant);
     let mut p: usize = 0;
-    while p < PLACES {
+    while p < Inner::PLACES {
         block_2(&rows, p, wrong, flips);
         next_nine(&mut rows, &constant);
         next_two(&mut rows, &constant);
-        p += BITS;
+        p += DEGREE;
     }
 }
 
@@ -669,11 +672,11 @@ fn search_4(locator: &[u64; BANK], wrong: u64, flips: &mut [u64])
     let mut s3 = [0u64; SEQUENCE];
     sequence(locator, 3, &mut s3);
     let mut p: usize = 0;
-    while p < PLACES {
+    while p < Inner::PLACES {
         block_4(&rows, &s3, p, wrong, flips);
         next_nine(&mut rows, &constant);
         next_two(&mut rows, &constant);
-        p += BITS;
+        p += DEGREE;
     }
 }
 
@@ -694,16 +697,16 @@ fn search_8(locator: &[u64; BANK], wrong: u64, flips: &mut [u64])
     let mut s7 = [0u64; SEQUENCE];
     sequence(locator, 7, &mut s7);
     let mut p: usize = 0;
-    while p < PLACES {
+    while p < Inner::PLACES {
         block_8(&rows, &s3, &s5, &s6, &s7, p, wrong, flips);
         next_nine(&mut rows, &constant);
         next_two(&mut rows, &constant);
-        p += BITS;
+        p += DEGREE;
     }
 }
 
 // Writes the places to be inverted in the wrong inner words: bit k of number p, the highest first, is 1 where word k is to be inverted in place p.
-pub fn propose(residues: &[u64; RESIDUES], wrong: u64, flips: &mut [u64])
+pub fn propose(residues: &[u64; Inner::PARITY], wrong: u64, flips: &mut [u64])
     requires { ⌜ length (now flips) ≡ 2040 ⌝ }
     ensures { λ _. ⌜ length (now (flips .exit)) ≡ 2040 ⌝ }
 {

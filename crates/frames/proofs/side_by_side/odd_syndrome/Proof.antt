@@ -1,11 +1,14 @@
 -- `frames::side_by_side::odd_syndrome` meets its contract. Assumes nothing.
+use Rattle.frames.proofs.LaneSteps.{turns-none, odd-next, odd-end}
+use Rattle.frames.specs.LaneSteps.{turns, oddStep}
+use mathlib.Core.Path.{_≡_}
 use borrow.Author.Needs.{needs}
 use Prim.Native.Nat.{_-_, _≤_}
 use Rattle.frames.proofs.side_by_side.odd_syndrome.Statement.{statement}
 use Rattle.frames.proofs.side_by_side.odd_syndrome.Tie as tie
 
 abbrev Inv-loop : tie.InvT-loop
-Inv-loop residues j v₀ i₀ v i = i ≤ 11
+Inv-loop residues j v₀ i₀ v i = (i ≤ 11) × (v ≡ turns (oddStep residues j) i v₀)
 
 abbrev μ-loop : tie.MeasureT-loop
 μ-loop residues j v₀ i₀ v i = 11 - i
@@ -14,7 +17,7 @@ bit-requires : tie.Need-bit-requires Inv-loop μ-loop
 bit-requires c κs = search needs
 
 loop-holds : tie.Need-loop-holds Inv-loop μ-loop
-loop-holds c = search needs
+loop-holds c = search (needs, turns-none)
 
 mul-times-power : tie.Need-mul-times-power Inv-loop μ-loop
 mul-times-power c = search needs
@@ -56,10 +59,10 @@ loop-less : tie.Need-loop-less Inv-loop μ-loop
 loop-less c = search needs
 
 loop-again : tie.Need-loop-again Inv-loop μ-loop
-loop-again c = search needs
+loop-again c = search (needs, odd-next)
 
 returns : tie.Need-returns Inv-loop μ-loop
-returns c = search needs
+returns c = search (needs, odd-end)
 
 pub odd-syndrome-spec : {M : Type 1} → statement M
 odd-syndrome-spec =

@@ -1,17 +1,20 @@
 -- `frames::side_by_side::syndromes` meets its contract. Assumes nothing.
+use Rattle.frames.proofs.LaneSteps.{turns-none, syndromes-next, syndromes-end}
+use Rattle.frames.specs.LaneSteps.{turns, syndromeStep}
+use mathlib.Core.Path.{_≡_}
 use borrow.Author.Needs.{needs}
 use Prim.Native.Nat.{_-_, _≤_}
 use Rattle.frames.proofs.side_by_side.syndromes.Statement.{statement}
 use Rattle.frames.proofs.side_by_side.syndromes.Tie as tie
 
 abbrev Inv-loop : tie.InvT-loop
-Inv-loop residues bank₀ j₀ bank j = j ≤ 8
+Inv-loop residues bank₀ j₀ bank j = (j ≤ 8) × (bank ≡ turns (syndromeStep residues) j bank₀)
 
 abbrev μ-loop : tie.MeasureT-loop
 μ-loop residues bank₀ j₀ bank j = 8 - j
 
 loop-holds : tie.Need-loop-holds Inv-loop μ-loop
-loop-holds c = search needs
+loop-holds c = search (needs, turns-none)
 
 mul-put : tie.Need-mul-put Inv-loop μ-loop
 mul-put c = search needs
@@ -44,10 +47,10 @@ loop-less : tie.Need-loop-less Inv-loop μ-loop
 loop-less c = search needs
 
 loop-again : tie.Need-loop-again Inv-loop μ-loop
-loop-again c = search needs
+loop-again c = (search needs, syndromes-next _ _ _ (c .before .before .before .before .before .before .before .before .before .loop .inv .1) (c .before .before .before .before .before .before .odd-syndrome .ensures) (c .before .before .before .before .before .put .ensures) (c .before .before .before .get .ensures) (c .before .square .ensures) (c .put2 .ensures))
 
 returns : tie.Need-returns Inv-loop μ-loop
-returns c = search needs
+returns c = search (needs, syndromes-end)
 
 pub syndromes-spec : {M : Type 1} → statement M
 syndromes-spec =

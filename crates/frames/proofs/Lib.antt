@@ -15,6 +15,7 @@ pub mod InnerSteps
 pub mod InnerPass
 pub mod ReportCounts
 pub mod LaneSteps
+pub mod LocatorSteps
 pub mod TakenProposals
 pub mod WordErrors
 pub mod SingleErrors

@@ -1,15 +1,19 @@
 -- What the steps give that find the wrong places of all 64 inner words at once. An element of field B for each inner word is eleven numbers (`Lanes`), bit
 -- k of a number, the highest of 64 first, for inner word k; a bank is sixteen elements, one after the other.
+use mathlib.Core.Bool.{cond}
 use mathlib.Core.List.{List}
 use Prim.Native.Nat.{ℕ, zero, suc, _+_, _-_, _*_}
-use lib.Bits.{bitAnd}
-use lib.ListN.{set}
-use Rattle.fields.specs.Lists.{tabulate}
+use lib.Bits.{bitAnd, bitOr}
+use lib.Dec.{eqb, ltb}
+use lib.ListN.{set, replicate}
+use Rattle.fields.specs.Lists.{tabulate, find}
 use Rattle.fields.specs.Elements.{xor}
 use Rattle.words.specs.Places.{at}
 use Rattle.frames.specs.SideBySide.{orTo}
 use Rattle.frames.specs.InnerResidues.{cells}
 use Rattle.frames.specs.declared.residues.Lanes.{Lanes}
+use Rattle.frames.specs.declared.side_by_side.Lengths.{Lengths}
+use Rattle.frames.specs.declared.side_by_side.Progress.{Progress}
 
 -- f 0, f 1, .. f (n - 1), one after the other
 unfoldable pub turns : {S : Type 0} → (ℕ → S → S) → ℕ → S → S
@@ -126,3 +130,74 @@ syndromeStep residues j bank =
 
 unfoldable pub syndromes : List ℕ → List ℕ → List ℕ
 syndromes residues bank = turns (syndromeStep residues) 8 bank
+
+-- ---- locator polynomials: Berlekamp and Massey's algorithm, without division, for binary codes
+
+-- every inner word
+abbrev pub allWords : ℕ
+allWords = 18446744073709551615
+
+-- terms of the discrepancy in step r; one of them more; their sum
+unfoldable pub termsIn : ℕ → ℕ
+termsIn r = cond (ltb r 4) (2 * r + 1) 9
+
+unfoldable pub discrepancyStep : List ℕ → List ℕ → ℕ → ℕ → Lanes → Lanes
+discrepancyStep locator syndromes r i d = sum d (product (get locator i) (get syndromes (2 * r - i)))
+
+unfoldable pub discrepancy : List ℕ → List ℕ → ℕ → Lanes
+discrepancy locator syndromes r = turns (discrepancyStep locator syndromes r) (termsIn r) (bit 0)
+
+-- the locator polynomial times g, plus d times the other: coefficient i; all of them
+unfoldable pub combinedStep : Lanes → List ℕ → Lanes → ℕ → List ℕ → List ℕ
+combinedStep g other d i locator = put locator i (sum (product (get locator i) g) (product (get other i) d))
+
+unfoldable pub combined : List ℕ → Lanes → List ℕ → Lanes → List ℕ
+combined locator g other d = turns (combinedStep g other d) 9 locator
+
+-- the other polynomial, or the locator polynomial in the inner words of the mask, times x^2, without the terms of too high a degree: coefficient 8 - k; all
+unfoldable pub followedStep : ℕ → List ℕ → ℕ → List ℕ → List ℕ
+followedStep mask locator k other = put other (8 - k) (chosen mask (get locator (6 - k)) (get other (6 - k)))
+
+unfoldable pub followed : List ℕ → ℕ → List ℕ → List ℕ
+followed other mask locator = put (put (turns (followedStep mask locator) 7 other) 0 (bit 0)) 1 (bit 0)
+
+-- the inner words in which a length that becomes 2 r + 1 less itself is at least j then
+unfoldable pub reflected : Lengths → ℕ → ℕ → ℕ
+reflected lengths r j =
+    let q = 2 * r + 2 - j in
+    cond (ltb j (2 * r + 2)) (cond (ltb 9 q) allWords (xor (at (lengths .at) q) allWords)) 0
+
+-- the lengths, reflected in the inner words of the mask
+unfoldable pub lengthenedStep : Lengths → ℕ → ℕ → ℕ → List ℕ → List ℕ
+lengthenedStep lengths r mask j l =
+    set l (j + 1) (bitOr (bitAnd (reflected lengths r (j + 1)) mask) (bitAnd (at (lengths .at) (j + 1)) (xor mask allWords)))
+
+unfoldable pub lengthened : Lengths → ℕ → ℕ → Lengths
+lengthened lengths r mask = record { at = turns (lengthenedStep lengths r mask) 9 (replicate 10 0) }
+
+-- step r, on what it has from the steps before, the locator polynomial and the other one: where no discrepancy is, and where the discrepancy is d
+abbrev pub Polynomials : Type 0
+Polynomials = Progress × List ℕ × List ℕ
+
+unfoldable pub combinedAll : ℕ → Lanes → Polynomials → Polynomials
+combinedAll r d (p, locator, other) =
+    let grows = bitAnd (nonzero d) (xor (at (p .lengths .at) (r + 1)) allWords) in (
+      record { factor = chosen grows d (p .factor); lengths = lengthened (p .lengths) r grows },
+      combined locator (p .factor) other d,
+      followed other grows (copied locator),
+    )
+
+unfoldable pub step : List ℕ → ℕ → Polynomials → Polynomials
+step syndromes r (p, locator, other) =
+    let d = discrepancy locator syndromes r in
+    cond (eqb (nonzero d) 0) (p, locator, followed other 0 locator) (combinedAll r d (p, locator, other))
+
+-- the locator polynomials after eight steps, the lowest coefficient first
+unfoldable pub locators : List ℕ → List ℕ → List ℕ
+locators syndromes locator =
+    turns (step syndromes) 8
+    (record { factor = bit allWords; lengths = record { at = replicate 10 0 } }, put locator 0 (bit allWords), put (replicate 176 0) 1 (bit allWords)) .1
+
+-- their largest degree
+unfoldable pub degree : List ℕ → ℕ
+degree locator = find (λ i. ltb 0 (nonzero (get locator i))) 9

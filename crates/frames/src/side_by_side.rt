@@ -12,10 +12,11 @@ use crate::residues::FACTORS;
 use crate::residues::Lanes;
 use words::Inner;
 ghost use mathlib.Core.Path.{_≡_};
-ghost use Prim.Native.Nat.{_+_, _≤_, _<_};
+ghost use Prim.Native.Nat.{_+_, _*_, _≤_, _<_};
 ghost use lib.ListN.{length};
 ghost use Rattle.frames.specs.LaneSteps.{bit, sum, masked, nonzero, doubled, timesPower, productStep, product, square, chosen, coordinates, row};
 ghost use Rattle.frames.specs.LaneSteps.{get, stored, put, copied, oddSyndrome, syndromes};
+ghost use Rattle.frames.specs.LaneSteps.{termsIn, discrepancy, combined, followed, reflected, lengthened, step, locators, degree};
 
 // Elements that a bank has place for, and its numbers.
 const ELEMENTS: usize = 16;
@@ -263,27 +264,40 @@ fn syndromes(residues: &[u64; Inner::PARITY], bank: &mut [u64; BANK])
     }
 }
 
+// Terms of the discrepancy in step r: coefficients that a syndrome stands for.
+fn terms_in(r: usize) -> usize
+    requires { ⌜ r < 8 ⌝ }
+    ensures { λ n. ⌜ (n ≡ termsIn r) × (n ≤ 9) × (n ≤ 2 * r + 1) ⌝ }
+{
+    if r < 4 {
+        return 2 * r + 1;
+    }
+    COEFFICIENTS
+}
+
 // The next syndrome that a locator polynomial would give differs by this from the syndrome in step r: the sum of its coefficients times the syndromes
 // from number 2 r + 1 down.
 fn discrepancy(locator: &[u64; BANK], syndromes: &[u64; BANK], r: usize) -> Lanes
     requires { ⌜ r < 8 ⌝ }
+    ensures { λ d. ⌜ d ≡ discrepancy (now (locator .entry)) (now (syndromes .entry)) r ⌝ }
 {
+    let n = terms_in(r);
     let mut d = bit(0);
     let mut i: usize = 0;
-    while i < COEFFICIENTS {
-        if i <= 2 * r {
-            d = sum(
-                d,
-                sparse_product(get(locator, i), get(syndromes, 2 * r - i)),
-            );
-        }
+    while i < n {
+        d = sum(
+            d,
+            sparse_product(get(locator, i), get(syndromes, 2 * r - i)),
+        );
         i += 1;
     }
     d
 }
 
 // The locator polynomial times g, plus d times the other.
-fn combine(locator: &mut [u64; BANK], g: Lanes, other: &[u64; BANK], d: Lanes) {
+fn combine(locator: &mut [u64; BANK], g: Lanes, other: &[u64; BANK], d: Lanes)
+    ensures { λ _. ⌜ now (locator .exit) ≡ combined (now (locator .entry)) g (now (other .entry)) d ⌝ }
+{
     let mut i: usize = 0;
     while i < COEFFICIENTS {
         let x = sum(
@@ -303,12 +317,15 @@ fn chosen(mask: u64, x: Lanes, y: Lanes) -> Lanes
 }
 
 // The polynomial becomes the one given in the inner words of the mask; then it is multiplied by x^2, without the terms of too high a degree.
-fn follow(other: &mut [u64; BANK], mask: u64, locator: &[u64; BANK]) {
-    let mut i: usize = Inner::RADIUS;
-    while 2 <= i {
-        let x = chosen(mask, get(locator, i - 2), get(other, i - 2));
-        put(other, i, x);
-        i -= 1;
+fn follow(other: &mut [u64; BANK], mask: u64, locator: &[u64; BANK])
+    ensures { λ _. ⌜ now (other .exit) ≡ followed (now (other .entry)) mask (now (locator .entry)) ⌝ }
+{
+    let mut k: usize = 0;
+    while k < Inner::RADIUS - 1 {
+        let i = Inner::RADIUS - 2 - k;
+        let x = chosen(mask, get(locator, i), get(other, i));
+        put(other, Inner::RADIUS - k, x);
+        k += 1;
     }
     put(other, 0, bit(0));
     put(other, 1, bit(0));
@@ -334,6 +351,7 @@ struct Lengths {
 // The inner words in which a length that becomes 2 r + 1 less itself is at least j then.
 fn reflected(lengths: Lengths, r: usize, j: usize) -> u64
     requires { ⌜ (r < 8) × (j < 10) ⌝ }
+    ensures { λ x. ⌜ x ≡ reflected lengths r j ⌝ }
 {
     if 2 * r + 2 <= j {
         return 0;
@@ -348,11 +366,13 @@ fn reflected(lengths: Lengths, r: usize, j: usize) -> u64
 // Lengths are reflected in the inner words of the mask.
 fn lengthened(lengths: Lengths, r: usize, mask: u64) -> Lengths
     requires { ⌜ r < 8 ⌝ }
+    ensures { λ l. ⌜ l ≡ lengthened lengths r mask ⌝ }
 {
     let mut at = [0u64; COEFFICIENTS + 1];
-    let mut j: usize = 1;
-    while j <= COEFFICIENTS {
-        at[j] = (reflected(lengths, r, j) & mask) | (lengths.at[j] & (mask ^ ALL));
+    let mut j: usize = 0;
+    while j < COEFFICIENTS {
+        let x = reflected(lengths, r, j + 1);
+        at[j + 1] = (x & mask) | (lengths.at[j + 1] & (mask ^ ALL));
         j += 1;
     }
     Lengths { at }
@@ -374,6 +394,7 @@ fn step(
     other: &mut [u64; BANK],
 ) -> Progress
     requires { ⌜ r < 8 ⌝ }
+    ensures { λ p. ⌜ (p, now (locator .exit), now (other .exit)) ≡ step (now (syndromes .entry)) r (progress, now (locator .entry), now (other .entry)) ⌝ }
 {
     let d = discrepancy(locator, syndromes, r);
     let wrong = nonzero(d);
@@ -394,7 +415,9 @@ fn step(
 }
 
 // The locator polynomials, the lowest coefficient first. Their roots are the inverses of the locators.
-fn locators(syndromes: &[u64; BANK], locator: &mut [u64; BANK]) {
+fn locators(syndromes: &[u64; BANK], locator: &mut [u64; BANK])
+    ensures { λ _. ⌜ now (locator .exit) ≡ locators (now (syndromes .entry)) (now (locator .entry)) ⌝ }
+{
     let mut other = [0u64; BANK];
     put(locator, 0, bit(ALL));
     put(&mut other, 1, bit(ALL));
@@ -412,7 +435,9 @@ fn locators(syndromes: &[u64; BANK], locator: &mut [u64; BANK]) {
 }
 
 // The largest degree of the locator polynomials.
-fn degree(locator: &[u64; BANK]) -> usize {
+fn degree(locator: &[u64; BANK]) -> usize
+    ensures { λ d. ⌜ d ≡ degree (now (locator .entry)) ⌝ }
+{
     let mut i: usize = Inner::RADIUS;
     while 0 < i {
         if nonzero(get(locator, i)) != 0 {

@@ -1,17 +1,21 @@
 -- `frames::side_by_side::combine` meets its contract. Assumes nothing.
-use borrow.Author.Needs.{needs}
+use Rattle.frames.proofs.LocatorSteps.{combined-next, combined-end}
+use Rattle.frames.proofs.LaneSteps.{turns-none}
+use Rattle.frames.specs.LaneSteps.{turns, combinedStep}
 use Prim.Native.Nat.{_-_, _≤_}
+use mathlib.Core.Path.{_≡_}
+use borrow.Author.Needs.{needs}
 use Rattle.frames.proofs.side_by_side.combine.Statement.{statement}
 use Rattle.frames.proofs.side_by_side.combine.Tie as tie
 
 abbrev Inv-loop : tie.InvT-loop
-Inv-loop locator₀ g other d i₀ locator i = i ≤ 9
+Inv-loop locator₀ g other d i₀ locator i = (i ≤ 9) × (locator ≡ turns (combinedStep g other d) i locator₀)
 
 abbrev μ-loop : tie.MeasureT-loop
 μ-loop locator₀ g other d i₀ locator i = 9 - i
 
 loop-holds : tie.Need-loop-holds Inv-loop μ-loop
-loop-holds c = search needs
+loop-holds c = search (needs, turns-none)
 
 get-requires : tie.Need-get-requires Inv-loop μ-loop
 get-requires c κs = search needs
@@ -38,10 +42,10 @@ loop-less : tie.Need-loop-less Inv-loop μ-loop
 loop-less c = search needs
 
 loop-again : tie.Need-loop-again Inv-loop μ-loop
-loop-again c = search needs
+loop-again c = (search needs, combined-next _ _ _ _ _ (c .before .before .before .before .before .before .before .before .before .loop .inv .1) (c .before .before .before .before .before .before .get .ensures) (c .before .before .before .before .before .sparse-product .ensures) (c .before .before .before .before .get2 .ensures) (c .before .before .before .sparse-product2 .ensures) (c .before .before .sum .ensures) (c .put .ensures))
 
 returns : tie.Need-returns Inv-loop μ-loop
-returns c = search needs
+returns c = search (needs, combined-end)
 
 pub combine-spec : {M : Type 1} → statement M
 combine-spec =

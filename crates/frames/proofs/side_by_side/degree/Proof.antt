@@ -1,17 +1,21 @@
 -- `frames::side_by_side::degree` meets its contract. Assumes nothing.
+use Rattle.frames.proofs.LocatorSteps.{present, degree-all, degree-found, degree-less, degree-none}
+use Rattle.frames.specs.LaneSteps.{degree}
+use Rattle.fields.specs.Lists.{find}
+use Prim.Native.Nat.{_+_, _≤_}
+use mathlib.Core.Path.{_≡_}
 use borrow.Author.Needs.{needs}
-use Prim.Native.Nat.{_-_, _≤_}
 use Rattle.frames.proofs.side_by_side.degree.Statement.{statement}
 use Rattle.frames.proofs.side_by_side.degree.Tie as tie
 
 abbrev Inv-loop : tie.InvT-loop
-Inv-loop locator i₀ i = i ≤ 8
+Inv-loop locator i₀ i = (i ≤ 8) × (degree locator ≡ find (present locator) (i + 1))
 
 abbrev μ-loop : tie.MeasureT-loop
 μ-loop locator i₀ i = i
 
 loop-holds : tie.Need-loop-holds Inv-loop μ-loop
-loop-holds c = search needs
+loop-holds c = search (needs, degree-all)
 
 get-requires : tie.Need-get-requires Inv-loop μ-loop
 get-requires c κs = search needs
@@ -20,7 +24,7 @@ nonzero-requires : tie.Need-nonzero-requires Inv-loop μ-loop
 nonzero-requires c κs = search needs
 
 returns : tie.Need-returns Inv-loop μ-loop
-returns c = search needs
+returns c = search (needs, degree-found)
 
 sub-i : tie.Need-sub-i Inv-loop μ-loop
 sub-i c = search needs
@@ -29,10 +33,10 @@ loop-less : tie.Need-loop-less Inv-loop μ-loop
 loop-less c = search needs
 
 loop-again : tie.Need-loop-again Inv-loop μ-loop
-loop-again c = search needs
+loop-again c = search (needs, degree-less)
 
 returns-2 : tie.Need-returns-2 Inv-loop μ-loop
-returns-2 c = search needs
+returns-2 c = search (needs, degree-none)
 
 pub degree-spec : {M : Type 1} → statement M
 degree-spec =

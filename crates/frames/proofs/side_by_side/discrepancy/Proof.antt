@@ -1,23 +1,27 @@
 -- `frames::side_by_side::discrepancy` meets its contract. Assumes nothing.
-use borrow.Author.Needs.{needs}
+use Rattle.frames.proofs.LocatorSteps.{discrepancy-next, discrepancy-end}
+use Rattle.frames.proofs.LaneSteps.{turns-none}
+use Rattle.frames.specs.LaneSteps.{turns, discrepancyStep}
 use Prim.Native.Nat.{_-_, _≤_}
+use mathlib.Core.Path.{_≡_}
+use borrow.Author.Needs.{needs}
 use Rattle.frames.proofs.side_by_side.discrepancy.Statement.{statement}
 use Rattle.frames.proofs.side_by_side.discrepancy.Tie as tie
 
 abbrev Inv-loop : tie.InvT-loop
-Inv-loop locator syndromes r d₀ i₀ d i = i ≤ 9
+Inv-loop locator syndromes r n d₀ i₀ d i = (i ≤ n) × (d ≡ turns (discrepancyStep locator syndromes r) i d₀)
 
 abbrev μ-loop : tie.MeasureT-loop
-μ-loop locator syndromes r d₀ i₀ d i = 9 - i
+μ-loop locator syndromes r n d₀ i₀ d i = n - i
+
+terms-in-requires : tie.Need-terms-in-requires Inv-loop μ-loop
+terms-in-requires c κs = search needs
 
 bit-requires : tie.Need-bit-requires Inv-loop μ-loop
 bit-requires c κs = search needs
 
 loop-holds : tie.Need-loop-holds Inv-loop μ-loop
-loop-holds c = search needs
-
-mul-if1 : tie.Need-mul-if1 Inv-loop μ-loop
-mul-if1 c = search needs
+loop-holds c = search (needs, turns-none)
 
 get-requires : tie.Need-get-requires Inv-loop μ-loop
 get-requires c κs = search needs
@@ -44,10 +48,10 @@ loop-less : tie.Need-loop-less Inv-loop μ-loop
 loop-less c = search needs
 
 loop-again : tie.Need-loop-again Inv-loop μ-loop
-loop-again c = search needs
+loop-again c = (search needs, discrepancy-next _ _ _ _ _ (c .before .before .before .before .before .loop .inv .1) (c .before .before .before .get .ensures) (c .before .before .get2 .ensures) (c .before .sparse-product .ensures) (c .sum .ensures))
 
 returns : tie.Need-returns Inv-loop μ-loop
-returns c = search needs
+returns c = search (needs, discrepancy-end)
 
 pub discrepancy-spec : {M : Type 1} → statement M
 discrepancy-spec =
@@ -55,9 +59,9 @@ discrepancy-spec =
     (tie.spec
     Inv-loop
     μ-loop
+    terms-in-requires
     bit-requires
     loop-holds
-    mul-if1
     get-requires
     mul-get
     sub-get

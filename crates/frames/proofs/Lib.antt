@@ -16,6 +16,7 @@ pub mod InnerPass
 pub mod ReportCounts
 pub mod LaneSteps
 pub mod LocatorSteps
+pub mod SearchSteps
 pub mod TakenProposals
 pub mod WordErrors
 pub mod SingleErrors

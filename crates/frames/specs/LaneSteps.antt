@@ -2,7 +2,7 @@
 -- k of a number, the highest of 64 first, for inner word k; a bank is sixteen elements, one after the other.
 use mathlib.Core.Bool.{cond}
 use mathlib.Core.List.{List}
-use Prim.Native.Nat.{ℕ, zero, suc, _+_, _-_, _*_}
+use Prim.Native.Nat.{ℕ, zero, suc, _+_, _-_, _*_, _/_, _%_}
 use lib.Bits.{bitAnd, bitOr}
 use lib.Dec.{eqb, ltb}
 use lib.ListN.{set, replicate}
@@ -201,3 +201,101 @@ locators syndromes locator =
 -- their largest degree
 unfoldable pub degree : List ℕ → ℕ
 degree locator = find (λ i. ltb 0 (nonzero (get locator i))) 9
+
+-- ---- search
+
+-- the term of degree i at place 0
+unfoldable pub firstTerm : List ℕ → ℕ → Lanes
+firstTerm locator i = timesPower (get locator i) (8 * i)
+
+-- the sequence of the term of degree i: each number is the sum of those 18 and 22 before
+unfoldable pub sequenceStep : ℕ → List ℕ → List ℕ
+sequenceStep n s = set s (n + 22) (xor (at s (n + 4)) (at s n))
+
+unfoldable pub sequence : List ℕ → ℕ → List ℕ → List ℕ
+sequence locator i s =
+    let x = firstTerm locator i in
+    turns sequenceStep 2105 (stored (stored s 0 (coordinates x)) 11 (coordinates (sum x (timesPower x 2))))
+
+abbrev pub sequenceOf : List ℕ → ℕ → List ℕ
+sequenceOf locator i = sequence locator i (replicate 2127 0)
+
+-- the row of place q; the rows of the first eleven places
+unfoldable pub rowStep : List ℕ → ℕ → List ℕ → List ℕ
+rowStep locator q rows =
+    put rows q
+    (row (get locator 0) (timesPower (firstTerm locator 1) q) (timesPower (firstTerm locator 2) (2 * q)) (timesPower (firstTerm locator 4) (4 * q))
+    (timesPower (firstTerm locator 8) (8 * q)))
+
+unfoldable pub firstRows : List ℕ → List ℕ → List ℕ
+firstRows locator rows = turns (rowStep locator) 11 rows
+
+-- the constant term, eleven times
+unfoldable pub constantStep : List ℕ → ℕ → List ℕ → List ℕ
+constantStep locator q constant = put constant q (coordinates (get locator 0))
+
+unfoldable pub constants : List ℕ → List ℕ → List ℕ
+constants locator constant = turns (constantStep locator) 11 constant
+
+-- the rows of the next eleven places: nine to which the next row but one is added, then two to which one of those is
+unfoldable pub nineStep : List ℕ → ℕ → List ℕ → List ℕ
+nineStep constant m rows = set rows m (xor (xor (at rows m) (at rows (m + 22))) (at constant m))
+
+unfoldable pub nextNine : List ℕ → List ℕ → List ℕ
+nextNine constant rows = turns (nineStep constant) 99 rows
+
+unfoldable pub twoStep : List ℕ → ℕ → List ℕ → List ℕ
+twoStep constant m rows = set rows (m + 99) (xor (xor (at rows (m + 99)) (at rows m)) (at constant m))
+
+unfoldable pub nextTwo : List ℕ → List ℕ → List ℕ
+nextTwo constant rows = turns (twoStep constant) 22 rows
+
+unfoldable pub nextRows : List ℕ → ℕ → List ℕ → List ℕ
+nextRows constant k rows = nextTwo constant (nextNine constant rows)
+
+-- the rows of block k, of eleven places; and its places
+unfoldable pub rowsOf : List ℕ → ℕ → List ℕ
+rowsOf locator k = turns (nextRows (constants locator (replicate 176 0))) k (firstRows locator (replicate 176 0))
+
+unfoldable pub placesIn : ℕ → ℕ
+placesIn k = cond (ltb k 185) 11 5
+
+-- the inner words whose polynomial is not zero at place q of block k, from the block's rows: of degree 2 at most, 4 at most, and 8
+unfoldable pub nonzero2 : List ℕ → ℕ → ℕ → ℕ
+nonzero2 rows k q = nonzero (get rows q)
+
+unfoldable pub cell4 : List ℕ → List ℕ → ℕ → ℕ → ℕ → ℕ
+cell4 s3 rows k q b = xor (at rows (11 * q + b)) (at s3 (33 * k % 2047 + 3 * q + b))
+
+unfoldable pub nonzero4 : List ℕ → List ℕ → ℕ → ℕ → ℕ
+nonzero4 s3 rows k q = orTo 11 (cell4 s3 rows k q)
+
+unfoldable pub cell8 : List ℕ → List ℕ → List ℕ → List ℕ → List ℕ → ℕ → ℕ → ℕ → ℕ
+cell8 s3 s5 s6 s7 rows k q b =
+    xor (xor (xor (cell4 s3 rows k q b) (at s5 (55 * k % 2047 + 5 * q + b))) (at s6 (66 * k % 2047 + 6 * q + b))) (at s7 (77 * k % 2047 + 7 * q + b))
+
+unfoldable pub nonzero8 : List ℕ → List ℕ → List ℕ → List ℕ → List ℕ → ℕ → ℕ → ℕ
+nonzero8 s3 s5 s6 s7 rows k q = orTo 11 (cell8 s3 s5 s6 s7 rows k q)
+
+-- the wrong inner words that are not among those: in block k, and in all places
+unfoldable pub blockFlips : (ℕ → ℕ) → ℕ → ℕ → List ℕ
+blockFlips nonzeroAt k wrong = tabulate (placesIn k) (λ q. bitAnd wrong (xor (nonzeroAt q) allWords))
+
+unfoldable pub flipsBy : (List ℕ → ℕ → ℕ → ℕ) → List ℕ → ℕ → List ℕ
+flipsBy nonzeroIn locator wrong = tabulate 2040 (λ p. bitAnd wrong (xor (nonzeroIn (rowsOf locator (p / 11)) (p / 11) (p % 11)) allWords))
+
+unfoldable pub flips2 : List ℕ → ℕ → List ℕ
+flips2 locator wrong = flipsBy nonzero2 locator wrong
+
+unfoldable pub flips4 : List ℕ → ℕ → List ℕ
+flips4 locator wrong = flipsBy (nonzero4 (sequenceOf locator 3)) locator wrong
+
+unfoldable pub flips8 : List ℕ → ℕ → List ℕ
+flips8 locator wrong = flipsBy (nonzero8 (sequenceOf locator 3) (sequenceOf locator 5) (sequenceOf locator 6) (sequenceOf locator 7)) locator wrong
+
+-- the places to be inverted
+unfoldable pub proposal : List ℕ → ℕ → List ℕ
+proposal residues wrong =
+    let locator = locators (syndromes residues (replicate 176 0)) (replicate 176 0) in
+    let d = degree locator in
+    cond (ltb 2 d) (cond (ltb 4 d) (flips8 locator wrong) (flips4 locator wrong)) (flips2 locator wrong)

@@ -10,6 +10,7 @@
 use crate::residues::DEGREE;
 use crate::residues::FACTORS;
 use crate::residues::Lanes;
+use crate::residues::WORD_BLOCKS;
 use words::Inner;
 ghost use mathlib.Core.Path.{_≡_};
 ghost use Prim.Native.Nat.{_+_, _*_, _≤_, _<_};
@@ -17,6 +18,9 @@ ghost use lib.ListN.{length};
 ghost use Rattle.frames.specs.LaneSteps.{bit, sum, masked, nonzero, doubled, timesPower, productStep, product, square, chosen, coordinates, row};
 ghost use Rattle.frames.specs.LaneSteps.{get, stored, put, copied, oddSyndrome, syndromes};
 ghost use Rattle.frames.specs.LaneSteps.{termsIn, discrepancy, combined, followed, reflected, lengthened, step, locators, degree};
+ghost use Rattle.frames.specs.LaneSteps.{firstTerm, sequence, firstRows, constants, nextNine, nextTwo, placesIn};
+ghost use Rattle.frames.specs.LaneSteps.{nonzero2, nonzero4, nonzero8, blockFlips, flips2, flips4, flips8, proposal};
+ghost use Rattle.frames.specs.Symbols.{Placed};
 
 // Elements that a bank has place for, and its numbers.
 const ELEMENTS: usize = 16;
@@ -451,6 +455,7 @@ fn degree(locator: &[u64; BANK]) -> usize
 // The term of degree i at place 0, where a locator's inverse is a^8.
 fn first_term(locator: &[u64; BANK], i: usize) -> Lanes
     requires { ⌜ i < 9 ⌝ }
+    ensures { λ r. ⌜ r ≡ firstTerm (now (locator .entry)) i ⌝ }
 {
     times_power(get(locator, i), 8 * i)
 }
@@ -505,13 +510,14 @@ fn put_numbers(s: &mut [u64; SEQUENCE], m: usize, x: Lanes)
 // distances two numbers are made at once.
 fn sequence(locator: &[u64; BANK], i: usize, s: &mut [u64; SEQUENCE])
     requires { ⌜ i < 9 ⌝ }
+    ensures { λ _. ⌜ now (s .exit) ≡ sequence (now (locator .entry)) i (now (s .entry)) ⌝ }
 {
     let x = first_term(locator, i);
     put_numbers(s, 0, coordinates(x));
     put_numbers(s, DEGREE, coordinates(sum(x, times_a2(x))));
-    let mut n: usize = 22;
-    while n < SEQUENCE {
-        s[n] = s[n - 18] ^ s[n - 22];
+    let mut n: usize = 0;
+    while n < SEQUENCE - 22 {
+        s[n + 22] = s[n + 4] ^ s[n];
         n += 1;
     }
 }
@@ -524,7 +530,9 @@ fn row(x0: Lanes, x1: Lanes, x2: Lanes, x4: Lanes, x8: Lanes) -> Lanes
 }
 
 // The rows of the first eleven places.
-fn first_rows(locator: &[u64; BANK], rows: &mut [u64; BANK]) {
+fn first_rows(locator: &[u64; BANK], rows: &mut [u64; BANK])
+    ensures { λ _. ⌜ now (rows .exit) ≡ firstRows (now (locator .entry)) (now (rows .entry)) ⌝ }
+{
     let x0 = get(locator, 0);
     let mut x1 = first_term(locator, 1);
     let mut x2 = first_term(locator, 2);
@@ -542,7 +550,9 @@ fn first_rows(locator: &[u64; BANK], rows: &mut [u64; BANK]) {
 }
 
 // The constant term, eleven times.
-fn constants(locator: &[u64; BANK], constant: &mut [u64; BANK]) {
+fn constants(locator: &[u64; BANK], constant: &mut [u64; BANK])
+    ensures { λ _. ⌜ now (constant .exit) ≡ constants (now (locator .entry)) (now (constant .entry)) ⌝ }
+{
     let x = coordinates(get(locator, 0));
     let mut q: usize = 0;
     while q < DEGREE {
@@ -553,7 +563,9 @@ fn constants(locator: &[u64; BANK], constant: &mut [u64; BANK]) {
 
 // The rows of the next eleven places: nine to which the next row but one is added, then two to which one of those is. The constant term, which three rows
 // have, is added as a fourth.
-fn next_nine(rows: &mut [u64; BANK], constant: &[u64; BANK]) {
+fn next_nine(rows: &mut [u64; BANK], constant: &[u64; BANK])
+    ensures { λ _. ⌜ now (rows .exit) ≡ nextNine (now (constant .entry)) (now (rows .entry)) ⌝ }
+{
     let mut m: usize = 0;
     while m < DEGREE * 9 {
         rows[m] = rows[m] ^ rows[m + DEGREE * 2] ^ constant[m];
@@ -561,7 +573,9 @@ fn next_nine(rows: &mut [u64; BANK], constant: &[u64; BANK]) {
     }
 }
 
-fn next_two(rows: &mut [u64; BANK], constant: &[u64; BANK]) {
+fn next_two(rows: &mut [u64; BANK], constant: &[u64; BANK])
+    ensures { λ _. ⌜ now (rows .exit) ≡ nextTwo (now (constant .entry)) (now (rows .entry)) ⌝ }
+{
     let mut m: usize = 0;
     while m < DEGREE * 2 {
         rows[m + DEGREE * 9] = rows[m + DEGREE * 9] ^ rows[m] ^ constant[m];
@@ -569,29 +583,27 @@ fn next_two(rows: &mut [u64; BANK], constant: &[u64; BANK]) {
     }
 }
 
-// The places of the block that begins at place p.
-fn block_places(p: usize) -> usize
-    requires { ⌜ p < 2040 ⌝ }
-    ensures { λ r. ⌜ (r ≤ 11) × (p + r ≤ 2040) ⌝ }
+// Blocks of eleven places; the last has five.
+const BLOCKS: usize = WORD_BLOCKS + 1;
+
+// The places of block k.
+fn places_in(k: usize) -> usize
+    requires { ⌜ k < 186 ⌝ }
+    ensures { λ n. ⌜ (n ≡ placesIn k) × (n ≤ 11) × (11 * k + n ≤ 2040) ⌝ }
 {
-    if Inner::PLACES - p < DEGREE {
-        return Inner::PLACES - p;
+    if k < WORD_BLOCKS {
+        return DEGREE;
     }
-    DEGREE
+    Inner::PLACES - DEGREE * WORD_BLOCKS
 }
 
-// The inner words whose polynomial, of degree 2 at most, is not zero at place q of a block.
-fn nonzero_2(rows: &[u64; BANK], q: usize) -> u64
-    requires { ⌜ q < 11 ⌝ }
+// The inner words whose polynomial, of degree 4 at most, is not zero at place q of block k, with the sequence of the term of degree 3: in it the block
+// begins at number 3 * 11 * k, less whole periods.
+fn nonzero_4(rows: &[u64; BANK], s3: &[u64; SEQUENCE], k: usize, q: usize) -> u64
+    requires { ⌜ (k < 186) × (q < 11) ⌝ }
+    ensures { λ r. ⌜ r ≡ nonzero4 (now (s3 .entry)) (now (rows .entry)) k q ⌝ }
 {
-    nonzero(get(rows, q))
-}
-
-// The same of degree 4 at most, with the sequence of the term of degree 3: in it a block that begins at place p begins at number 3 p, less whole periods.
-fn nonzero_4(rows: &[u64; BANK], s3: &[u64; SEQUENCE], p: usize, q: usize) -> u64
-    requires { ⌜ (p < 2040) × (q < 11) ⌝ }
-{
-    let n3 = 3 * p % PERIOD + 3 * q;
+    let n3 = 3 * DEGREE * k % PERIOD + 3 * q;
     let mut x: u64 = 0;
     let mut b: usize = 0;
     while b < DEGREE {
@@ -608,15 +620,16 @@ fn nonzero_8(
     s5: &[u64; SEQUENCE],
     s6: &[u64; SEQUENCE],
     s7: &[u64; SEQUENCE],
-    p: usize,
+    k: usize,
     q: usize,
 ) -> u64
-    requires { ⌜ (p < 2040) × (q < 11) ⌝ }
+    requires { ⌜ (k < 186) × (q < 11) ⌝ }
+    ensures { λ r. ⌜ r ≡ nonzero8 (now (s3 .entry)) (now (s5 .entry)) (now (s6 .entry)) (now (s7 .entry)) (now (rows .entry)) k q ⌝ }
 {
-    let n3 = 3 * p % PERIOD + 3 * q;
-    let n5 = 5 * p % PERIOD + 5 * q;
-    let n6 = 6 * p % PERIOD + 6 * q;
-    let n7 = 7 * p % PERIOD + 7 * q;
+    let n3 = 3 * DEGREE * k % PERIOD + 3 * q;
+    let n5 = 5 * DEGREE * k % PERIOD + 5 * q;
+    let n6 = 6 * DEGREE * k % PERIOD + 6 * q;
+    let n7 = 7 * DEGREE * k % PERIOD + 7 * q;
     let mut x: u64 = 0;
     let mut b: usize = 0;
     while b < DEGREE {
@@ -626,25 +639,27 @@ fn nonzero_8(
     x
 }
 
-// The wrong places of the block that begins at place p.
-fn block_2(rows: &[u64; BANK], p: usize, wrong: u64, flips: &mut [u64])
-    requires { ⌜ (p < 2040) × (length (now flips) ≡ 2040) ⌝ }
+// The wrong places of block k, by polynomials of degree 2 at most; 4 at most; 8.
+fn block_2(rows: &[u64; BANK], k: usize, wrong: u64, flips: &mut [u64])
+    requires { ⌜ (k < 186) × (length (now flips) ≡ 2040) ⌝ }
+    ensures { λ _. ⌜ Placed (11 * k) (blockFlips (nonzero2 (now (rows .entry)) k) k wrong) (now (flips .entry)) (now (flips .exit)) ⌝ }
 {
-    let n = block_places(p);
+    let n = places_in(k);
     let mut q: usize = 0;
     while q < n {
-        flips[p + q] = wrong & (nonzero_2(rows, q) ^ ALL);
+        flips[DEGREE * k + q] = wrong & (nonzero(get(rows, q)) ^ ALL);
         q += 1;
     }
 }
 
-fn block_4(rows: &[u64; BANK], s3: &[u64; SEQUENCE], p: usize, wrong: u64, flips: &mut [u64])
-    requires { ⌜ (p < 2040) × (length (now flips) ≡ 2040) ⌝ }
+fn block_4(rows: &[u64; BANK], s3: &[u64; SEQUENCE], k: usize, wrong: u64, flips: &mut [u64])
+    requires { ⌜ (k < 186) × (length (now flips) ≡ 2040) ⌝ }
+    ensures { λ _. ⌜ Placed (11 * k) (blockFlips (nonzero4 (now (s3 .entry)) (now (rows .entry)) k) k wrong) (now (flips .entry)) (now (flips .exit)) ⌝ }
 {
-    let n = block_places(p);
+    let n = places_in(k);
     let mut q: usize = 0;
     while q < n {
-        flips[p + q] = wrong & (nonzero_4(rows, s3, p, q) ^ ALL);
+        flips[DEGREE * k + q] = wrong & (nonzero_4(rows, s3, k, q) ^ ALL);
         q += 1;
     }
 }
@@ -655,16 +670,17 @@ fn block_8(
     s5: &[u64; SEQUENCE],
     s6: &[u64; SEQUENCE],
     s7: &[u64; SEQUENCE],
-    p: usize,
+    k: usize,
     wrong: u64,
     flips: &mut [u64],
 )
-    requires { ⌜ (p < 2040) × (length (now flips) ≡ 2040) ⌝ }
+    requires { ⌜ (k < 186) × (length (now flips) ≡ 2040) ⌝ }
+    ensures { λ _. ⌜ Placed (11 * k) (blockFlips (nonzero8 (now (s3 .entry)) (now (s5 .entry)) (now (s6 .entry)) (now (s7 .entry)) (now (rows .entry)) k) k wrong) (now (flips .entry)) (now (flips .exit)) ⌝ }
 {
-    let n = block_places(p);
+    let n = places_in(k);
     let mut q: usize = 0;
     while q < n {
-        flips[p + q] = wrong & (nonzero_8(rows, s3, s5, s6, s7, p, q) ^ ALL);
+        flips[DEGREE * k + q] = wrong & (nonzero_8(rows, s3, s5, s6, s7, k, q) ^ ALL);
         q += 1;
     }
 }
@@ -672,23 +688,25 @@ fn block_8(
 // The wrong places, by polynomials of degree 2 at most.
 fn search_2(locator: &[u64; BANK], wrong: u64, flips: &mut [u64])
     requires { ⌜ length (now flips) ≡ 2040 ⌝ }
+    ensures { λ _. ⌜ now (flips .exit) ≡ flips2 (now (locator .entry)) wrong ⌝ }
 {
     let mut rows = [0u64; BANK];
     first_rows(locator, &mut rows);
     let mut constant = [0u64; BANK];
     constants(locator, &mut constant);
-    let mut p: usize = 0;
-    while p < Inner::PLACES {
-        block_2(&rows, p, wrong, flips);
+    let mut k: usize = 0;
+    while k < BLOCKS {
+        block_2(&rows, k, wrong, flips);
         next_nine(&mut rows, &constant);
         next_two(&mut rows, &constant);
-        p += DEGREE;
+        k += 1;
     }
 }
 
 // The same of degree 4 at most.
 fn search_4(locator: &[u64; BANK], wrong: u64, flips: &mut [u64])
     requires { ⌜ length (now flips) ≡ 2040 ⌝ }
+    ensures { λ _. ⌜ now (flips .exit) ≡ flips4 (now (locator .entry)) wrong ⌝ }
 {
     let mut rows = [0u64; BANK];
     first_rows(locator, &mut rows);
@@ -696,18 +714,19 @@ fn search_4(locator: &[u64; BANK], wrong: u64, flips: &mut [u64])
     constants(locator, &mut constant);
     let mut s3 = [0u64; SEQUENCE];
     sequence(locator, 3, &mut s3);
-    let mut p: usize = 0;
-    while p < Inner::PLACES {
-        block_4(&rows, &s3, p, wrong, flips);
+    let mut k: usize = 0;
+    while k < BLOCKS {
+        block_4(&rows, &s3, k, wrong, flips);
         next_nine(&mut rows, &constant);
         next_two(&mut rows, &constant);
-        p += DEGREE;
+        k += 1;
     }
 }
 
 // The same of degree 8.
 fn search_8(locator: &[u64; BANK], wrong: u64, flips: &mut [u64])
     requires { ⌜ length (now flips) ≡ 2040 ⌝ }
+    ensures { λ _. ⌜ now (flips .exit) ≡ flips8 (now (locator .entry)) wrong ⌝ }
 {
     let mut rows = [0u64; BANK];
     first_rows(locator, &mut rows);
@@ -721,19 +740,19 @@ fn search_8(locator: &[u64; BANK], wrong: u64, flips: &mut [u64])
     sequence(locator, 6, &mut s6);
     let mut s7 = [0u64; SEQUENCE];
     sequence(locator, 7, &mut s7);
-    let mut p: usize = 0;
-    while p < Inner::PLACES {
-        block_8(&rows, &s3, &s5, &s6, &s7, p, wrong, flips);
+    let mut k: usize = 0;
+    while k < BLOCKS {
+        block_8(&rows, &s3, &s5, &s6, &s7, k, wrong, flips);
         next_nine(&mut rows, &constant);
         next_two(&mut rows, &constant);
-        p += DEGREE;
+        k += 1;
     }
 }
 
 // Writes the places to be inverted in the wrong inner words: bit k of number p, the highest first, is 1 where word k is to be inverted in place p.
 pub fn propose(residues: &[u64; Inner::PARITY], wrong: u64, flips: &mut [u64])
     requires { ⌜ length (now flips) ≡ 2040 ⌝ }
-    ensures { λ _. ⌜ length (now (flips .exit)) ≡ 2040 ⌝ }
+    ensures { λ _. ⌜ (length (now (flips .exit)) ≡ 2040) × (now (flips .exit) ≡ proposal (now (residues .entry)) wrong) ⌝ }
 {
     let mut bank = [0u64; BANK];
     syndromes(residues, &mut bank);

@@ -1,31 +1,38 @@
 -- `frames::side_by_side::block_2` meets its contract. Assumes nothing.
+use Rattle.frames.proofs.SearchSteps.{block-next, block-end, nonzero2-is}
+use Rattle.frames.specs.LaneSteps.{nonzero2, blockFlips}
+use Rattle.frames.proofs.Placing.{Placing, placing-start}
+use Prim.Native.Nat.{_-_, _*_, _≤_}
 use borrow.Author.Needs.{needs}
-use lib.ListN.{length}
-use mathlib.Core.Path.{_≡_}
-use Prim.Native.Nat.{_-_, _≤_}
 use Rattle.frames.proofs.side_by_side.block_2.Statement.{statement}
 use Rattle.frames.proofs.side_by_side.block_2.Tie as tie
 
 abbrev Inv-loop : tie.InvT-loop
-Inv-loop rows p wrong flips₀ n q₀ flips q = (q ≤ n) × (length flips ≡ 2040)
+Inv-loop rows k wrong flips₀ n q₀ flips q = (q ≤ n) × Placing (11 * k) (blockFlips (nonzero2 rows k) k wrong) q flips₀ flips
 
 abbrev μ-loop : tie.MeasureT-loop
-μ-loop rows p wrong flips₀ n q₀ flips q = n - q
+μ-loop rows k wrong flips₀ n q₀ flips q = n - q
 
-block-places-requires : tie.Need-block-places-requires Inv-loop μ-loop
-block-places-requires c κs = search needs
+places-in-requires : tie.Need-places-in-requires Inv-loop μ-loop
+places-in-requires c κs = search needs
 
 loop-holds : tie.Need-loop-holds Inv-loop μ-loop
-loop-holds c = search needs
+loop-holds c = search (needs, placing-start)
 
-nonzero-2-requires : tie.Need-nonzero-2-requires Inv-loop μ-loop
-nonzero-2-requires c κs = search needs
+get-requires : tie.Need-get-requires Inv-loop μ-loop
+get-requires c κs = search needs
+
+nonzero-requires : tie.Need-nonzero-requires Inv-loop μ-loop
+nonzero-requires c κs = search needs
+
+mul-flips : tie.Need-mul-flips Inv-loop μ-loop
+mul-flips c = search needs
 
 add-flips : tie.Need-add-flips Inv-loop μ-loop
 add-flips c = search needs
 
-mul-flips : tie.Need-mul-flips Inv-loop μ-loop
-mul-flips c = search needs
+mul-flips-2 : tie.Need-mul-flips-2 Inv-loop μ-loop
+mul-flips-2 c = search needs
 
 slice-write-flips : tie.Need-slice-write-flips Inv-loop μ-loop
 slice-write-flips c = search needs
@@ -37,13 +44,13 @@ loop-less : tie.Need-loop-less Inv-loop μ-loop
 loop-less c = search needs
 
 loop-again : tie.Need-loop-again Inv-loop μ-loop
-loop-again c = search needs
+loop-again c = (search needs, block-next _ _ _ (c .before .before .before .before .places-in .ensures .0) _ (c .before .before .before .loop .inv .1) (search needs) (search needs) (search needs) (nonzero2-is _ _ _ (c .before .get .ensures) (c .nonzero .ensures)))
 
 same-length : tie.Need-same-length Inv-loop μ-loop
 same-length c = search needs
 
 returns : tie.Need-returns Inv-loop μ-loop
-returns c = search needs
+returns c = block-end _ _ _ (c .before .before .places-in .ensures .0) _ (c .before .loop .inv .1) (search needs)
 
 pub block-2-spec : {M : Type 1} → statement M
 block-2-spec =
@@ -51,11 +58,13 @@ block-2-spec =
     (tie.spec
     Inv-loop
     μ-loop
-    block-places-requires
+    places-in-requires
     loop-holds
-    nonzero-2-requires
-    add-flips
+    get-requires
+    nonzero-requires
     mul-flips
+    add-flips
+    mul-flips-2
     slice-write-flips
     add-q
     loop-less

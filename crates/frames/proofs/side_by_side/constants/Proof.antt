@@ -1,11 +1,15 @@
 -- `frames::side_by_side::constants` meets its contract. Assumes nothing.
-use borrow.Author.Needs.{needs}
+use Rattle.frames.proofs.SearchSteps.{constants-next, constants-end}
+use Rattle.frames.proofs.LaneSteps.{turns-none}
+use Rattle.frames.specs.LaneSteps.{turns, constantStep}
 use Prim.Native.Nat.{_-_, _≤_}
+use mathlib.Core.Path.{_≡_}
+use borrow.Author.Needs.{needs}
 use Rattle.frames.proofs.side_by_side.constants.Statement.{statement}
 use Rattle.frames.proofs.side_by_side.constants.Tie as tie
 
 abbrev Inv-loop : tie.InvT-loop
-Inv-loop locator constant₀ x q₀ constant q = q ≤ 11
+Inv-loop locator constant₀ x q₀ constant q = (q ≤ 11) × (constant ≡ turns (constantStep locator) q constant₀)
 
 abbrev μ-loop : tie.MeasureT-loop
 μ-loop locator constant₀ x q₀ constant q = 11 - q
@@ -17,7 +21,7 @@ coordinates-requires : tie.Need-coordinates-requires Inv-loop μ-loop
 coordinates-requires c κs = search needs
 
 loop-holds : tie.Need-loop-holds Inv-loop μ-loop
-loop-holds c = search needs
+loop-holds c = search (needs, turns-none)
 
 put-requires : tie.Need-put-requires Inv-loop μ-loop
 put-requires c κs = search needs
@@ -29,10 +33,10 @@ loop-less : tie.Need-loop-less Inv-loop μ-loop
 loop-less c = search needs
 
 loop-again : tie.Need-loop-again Inv-loop μ-loop
-loop-again c = search needs
+loop-again c = (search needs, constants-next _ _ _ (c .before .before .before .loop .inv .1) (c .before .before .before .before .before .get .ensures) (c .before .before .before .before .coordinates .ensures) (c .put .ensures))
 
 returns : tie.Need-returns Inv-loop μ-loop
-returns c = search needs
+returns c = search (needs, constants-end)
 
 pub constants-spec : {M : Type 1} → statement M
 constants-spec =

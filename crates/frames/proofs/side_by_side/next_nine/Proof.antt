@@ -1,17 +1,21 @@
 -- `frames::side_by_side::next_nine` meets its contract. Assumes nothing.
-use borrow.Author.Needs.{needs}
+use Rattle.frames.proofs.SearchSteps.{nine-next, nine-end}
+use Rattle.frames.proofs.LaneSteps.{turns-none}
+use Rattle.frames.specs.LaneSteps.{turns, nineStep}
 use Prim.Native.Nat.{_-_, _≤_}
+use mathlib.Core.Path.{_≡_}
+use borrow.Author.Needs.{needs}
 use Rattle.frames.proofs.side_by_side.next_nine.Statement.{statement}
 use Rattle.frames.proofs.side_by_side.next_nine.Tie as tie
 
 abbrev Inv-loop : tie.InvT-loop
-Inv-loop rows₀ constant m₀ rows m = m ≤ 99
+Inv-loop rows₀ constant m₀ rows m = (m ≤ 99) × (rows ≡ turns (nineStep constant) m rows₀)
 
 abbrev μ-loop : tie.MeasureT-loop
 μ-loop rows₀ constant m₀ rows m = 99 - m
 
 loop-holds : tie.Need-loop-holds Inv-loop μ-loop
-loop-holds c = search needs
+loop-holds c = search (needs, turns-none)
 
 mul-loop : tie.Need-mul-loop Inv-loop μ-loop
 mul-loop c = search needs
@@ -53,10 +57,10 @@ loop-less : tie.Need-loop-less Inv-loop μ-loop
 loop-less c = search needs
 
 loop-again : tie.Need-loop-again Inv-loop μ-loop
-loop-again c = search needs
+loop-again c = search (needs, nine-next)
 
 returns : tie.Need-returns Inv-loop μ-loop
-returns c = search needs
+returns c = search (needs, nine-end)
 
 pub next-nine-spec : {M : Type 1} → statement M
 next-nine-spec =

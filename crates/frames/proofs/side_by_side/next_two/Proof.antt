@@ -1,17 +1,21 @@
 -- `frames::side_by_side::next_two` meets its contract. Assumes nothing.
-use borrow.Author.Needs.{needs}
+use Rattle.frames.proofs.SearchSteps.{two-next, two-end}
+use Rattle.frames.proofs.LaneSteps.{turns-none}
+use Rattle.frames.specs.LaneSteps.{turns, twoStep}
 use Prim.Native.Nat.{_-_, _≤_}
+use mathlib.Core.Path.{_≡_}
+use borrow.Author.Needs.{needs}
 use Rattle.frames.proofs.side_by_side.next_two.Statement.{statement}
 use Rattle.frames.proofs.side_by_side.next_two.Tie as tie
 
 abbrev Inv-loop : tie.InvT-loop
-Inv-loop rows₀ constant m₀ rows m = m ≤ 22
+Inv-loop rows₀ constant m₀ rows m = (m ≤ 22) × (rows ≡ turns (twoStep constant) m rows₀)
 
 abbrev μ-loop : tie.MeasureT-loop
 μ-loop rows₀ constant m₀ rows m = 22 - m
 
 loop-holds : tie.Need-loop-holds Inv-loop μ-loop
-loop-holds c = search needs
+loop-holds c = search (needs, turns-none)
 
 mul-loop : tie.Need-mul-loop Inv-loop μ-loop
 mul-loop c = search needs
@@ -59,10 +63,10 @@ loop-less : tie.Need-loop-less Inv-loop μ-loop
 loop-less c = search needs
 
 loop-again : tie.Need-loop-again Inv-loop μ-loop
-loop-again c = search needs
+loop-again c = search (needs, two-next)
 
 returns : tie.Need-returns Inv-loop μ-loop
-returns c = search needs
+returns c = search (needs, two-end)
 
 pub next-two-spec : {M : Type 1} → statement M
 next-two-spec =

@@ -1,14 +1,18 @@
 -- `frames::side_by_side::nonzero_4` meets its contract. Assumes nothing.
+use Rattle.frames.proofs.SearchSteps.{or-start, nonzero4-next, nonzero4-end}
+use Rattle.frames.specs.LaneSteps.{cell4}
+use Rattle.frames.specs.SideBySide.{orTo}
+use Prim.Native.Nat.{_-_, _≤_}
+use mathlib.Core.Path.{_≡_}
 use borrow.Author.Needs.{needs}
-use Prim.Native.Nat.{_-_, _≤_, _<_}
 use Rattle.frames.proofs.side_by_side.nonzero_4.Statement.{statement}
 use Rattle.frames.proofs.side_by_side.nonzero_4.Tie as tie
 
 abbrev Inv-loop : tie.InvT-loop
-Inv-loop rows s3 p q n3 x₀ b₀ x b = (b ≤ 11) × (q < 11) × (n3 ≤ 2076)
+Inv-loop rows s3 k q n3 x₀ b₀ x b = (b ≤ 11) × (x ≡ orTo b (cell4 s3 rows k q))
 
 abbrev μ-loop : tie.MeasureT-loop
-μ-loop rows s3 p q n3 x₀ b₀ x b = 11 - b
+μ-loop rows s3 k q n3 x₀ b₀ x b = 11 - b
 
 mul-n3 : tie.Need-mul-n3 Inv-loop μ-loop
 mul-n3 c = search needs
@@ -16,11 +20,14 @@ mul-n3 c = search needs
 mul-n3-2 : tie.Need-mul-n3-2 Inv-loop μ-loop
 mul-n3-2 c = search needs
 
+mul-n3-3 : tie.Need-mul-n3-3 Inv-loop μ-loop
+mul-n3-3 c = search needs
+
 add-n3 : tie.Need-add-n3 Inv-loop μ-loop
 add-n3 c = search needs
 
 loop-holds : tie.Need-loop-holds Inv-loop μ-loop
-loop-holds c = search needs
+loop-holds c = search (needs, or-start)
 
 mul-x : tie.Need-mul-x Inv-loop μ-loop
 mul-x c = search needs
@@ -50,10 +57,10 @@ loop-less : tie.Need-loop-less Inv-loop μ-loop
 loop-less c = search needs
 
 loop-again : tie.Need-loop-again Inv-loop μ-loop
-loop-again c = search needs
+loop-again c = search (needs, nonzero4-next)
 
 returns : tie.Need-returns Inv-loop μ-loop
-returns c = search needs
+returns c = search (needs, nonzero4-end)
 
 pub nonzero-4-spec : {M : Type 1} → statement M
 nonzero-4-spec =
@@ -63,6 +70,7 @@ nonzero-4-spec =
     μ-loop
     mul-n3
     mul-n3-2
+    mul-n3-3
     add-n3
     loop-holds
     mul-x

@@ -1,20 +1,27 @@
 -- `frames::side_by_side::nonzero_8` meets its contract. Assumes nothing.
+use Rattle.frames.proofs.SearchSteps.{or-start, nonzero8-next, nonzero8-end}
+use Rattle.frames.specs.LaneSteps.{cell8}
+use Rattle.frames.specs.SideBySide.{orTo}
+use Prim.Native.Nat.{_-_, _≤_}
+use mathlib.Core.Path.{_≡_}
 use borrow.Author.Needs.{needs}
-use Prim.Native.Nat.{_-_, _≤_, _<_}
 use Rattle.frames.proofs.side_by_side.nonzero_8.Statement.{statement}
 use Rattle.frames.proofs.side_by_side.nonzero_8.Tie as tie
 
 abbrev Inv-loop : tie.InvT-loop
-Inv-loop rows s3 s5 s6 s7 p q n3 n5 n6 n7 x₀ b₀ x b = (b ≤ 11) × (q < 11) × (n3 ≤ 2076) × (n5 ≤ 2096) × (n6 ≤ 2106) × (n7 ≤ 2116)
+Inv-loop rows s3 s5 s6 s7 k q n3 n5 n6 n7 x₀ b₀ x b = (b ≤ 11) × (x ≡ orTo b (cell8 s3 s5 s6 s7 rows k q))
 
 abbrev μ-loop : tie.MeasureT-loop
-μ-loop rows s3 s5 s6 s7 p q n3 n5 n6 n7 x₀ b₀ x b = 11 - b
+μ-loop rows s3 s5 s6 s7 k q n3 n5 n6 n7 x₀ b₀ x b = 11 - b
 
 mul-n3 : tie.Need-mul-n3 Inv-loop μ-loop
 mul-n3 c = search needs
 
 mul-n3-2 : tie.Need-mul-n3-2 Inv-loop μ-loop
 mul-n3-2 c = search needs
+
+mul-n3-3 : tie.Need-mul-n3-3 Inv-loop μ-loop
+mul-n3-3 c = search needs
 
 add-n3 : tie.Need-add-n3 Inv-loop μ-loop
 add-n3 c = search needs
@@ -25,6 +32,9 @@ mul-n5 c = search needs
 mul-n5-2 : tie.Need-mul-n5-2 Inv-loop μ-loop
 mul-n5-2 c = search needs
 
+mul-n5-3 : tie.Need-mul-n5-3 Inv-loop μ-loop
+mul-n5-3 c = search needs
+
 add-n5 : tie.Need-add-n5 Inv-loop μ-loop
 add-n5 c = search needs
 
@@ -33,6 +43,9 @@ mul-n6 c = search needs
 
 mul-n6-2 : tie.Need-mul-n6-2 Inv-loop μ-loop
 mul-n6-2 c = search needs
+
+mul-n6-3 : tie.Need-mul-n6-3 Inv-loop μ-loop
+mul-n6-3 c = search needs
 
 add-n6 : tie.Need-add-n6 Inv-loop μ-loop
 add-n6 c = search needs
@@ -43,11 +56,14 @@ mul-n7 c = search needs
 mul-n7-2 : tie.Need-mul-n7-2 Inv-loop μ-loop
 mul-n7-2 c = search needs
 
+mul-n7-3 : tie.Need-mul-n7-3 Inv-loop μ-loop
+mul-n7-3 c = search needs
+
 add-n7 : tie.Need-add-n7 Inv-loop μ-loop
 add-n7 c = search needs
 
 loop-holds : tie.Need-loop-holds Inv-loop μ-loop
-loop-holds c = search needs
+loop-holds c = search (needs, or-start)
 
 mul-x : tie.Need-mul-x Inv-loop μ-loop
 mul-x c = search needs
@@ -104,10 +120,10 @@ loop-less : tie.Need-loop-less Inv-loop μ-loop
 loop-less c = search needs
 
 loop-again : tie.Need-loop-again Inv-loop μ-loop
-loop-again c = search needs
+loop-again c = (search needs, nonzero8-next _ _ _ _ _ _ _ _ (c .before .before .before .before .before .before .loop .inv .1))
 
 returns : tie.Need-returns Inv-loop μ-loop
-returns c = search needs
+returns c = search (needs, nonzero8-end)
 
 pub nonzero-8-spec : {M : Type 1} → statement M
 nonzero-8-spec =
@@ -117,15 +133,19 @@ nonzero-8-spec =
     μ-loop
     mul-n3
     mul-n3-2
+    mul-n3-3
     add-n3
     mul-n5
     mul-n5-2
+    mul-n5-3
     add-n5
     mul-n6
     mul-n6-2
+    mul-n6-3
     add-n6
     mul-n7
     mul-n7-2
+    mul-n7-3
     add-n7
     loop-holds
     mul-x

@@ -1,14 +1,18 @@
 -- `frames::side_by_side::sequence` meets its contract. Assumes nothing.
-use borrow.Author.Needs.{needs}
+use Rattle.frames.proofs.SearchSteps.{sequence-next, sequence-end}
+use Rattle.frames.proofs.LaneSteps.{turns-none}
+use Rattle.frames.specs.LaneSteps.{turns, sequenceStep}
 use Prim.Native.Nat.{_-_, _≤_}
+use mathlib.Core.Path.{_≡_}
+use borrow.Author.Needs.{needs}
 use Rattle.frames.proofs.side_by_side.sequence.Statement.{statement}
 use Rattle.frames.proofs.side_by_side.sequence.Tie as tie
 
 abbrev Inv-loop : tie.InvT-loop
-Inv-loop locator i s₀ n₀ s n = (22 ≤ n) × (n ≤ 2127)
+Inv-loop locator i s₀ n₀ s n = (n ≤ 2105) × (s ≡ turns sequenceStep n s₀)
 
 abbrev μ-loop : tie.MeasureT-loop
-μ-loop locator i s₀ n₀ s n = 2127 - n
+μ-loop locator i s₀ n₀ s n = 2105 - n
 
 first-term-requires : tie.Need-first-term-requires Inv-loop μ-loop
 first-term-requires c κs = search needs
@@ -32,10 +36,13 @@ put-numbers-requires-2 : tie.Need-put-numbers-requires-2 Inv-loop μ-loop
 put-numbers-requires-2 c κs = search needs
 
 loop-holds : tie.Need-loop-holds Inv-loop μ-loop
-loop-holds c = search needs
+loop-holds c = search (needs, turns-none)
 
-sub-s : tie.Need-sub-s Inv-loop μ-loop
-sub-s c = search needs
+sub-loop : tie.Need-sub-loop Inv-loop μ-loop
+sub-loop c = search needs
+
+add-s : tie.Need-add-s Inv-loop μ-loop
+add-s c = search needs
 
 mul-s : tie.Need-mul-s Inv-loop μ-loop
 mul-s c = search needs
@@ -43,14 +50,14 @@ mul-s c = search needs
 element-copy-out-s : tie.Need-element-copy-out-s Inv-loop μ-loop
 element-copy-out-s c = search needs
 
-sub-s-2 : tie.Need-sub-s-2 Inv-loop μ-loop
-sub-s-2 c = search needs
-
 mul-s-2 : tie.Need-mul-s-2 Inv-loop μ-loop
 mul-s-2 c = search needs
 
 element-copy-out-s-2 : tie.Need-element-copy-out-s-2 Inv-loop μ-loop
 element-copy-out-s-2 c = search needs
+
+add-s-2 : tie.Need-add-s-2 Inv-loop μ-loop
+add-s-2 c = search needs
 
 mul-s-3 : tie.Need-mul-s-3 Inv-loop μ-loop
 mul-s-3 c = search needs
@@ -65,10 +72,10 @@ loop-less : tie.Need-loop-less Inv-loop μ-loop
 loop-less c = search needs
 
 loop-again : tie.Need-loop-again Inv-loop μ-loop
-loop-again c = search needs
+loop-again c = search (needs, sequence-next)
 
 returns : tie.Need-returns Inv-loop μ-loop
-returns c = search needs
+returns c = sequence-end _ _ (c .before .loop .inv .1) _ _ _ (search needs) (search needs) (c .before .before .before .before .before .before .before .before .before .before .first-term .ensures) (c .before .before .before .before .before .before .before .before .coordinates .ensures) (c .before .before .before .before .before .before .before .put-numbers .ensures) (c .before .before .before .before .before .times-a2 .ensures) (c .before .before .before .before .sum .ensures) (c .before .before .before .coordinates2 .ensures) (c .before .before .put-numbers2 .ensures)
 
 pub sequence-spec : {M : Type 1} → statement M
 sequence-spec =
@@ -84,12 +91,13 @@ sequence-spec =
     coordinates-requires-2
     put-numbers-requires-2
     loop-holds
-    sub-s
+    sub-loop
+    add-s
     mul-s
     element-copy-out-s
-    sub-s-2
     mul-s-2
     element-copy-out-s-2
+    add-s-2
     mul-s-3
     element-write-s
     add-n

@@ -15,7 +15,8 @@ use Rattle.words.proofs.Places.Filling.{Filled, filled-end}
 use Rattle.frames.specs.declared.residues.Lanes.{Lanes}
 use Rattle.frames.specs.SideBySide.{orTo}
 use Rattle.frames.specs.InnerResidues.{cells}
-use Rattle.frames.specs.LaneSteps.{turns, bit, sum, masked, nonzero, doubled, timesPower, productStep, product, square, get, stored, put, copied, oddStep, oddSyndrome, syndromeStep, syndromes}
+use Rattle.frames.specs.LaneSteps.{turns, bit, sum, masked, nonzero, doubled, timesPower, productStep, product, square}
+use Rattle.frames.specs.LaneSteps.{get, stored, put, copied, oddStep, oddSyndrome, syndromeStep, syndromes}
 
 -- ---- loops
 

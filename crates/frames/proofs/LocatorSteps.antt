@@ -14,7 +14,9 @@ use Rattle.fields.specs.Elements.{xor}
 use Rattle.frames.specs.declared.residues.Lanes.{Lanes}
 use Rattle.frames.specs.declared.side_by_side.Lengths.{Lengths}
 use Rattle.frames.specs.declared.side_by_side.Progress.{Progress}
-use Rattle.frames.specs.LaneSteps.{turns, bit, sum, nonzero, product, chosen, get, put, copied, termsIn, discrepancyStep, discrepancy, combinedStep, combined, followedStep, followed, reflected, lengthenedStep, lengthened, Polynomials, combinedAll, step, locators, degree}
+use Rattle.frames.specs.LaneSteps.{turns, bit, sum, nonzero, product, chosen, get, put, copied, termsIn, discrepancyStep, discrepancy}
+use Rattle.frames.specs.LaneSteps.{combinedStep, combined, followedStep, followed, reflected, lengthenedStep, lengthened}
+use Rattle.frames.specs.LaneSteps.{Polynomials, combinedAll, step, locators, degree}
 use Rattle.frames.proofs.LaneSteps.{turns-next, turns-over}
 
 -- ---- discrepancies
@@ -92,7 +94,8 @@ module _ (lengths : Lengths) (r mask j : ℕ) (s : List ℕ) {a : List ℕ} (so-
 
 -- ---- steps
 
-module _ (syndromes : List ℕ) (r : ℕ) (p : Progress) (locator other : List ℕ) {d : Lanes} {n : ℕ} (ed : d ≡ discrepancy locator syndromes r) (en : n ≡ nonzero d) where
+module _ (syndromes : List ℕ) (r : ℕ) (p : Progress) (locator other : List ℕ) {d : Lanes} {n : ℕ} (ed : d ≡ discrepancy locator syndromes r)
+    (en : n ≡ nonzero d) where
   pub step-same : {o : List ℕ} → n ≡ 0 → o ≡ followed other 0 locator → _≡_ {A = Polynomials} (p, locator, o) (step syndromes r (p, locator, other))
   unfolding step
   step-same z eo =

@@ -18,7 +18,10 @@ use Rattle.words.specs.Places.{at}
 use Rattle.frames.specs.declared.residues.Lanes.{Lanes}
 use Rattle.frames.specs.SideBySide.{orTo}
 use Rattle.frames.specs.Symbols.{Placed}
-use Rattle.frames.specs.LaneSteps.{turns, sum, nonzero, doubled, timesPower, coordinates, row, get, stored, put, syndromes, allWords, locators, degree, firstTerm, sequenceStep, sequence, sequenceOf, rowStep, firstRows, constantStep, constants, nineStep, nextNine, twoStep, nextTwo, nextRows, rowsOf, placesIn, nonzero2, cell4, nonzero4, cell8, nonzero8, blockFlips, flipsBy, flips2, flips4, flips8, proposal}
+use Rattle.frames.specs.LaneSteps.{turns, sum, nonzero, doubled, timesPower, coordinates, row, get, stored, put, syndromes, locators, degree}
+use Rattle.frames.specs.LaneSteps.{firstTerm, sequenceStep, sequence, sequenceOf, rowStep, firstRows, constantStep, constants}
+use Rattle.frames.specs.LaneSteps.{nineStep, nextNine, twoStep, nextTwo, nextRows, rowsOf, placesIn}
+use Rattle.frames.specs.LaneSteps.{nonzero2, cell4, nonzero4, cell8, nonzero8, others, blockFlips, flipsBy, flips2, flips4, flips8, proposal}
 use Rattle.frames.proofs.Placing.{Placing, placing-next, placing-end}
 use Rattle.frames.proofs.LaneSteps.{turns-next, turns-over, power-next}
 
@@ -46,8 +49,9 @@ module _ (n : ℕ) (t : List ℕ) {a : List ℕ} (so-far : a ≡ turns sequenceS
   unfolding sequenceStep xor
   sequence-next = turns-next _ t n so-far refl
 
-  pub sequence-end : (locator : List ℕ) (i : ℕ) (s : List ℕ) {u : List ℕ} {x y z v w : Lanes} → n ≤ 2105 → 2105 ≤ n → x ≡ firstTerm locator i → y ≡ coordinates x →
-      u ≡ stored s 0 y → z ≡ timesPower x 2 → v ≡ sum x z → w ≡ coordinates v → t ≡ stored u 11 w → a ≡ sequence locator i s
+  pub sequence-end : (locator : List ℕ) (i : ℕ) (s : List ℕ) {u : List ℕ} {x y z v w : Lanes} → n ≤ 2105 → 2105 ≤ n →
+      x ≡ firstTerm locator i → y ≡ coordinates x → u ≡ stored s 0 y → z ≡ timesPower x 2 → v ≡ sum x z → w ≡ coordinates v → t ≡ stored u 11 w →
+      a ≡ sequence locator i s
   unfolding sequence
   sequence-end locator i s l h ex ey eu ez ev ew et = turns-over _ t n so-far 2105 _ l h (rw (et, eu, ew, ev, ez, ey, ex))
 
@@ -136,25 +140,31 @@ module _ (s3 s5 s6 s7 rows : List ℕ) (k q b : ℕ) {x : ℕ} (so-far : x ≡ o
   unfolding nonzero8
   nonzero8-end l h = let e : b ≡ 11 = omega arith in rw e at so-far
 
-module _ (f : ℕ → ℕ) (k wrong : ℕ) {n : ℕ} (en : n ≡ placesIn k) (q : ℕ) {before after : List ℕ} (so-far : Placing (11 * k) (blockFlips f k wrong) q before after) where
+module _ (f : ℕ → ℕ) (k wrong : ℕ) {n : ℕ} (en : n ≡ placesIn k) (q : ℕ) {before after : List ℕ}
+    (so-far : Placing (11 * k) (blockFlips f k wrong) q before after) where
+  flips-long : length (blockFlips f k wrong) ≡ placesIn k
+  unfolding blockFlips
+  flips-long = tabulate-length (placesIn k) (λ i. others wrong (f i))
+
+  flips-at : q < placesIn k → at (blockFlips f k wrong) q ≡ others wrong (f q)
+  unfolding blockFlips
+  flips-at h = tabulate-at (placesIn k) (λ i. others wrong (f i)) q 0 h
+
   pub block-next : {x : ℕ} → q < n → 11 * k + n ≤ 2040 → length before ≡ 2040 → x ≡ f q →
       Placing (11 * k) (blockFlips f k wrong) (q + 1) before (set after (11 * k + q) (bitAnd wrong (bitXor x 18446744073709551615)))
-  unfolding blockFlips xor
-  block-next {x} h room long ex =
-      let l = tabulate-length (placesIn k) (λ q. bitAnd wrong (bitXor (f q) 18446744073709551615)) in
-      placing-next so-far (omega (arith, l)) (omega (arith, l))
-      (ap (λ (y : ℕ). bitAnd wrong (bitXor y 18446744073709551615)) ex ∙ sym (tabulate-at (placesIn k) (λ q. bitAnd wrong (bitXor (f q) 18446744073709551615)) q 0 (omega arith)))
+  unfolding others xor
+  block-next h room long ex =
+      placing-next so-far (omega (arith, flips-long)) (omega (arith, flips-long)) (ap (others wrong) ex ∙ sym (flips-at (omega arith)))
 
   pub block-end : n ≤ q → Placed (11 * k) (blockFlips f k wrong) before after
-  unfolding blockFlips
-  block-end h = placing-end so-far (omega (arith, tabulate-length (placesIn k) (λ q. bitAnd wrong (xor (f q) allWords))))
+  block-end h = placing-end so-far (omega (arith, flips-long))
 
 -- ---- all blocks
 
 -- the invariant: the places of the first k blocks are stored
 pub record Searched (f : ℕ → ℕ → ℕ) (wrong k : ℕ) (flips : List ℕ) : Type 0 where
   pub long : length flips ≡ 2040
-  pub done : (p : ℕ) → p < 2040 → p < 11 * k → at flips p ≡ bitAnd wrong (xor (f (p / 11) (p % 11)) allWords)
+  pub done : (p : ℕ) → p < 2040 → p < 11 * k → at flips p ≡ others wrong (f (p / 11) (p % 11))
 
 pub searched-start : (f : ℕ → ℕ → ℕ) (wrong : ℕ) {flips : List ℕ} → length flips ≡ 2040 → Searched f wrong 0 flips
 searched-start f wrong e = record { long = e; done = λ p l h. absurd (not-suc-le-zero h) }
@@ -164,25 +174,26 @@ searched-next : (f : ℕ → ℕ → ℕ) (wrong k : ℕ) {before after : List �
 unfolding blockFlips
 searched-next f wrong k {before} {after} s e = record { long = e .long ∙ s .long; done = λ p l h. go p l h (decLt p (11 * k)) (decLt k 185) }
   where
-    go : (p : ℕ) → p < 2040 → p < 11 * (k + 1) → Dec (p < 11 * k) → Dec (k < 185) → at after p ≡ bitAnd wrong (xor (f (p / 11) (p % 11)) allWords)
+    go : (p : ℕ) → p < 2040 → p < 11 * (k + 1) → Dec (p < 11 * k) → Dec (k < 185) → at after p ≡ others wrong (f (p / 11) (p % 11))
     go p l h (yes m) t = e .below p m ∙ s .done p l m
     go p l h (no m) t =
         let i : p - 11 * k < placesIn k = inside t in
         let c : p ≡ 11 * k + (p - 11 * k) = omega arith in
         let a : p / 11 ≡ k = omega arith in
         let b : p % 11 ≡ p - 11 * k = omega arith in
-        rw (a, b) (ap (at after) c ∙ e .inside (p - 11 * k) (rw tabulate-length i) ∙ tabulate-at (placesIn k) (λ q. bitAnd wrong (xor (f k q) allWords)) (p - 11 * k) 0 i)
+        rw (a, b)
+        (ap (at after) c ∙ e .inside (p - 11 * k) (rw tabulate-length i) ∙ tabulate-at (placesIn k) (λ q. others wrong (f k q)) (p - 11 * k) 0 i)
       where
         inside : Dec (k < 185) → p - 11 * k < placesIn k
         inside (yes u) = rw (← places-all k u) (omega arith)
         inside (no u) = rw (← places-last k (omega arith)) (omega arith)
 
 searched-end : (f : ℕ → ℕ → ℕ) (wrong k : ℕ) {flips : List ℕ} → Searched f wrong k flips → 186 ≤ k →
-    flips ≡ tabulate 2040 (λ p. bitAnd wrong (xor (f (p / 11) (p % 11)) allWords))
+    flips ≡ tabulate 2040 (λ p. others wrong (f (p / 11) (p % 11)))
 searched-end f wrong k {flips} s h = tabulate-is 2040 _ flips 0 (s .long) (λ p l. s .done p l (omega arith))
 
-pub rows-follow : (constant first : List ℕ) (k : ℕ) {rows a b : List ℕ} → rows ≡ turns (nextRows constant) k first → a ≡ nextNine constant rows → b ≡ nextTwo constant a →
-    b ≡ turns (nextRows constant) (k + 1) first
+pub rows-follow : (constant first : List ℕ) (k : ℕ) {rows a b : List ℕ} → rows ≡ turns (nextRows constant) k first → a ≡ nextNine constant rows →
+    b ≡ nextTwo constant a → b ≡ turns (nextRows constant) (k + 1) first
 unfolding nextRows
 rows-follow constant first k er ea eb = turns-next _ first k er (eb ∙ ap (nextTwo constant) ea)
 
@@ -201,12 +212,13 @@ module _ (w : List ℕ → ℕ → ℕ → ℕ) (constant first : List ℕ) (wro
   unfolding inBlocks flipsBy rowsOf
   search-end locator er ec s h = rw (← er, ← ec) (searched-end _ wrong k s h)
 
-pub flips4-is : (locator : List ℕ) (wrong : ℕ) {s3 flips : List ℕ} → s3 ≡ sequenceOf locator 3 → flips ≡ flipsBy (nonzero4 s3) locator wrong → flips ≡ flips4 locator wrong
+pub flips4-is : (locator : List ℕ) (wrong : ℕ) {s3 flips : List ℕ} → s3 ≡ sequenceOf locator 3 → flips ≡ flipsBy (nonzero4 s3) locator wrong →
+    flips ≡ flips4 locator wrong
 unfolding flips4
 flips4-is locator wrong e3 e = rw (← e3) e
 
-pub flips8-is : (locator : List ℕ) (wrong : ℕ) {s3 s5 s6 s7 flips : List ℕ} → s3 ≡ sequenceOf locator 3 → s5 ≡ sequenceOf locator 5 → s6 ≡ sequenceOf locator 6 →
-    s7 ≡ sequenceOf locator 7 → flips ≡ flipsBy (nonzero8 s3 s5 s6 s7) locator wrong → flips ≡ flips8 locator wrong
+pub flips8-is : (locator : List ℕ) (wrong : ℕ) {s3 s5 s6 s7 flips : List ℕ} → s3 ≡ sequenceOf locator 3 → s5 ≡ sequenceOf locator 5 →
+    s6 ≡ sequenceOf locator 6 → s7 ≡ sequenceOf locator 7 → flips ≡ flipsBy (nonzero8 s3 s5 s6 s7) locator wrong → flips ≡ flips8 locator wrong
 unfolding flips8
 flips8-is locator wrong e3 e5 e6 e7 e = rw (← e3, ← e5, ← e6, ← e7) e
 

@@ -277,12 +277,15 @@ cell8 s3 s5 s6 s7 rows k q b =
 unfoldable pub nonzero8 : List ℕ → List ℕ → List ℕ → List ℕ → List ℕ → ℕ → ℕ → ℕ
 nonzero8 s3 s5 s6 s7 rows k q = orTo 11 (cell8 s3 s5 s6 s7 rows k q)
 
--- the wrong inner words that are not among those: in block k, and in all places
+-- the wrong inner words that x has no 1 for: where polynomials are zero, in one place, in block k, and in all places
+unfoldable pub others : ℕ → ℕ → ℕ
+others wrong x = bitAnd wrong (xor x allWords)
+
 unfoldable pub blockFlips : (ℕ → ℕ) → ℕ → ℕ → List ℕ
-blockFlips nonzeroAt k wrong = tabulate (placesIn k) (λ q. bitAnd wrong (xor (nonzeroAt q) allWords))
+blockFlips nonzeroAt k wrong = tabulate (placesIn k) (λ q. others wrong (nonzeroAt q))
 
 unfoldable pub flipsBy : (List ℕ → ℕ → ℕ → ℕ) → List ℕ → ℕ → List ℕ
-flipsBy nonzeroIn locator wrong = tabulate 2040 (λ p. bitAnd wrong (xor (nonzeroIn (rowsOf locator (p / 11)) (p / 11) (p % 11)) allWords))
+flipsBy nonzeroIn locator wrong = tabulate 2040 (λ p. others wrong (nonzeroIn (rowsOf locator (p / 11)) (p / 11) (p % 11)))
 
 unfoldable pub flips2 : List ℕ → ℕ → List ℕ
 flips2 locator wrong = flipsBy nonzero2 locator wrong

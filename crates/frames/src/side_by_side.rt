@@ -5,8 +5,8 @@
 //     locators    Berlekamp and Massey's algorithm, without division, in the form for binary codes: eight steps
 //     search      the locator polynomials at one place after the other; the inner words whose polynomial is zero there are wrong there
 //
-// What comes out is a proposal, and nothing is promised of it but its size: how wrong places are found is free, and module `proposals` takes a word only
-// after a test.
+// What comes out is a proposal. Each function promises what it computes (`LaneSteps`), and none that the places are the wrong ones: how they are found is
+// free, and module `proposals` takes a word only after a test.
 use crate::residues::DEGREE;
 use crate::residues::FACTORS;
 use crate::residues::Lanes;
@@ -675,7 +675,8 @@ fn block_8(
     flips: &mut [u64],
 )
     requires { ⌜ (k < 186) × (length (now flips) ≡ 2040) ⌝ }
-    ensures { λ _. ⌜ Placed (11 * k) (blockFlips (nonzero8 (now (s3 .entry)) (now (s5 .entry)) (now (s6 .entry)) (now (s7 .entry)) (now (rows .entry)) k) k wrong) (now (flips .entry)) (now (flips .exit)) ⌝ }
+    ensures { λ _. ⌜ Placed (11 * k) (blockFlips (nonzero8 (now (s3 .entry)) (now (s5 .entry)) (now (s6 .entry)) (now (s7 .entry)) (now (rows .entry)) k) k
+        wrong) (now (flips .entry)) (now (flips .exit)) ⌝ }
 {
     let n = places_in(k);
     let mut q: usize = 0;

@@ -1,6 +1,6 @@
 -- `frames::side_by_side::bit` meets its contract. Assumes nothing.
-use Rattle.frames.specs.LaneSteps.{bit}
 use borrow.Author.Needs.{needs}
+use Rattle.frames.specs.LaneSteps.{bit}
 use Rattle.frames.proofs.side_by_side.bit.Statement.{statement}
 use Rattle.frames.proofs.side_by_side.bit.Tie as tie
 

@@ -1,9 +1,9 @@
 -- `frames::side_by_side::block_4` meets its contract. Assumes nothing.
-use Rattle.frames.proofs.SearchSteps.{block-next, block-end}
-use Rattle.frames.specs.LaneSteps.{nonzero4, blockFlips}
-use Rattle.frames.proofs.Placing.{Placing, placing-start}
 use Prim.Native.Nat.{_-_, _*_, _≤_}
 use borrow.Author.Needs.{needs}
+use Rattle.frames.specs.LaneSteps.{nonzero4, blockFlips}
+use Rattle.frames.proofs.SearchSteps.{block-next, block-end}
+use Rattle.frames.proofs.Placing.{Placing, placing-start}
 use Rattle.frames.proofs.side_by_side.block_4.Statement.{statement}
 use Rattle.frames.proofs.side_by_side.block_4.Tie as tie
 
@@ -41,7 +41,12 @@ loop-less : tie.Need-loop-less Inv-loop μ-loop
 loop-less c = search needs
 
 loop-again : tie.Need-loop-again Inv-loop μ-loop
-loop-again c = (search needs, block-next _ _ _ (c .before .before .before .places-in .ensures .0) _ (c .before .before .loop .inv .1) (search needs) (search needs) (search needs) (c .nonzero-4 .ensures))
+loop-again c = (
+  search needs,
+  block-next _ _ _
+      (c .before .before .before .places-in .ensures .0) _ (c .before .before .loop .inv .1) (search needs) (search needs) (search needs)
+      (c .nonzero-4 .ensures),
+)
 
 same-length : tie.Need-same-length Inv-loop μ-loop
 same-length c = search needs

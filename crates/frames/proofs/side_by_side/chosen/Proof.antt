@@ -1,6 +1,6 @@
 -- `frames::side_by_side::chosen` meets its contract. Assumes nothing.
-use Rattle.frames.specs.LaneSteps.{chosen}
 use borrow.Author.Needs.{needs}
+use Rattle.frames.specs.LaneSteps.{chosen}
 use Rattle.frames.proofs.side_by_side.chosen.Statement.{statement}
 use Rattle.frames.proofs.side_by_side.chosen.Tie as tie
 

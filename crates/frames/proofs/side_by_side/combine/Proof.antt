@@ -1,10 +1,10 @@
 -- `frames::side_by_side::combine` meets its contract. Assumes nothing.
+use mathlib.Core.Path.{_≡_}
+use Prim.Native.Nat.{_-_, _≤_}
+use borrow.Author.Needs.{needs}
+use Rattle.frames.specs.LaneSteps.{turns, combinedStep}
 use Rattle.frames.proofs.LocatorSteps.{combined-next, combined-end}
 use Rattle.frames.proofs.LaneSteps.{turns-none}
-use Rattle.frames.specs.LaneSteps.{turns, combinedStep}
-use Prim.Native.Nat.{_-_, _≤_}
-use mathlib.Core.Path.{_≡_}
-use borrow.Author.Needs.{needs}
 use Rattle.frames.proofs.side_by_side.combine.Statement.{statement}
 use Rattle.frames.proofs.side_by_side.combine.Tie as tie
 
@@ -42,7 +42,14 @@ loop-less : tie.Need-loop-less Inv-loop μ-loop
 loop-less c = search needs
 
 loop-again : tie.Need-loop-again Inv-loop μ-loop
-loop-again c = (search needs, combined-next _ _ _ _ _ (c .before .before .before .before .before .before .before .before .before .loop .inv .1) (c .before .before .before .before .before .before .get .ensures) (c .before .before .before .before .before .sparse-product .ensures) (c .before .before .before .before .get2 .ensures) (c .before .before .before .sparse-product2 .ensures) (c .before .before .sum .ensures) (c .put .ensures))
+loop-again c = (
+  search needs,
+  combined-next _ _ _ _ _
+      (c .before .before .before .before .before .before .before .before .before .loop .inv .1)
+      (c .before .before .before .before .before .before .get .ensures) (c .before .before .before .before .before .sparse-product .ensures)
+      (c .before .before .before .before .get2 .ensures) (c .before .before .before .sparse-product2 .ensures) (c .before .before .sum .ensures)
+      (c .put .ensures),
+)
 
 returns : tie.Need-returns Inv-loop μ-loop
 returns c = search (needs, combined-end)

@@ -1,10 +1,10 @@
 -- `frames::side_by_side::constants` meets its contract. Assumes nothing.
+use mathlib.Core.Path.{_≡_}
+use Prim.Native.Nat.{_-_, _≤_}
+use borrow.Author.Needs.{needs}
+use Rattle.frames.specs.LaneSteps.{turns, constantStep}
 use Rattle.frames.proofs.SearchSteps.{constants-next, constants-end}
 use Rattle.frames.proofs.LaneSteps.{turns-none}
-use Rattle.frames.specs.LaneSteps.{turns, constantStep}
-use Prim.Native.Nat.{_-_, _≤_}
-use mathlib.Core.Path.{_≡_}
-use borrow.Author.Needs.{needs}
 use Rattle.frames.proofs.side_by_side.constants.Statement.{statement}
 use Rattle.frames.proofs.side_by_side.constants.Tie as tie
 
@@ -33,7 +33,12 @@ loop-less : tie.Need-loop-less Inv-loop μ-loop
 loop-less c = search needs
 
 loop-again : tie.Need-loop-again Inv-loop μ-loop
-loop-again c = (search needs, constants-next _ _ _ (c .before .before .before .loop .inv .1) (c .before .before .before .before .before .get .ensures) (c .before .before .before .before .coordinates .ensures) (c .put .ensures))
+loop-again c = (
+  search needs,
+  constants-next _ _ _
+      (c .before .before .before .loop .inv .1) (c .before .before .before .before .before .get .ensures)
+      (c .before .before .before .before .coordinates .ensures) (c .put .ensures),
+)
 
 returns : tie.Need-returns Inv-loop μ-loop
 returns c = search (needs, constants-end)

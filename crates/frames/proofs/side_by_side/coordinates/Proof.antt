@@ -1,7 +1,7 @@
 -- `frames::side_by_side::coordinates` meets its contract. Assumes nothing.
+use borrow.Author.Needs.{needs}
 use Rattle.fields.specs.Elements.{xor}
 use Rattle.frames.specs.LaneSteps.{turns, doubled, timesPower, coordinates}
-use borrow.Author.Needs.{needs}
 use Rattle.frames.proofs.side_by_side.coordinates.Statement.{statement}
 use Rattle.frames.proofs.side_by_side.coordinates.Tie as tie
 

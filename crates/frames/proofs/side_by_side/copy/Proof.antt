@@ -1,9 +1,9 @@
 -- `frames::side_by_side::copy` meets its contract. Assumes nothing.
-use Rattle.frames.proofs.LaneSteps.{copied-end}
-use Rattle.words.proofs.Places.Filling.{Filled, filled-start, filled-next}
-use Rattle.words.specs.Places.{at}
 use Prim.Native.Nat.{_-_}
 use borrow.Author.Needs.{needs}
+use Rattle.words.specs.Places.{at}
+use Rattle.words.proofs.Places.Filling.{Filled, filled-start, filled-next}
+use Rattle.frames.proofs.LaneSteps.{copied-end}
 use Rattle.frames.proofs.side_by_side.copy.Statement.{statement}
 use Rattle.frames.proofs.side_by_side.copy.Tie as tie
 

@@ -1,10 +1,10 @@
 -- `frames::side_by_side::degree` meets its contract. Assumes nothing.
-use Rattle.frames.proofs.LocatorSteps.{present, degree-all, degree-found, degree-less, degree-none}
-use Rattle.frames.specs.LaneSteps.{degree}
-use Rattle.fields.specs.Lists.{find}
-use Prim.Native.Nat.{_+_, _≤_}
 use mathlib.Core.Path.{_≡_}
+use Prim.Native.Nat.{_+_, _≤_}
 use borrow.Author.Needs.{needs}
+use Rattle.fields.specs.Lists.{find}
+use Rattle.frames.specs.LaneSteps.{degree}
+use Rattle.frames.proofs.LocatorSteps.{present, degree-all, degree-found, degree-less, degree-none}
 use Rattle.frames.proofs.side_by_side.degree.Statement.{statement}
 use Rattle.frames.proofs.side_by_side.degree.Tie as tie
 

@@ -1,10 +1,10 @@
 -- `frames::side_by_side::discrepancy` meets its contract. Assumes nothing.
+use mathlib.Core.Path.{_≡_}
+use Prim.Native.Nat.{_-_, _≤_}
+use borrow.Author.Needs.{needs}
+use Rattle.frames.specs.LaneSteps.{turns, discrepancyStep}
 use Rattle.frames.proofs.LocatorSteps.{discrepancy-next, discrepancy-end}
 use Rattle.frames.proofs.LaneSteps.{turns-none}
-use Rattle.frames.specs.LaneSteps.{turns, discrepancyStep}
-use Prim.Native.Nat.{_-_, _≤_}
-use mathlib.Core.Path.{_≡_}
-use borrow.Author.Needs.{needs}
 use Rattle.frames.proofs.side_by_side.discrepancy.Statement.{statement}
 use Rattle.frames.proofs.side_by_side.discrepancy.Tie as tie
 
@@ -48,7 +48,12 @@ loop-less : tie.Need-loop-less Inv-loop μ-loop
 loop-less c = search needs
 
 loop-again : tie.Need-loop-again Inv-loop μ-loop
-loop-again c = (search needs, discrepancy-next _ _ _ _ _ (c .before .before .before .before .before .loop .inv .1) (c .before .before .before .get .ensures) (c .before .before .get2 .ensures) (c .before .sparse-product .ensures) (c .sum .ensures))
+loop-again c = (
+  search needs,
+  discrepancy-next _ _ _ _ _
+      (c .before .before .before .before .before .loop .inv .1) (c .before .before .before .get .ensures) (c .before .before .get2 .ensures)
+      (c .before .sparse-product .ensures) (c .sum .ensures),
+)
 
 returns : tie.Need-returns Inv-loop μ-loop
 returns c = search (needs, discrepancy-end)

@@ -1,7 +1,7 @@
 -- `frames::side_by_side::doubled` meets its contract. Assumes nothing.
+use borrow.Author.Needs.{needs}
 use Rattle.fields.specs.Elements.{xor}
 use Rattle.frames.specs.LaneSteps.{doubled}
-use borrow.Author.Needs.{needs}
 use Rattle.frames.proofs.side_by_side.doubled.Statement.{statement}
 use Rattle.frames.proofs.side_by_side.doubled.Tie as tie
 

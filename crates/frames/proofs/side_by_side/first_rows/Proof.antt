@@ -1,10 +1,10 @@
 -- `frames::side_by_side::first_rows` meets its contract. Assumes nothing.
+use mathlib.Core.Path.{_≡_}
+use Prim.Native.Nat.{_-_, _*_, _≤_}
+use borrow.Author.Needs.{needs}
+use Rattle.frames.specs.LaneSteps.{turns, timesPower, firstTerm, rowStep}
 use Rattle.frames.proofs.SearchSteps.{power-start, power-more, rows-next, rows-end}
 use Rattle.frames.proofs.LaneSteps.{turns-none, power-next}
-use Rattle.frames.specs.LaneSteps.{turns, timesPower, firstTerm, rowStep}
-use Prim.Native.Nat.{_-_, _*_, _≤_}
-use mathlib.Core.Path.{_≡_}
-use borrow.Author.Needs.{needs}
 use Rattle.frames.proofs.side_by_side.first_rows.Statement.{statement}
 use Rattle.frames.proofs.side_by_side.first_rows.Tie as tie
 
@@ -72,7 +72,14 @@ loop-again c = (
   power-more _ 2 _ (c .before .before .before .before .before .before .before .before .loop .inv .2) (c .before .before .times-a2 .ensures),
   power-more _ 4 _ (c .before .before .before .before .before .before .before .before .loop .inv .3) (c .before .times-a4 .ensures),
   power-more _ 8 _ (c .before .before .before .before .before .before .before .before .loop .inv .4) (c .times-a8 .ensures),
-  rows-next _ _ _ (c .before .before .before .before .before .before .before .before .loop .inv .5) (c .before .before .before .before .before .before .before .before .before .before .before .before .before .get .ensures) (c .before .before .before .before .before .before .before .before .loop .inv .1) (c .before .before .before .before .before .before .before .before .loop .inv .2) (c .before .before .before .before .before .before .before .before .loop .inv .3) (c .before .before .before .before .before .before .before .before .loop .inv .4) (c .before .before .before .before .before .row .ensures) (c .before .before .before .before .put .ensures),
+  rows-next _ _ _
+      (c .before .before .before .before .before .before .before .before .loop .inv .5)
+      (c .before .before .before .before .before .before .before .before .before .before .before .before .before .get .ensures)
+      (c .before .before .before .before .before .before .before .before .loop .inv .1)
+      (c .before .before .before .before .before .before .before .before .loop .inv .2)
+      (c .before .before .before .before .before .before .before .before .loop .inv .3)
+      (c .before .before .before .before .before .before .before .before .loop .inv .4) (c .before .before .before .before .before .row .ensures)
+      (c .before .before .before .before .put .ensures),
 )
 
 returns : tie.Need-returns Inv-loop μ-loop

@@ -1,6 +1,6 @@
 -- `frames::side_by_side::first_term` meets its contract. Assumes nothing.
-use Rattle.frames.specs.LaneSteps.{firstTerm}
 use borrow.Author.Needs.{needs}
+use Rattle.frames.specs.LaneSteps.{firstTerm}
 use Rattle.frames.proofs.side_by_side.first_term.Statement.{statement}
 use Rattle.frames.proofs.side_by_side.first_term.Tie as tie
 

@@ -1,10 +1,10 @@
 -- `frames::side_by_side::follow` meets its contract. Assumes nothing.
+use mathlib.Core.Path.{_≡_}
+use Prim.Native.Nat.{_-_, _≤_}
+use borrow.Author.Needs.{needs}
+use Rattle.frames.specs.LaneSteps.{turns, followedStep}
 use Rattle.frames.proofs.LocatorSteps.{followed-next, followed-end}
 use Rattle.frames.proofs.LaneSteps.{turns-none}
-use Rattle.frames.specs.LaneSteps.{turns, followedStep}
-use Prim.Native.Nat.{_-_, _≤_}
-use mathlib.Core.Path.{_≡_}
-use borrow.Author.Needs.{needs}
 use Rattle.frames.proofs.side_by_side.follow.Statement.{statement}
 use Rattle.frames.proofs.side_by_side.follow.Tie as tie
 
@@ -48,7 +48,12 @@ loop-less : tie.Need-loop-less Inv-loop μ-loop
 loop-less c = search needs
 
 loop-again : tie.Need-loop-again Inv-loop μ-loop
-loop-again c = (search needs, followed-next _ _ _ _ (c .before .before .before .before .before .before .before .loop .inv .1) (c .before .before .before .before .before .get .ensures) (c .before .before .before .get2 .ensures) (c .before .before .chosen .ensures) (c .put .ensures))
+loop-again c = (
+  search needs,
+  followed-next _ _ _ _
+      (c .before .before .before .before .before .before .before .loop .inv .1) (c .before .before .before .before .before .get .ensures)
+      (c .before .before .before .get2 .ensures) (c .before .before .chosen .ensures) (c .put .ensures),
+)
 
 bit-requires : tie.Need-bit-requires Inv-loop μ-loop
 bit-requires c κs = search needs
@@ -63,7 +68,10 @@ put-requires-3 : tie.Need-put-requires-3 Inv-loop μ-loop
 put-requires-3 c κs = search needs
 
 returns : tie.Need-returns Inv-loop μ-loop
-returns c = followed-end _ _ _ _ (c .before .before .before .before .before .before .before .loop .inv .1) (search needs) (search needs) (c .before .before .before .before .bit .ensures) (c .before .before .before .put2 .ensures) (c .before .bit2 .ensures) (c .put3 .ensures)
+returns c =
+    followed-end _ _ _ _
+    (c .before .before .before .before .before .before .before .loop .inv .1) (search needs) (search needs)
+    (c .before .before .before .before .bit .ensures) (c .before .before .before .put2 .ensures) (c .before .bit2 .ensures) (c .put3 .ensures)
 
 pub follow-spec : {M : Type 1} → statement M
 follow-spec =

@@ -1,6 +1,6 @@
 -- `frames::side_by_side::get` meets its contract. Assumes nothing.
-use Rattle.frames.proofs.LaneSteps.{element-read}
 use borrow.Author.Needs.{needs}
+use Rattle.frames.proofs.LaneSteps.{element-read}
 use Rattle.frames.proofs.side_by_side.get.Statement.{statement}
 use Rattle.frames.proofs.side_by_side.get.Tie as tie
 

@@ -1,10 +1,10 @@
 -- `frames::side_by_side::lengthened` meets its contract. Assumes nothing.
+use mathlib.Core.Path.{_≡_}
+use Prim.Native.Nat.{_-_, _≤_}
+use borrow.Author.Needs.{needs}
+use Rattle.frames.specs.LaneSteps.{turns, lengthenedStep}
 use Rattle.frames.proofs.LocatorSteps.{lengthened-next, lengthened-end}
 use Rattle.frames.proofs.LaneSteps.{turns-none}
-use Rattle.frames.specs.LaneSteps.{turns, lengthenedStep}
-use Prim.Native.Nat.{_-_, _≤_}
-use mathlib.Core.Path.{_≡_}
-use borrow.Author.Needs.{needs}
 use Rattle.frames.proofs.side_by_side.lengthened.Statement.{statement}
 use Rattle.frames.proofs.side_by_side.lengthened.Tie as tie
 

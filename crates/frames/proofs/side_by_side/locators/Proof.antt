@@ -1,15 +1,16 @@
 -- `frames::side_by_side::locators` meets its contract. Assumes nothing.
+use mathlib.Core.Path.{_≡_, refl}
+use Prim.Native.Nat.{_-_, _≤_}
+use borrow.Author.Needs.{needs}
+use Rattle.frames.specs.LaneSteps.{turns, Polynomials, step}
 use Rattle.frames.proofs.LocatorSteps.{locators-end}
 use Rattle.frames.proofs.LaneSteps.{turns-none, turns-next}
-use Rattle.frames.specs.LaneSteps.{turns, Polynomials, step}
-use Prim.Native.Nat.{_-_, _≤_}
-use mathlib.Core.Path.{_≡_, refl}
-use borrow.Author.Needs.{needs}
 use Rattle.frames.proofs.side_by_side.locators.Statement.{statement}
 use Rattle.frames.proofs.side_by_side.locators.Tie as tie
 
 abbrev Inv-loop : tie.InvT-loop
-Inv-loop syndromes locator₀ other₀ progress₀ r₀ locator other progress r = (r ≤ 8) × (_≡_ {A = Polynomials} (progress, locator, other) (turns (step syndromes) r (progress₀, locator₀, other₀)))
+Inv-loop syndromes locator₀ other₀ progress₀ r₀ locator other progress r =
+    (r ≤ 8) × (_≡_ {A = Polynomials} (progress, locator, other) (turns (step syndromes) r (progress₀, locator₀, other₀)))
 
 abbrev μ-loop : tie.MeasureT-loop
 μ-loop syndromes locator₀ other₀ progress₀ r₀ locator other progress r = 8 - r
@@ -45,7 +46,11 @@ loop-again : tie.Need-loop-again Inv-loop μ-loop
 loop-again c = (search needs, turns-next _ _ _ (c .before .before .before .before .loop .inv .1) (c .step .ensures))
 
 returns : tie.Need-returns Inv-loop μ-loop
-returns c = locators-end _ _ _ _ _ _ (c .before .loop .inv .1) (search needs) (search needs) (c .before .before .before .before .before .before .before .bit .ensures) (c .before .before .before .before .before .before .put .ensures) (c .before .before .before .before .bit2 .ensures) (c .before .before .before .put2 .ensures) (c .before .before .bit3 .ensures) refl
+returns c =
+    locators-end _ _ _ _ _ _
+    (c .before .loop .inv .1) (search needs) (search needs) (c .before .before .before .before .before .before .before .bit .ensures)
+    (c .before .before .before .before .before .before .put .ensures) (c .before .before .before .before .bit2 .ensures)
+    (c .before .before .before .put2 .ensures) (c .before .before .bit3 .ensures) refl
 
 pub locators-spec : {M : Type 1} → statement M
 locators-spec =

@@ -1,6 +1,6 @@
 -- `frames::side_by_side::masked` meets its contract. Assumes nothing.
-use Rattle.frames.specs.LaneSteps.{masked}
 use borrow.Author.Needs.{needs}
+use Rattle.frames.specs.LaneSteps.{masked}
 use Rattle.frames.proofs.side_by_side.masked.Statement.{statement}
 use Rattle.frames.proofs.side_by_side.masked.Tie as tie
 

@@ -1,10 +1,10 @@
 -- `frames::side_by_side::next_nine` meets its contract. Assumes nothing.
+use mathlib.Core.Path.{_≡_}
+use Prim.Native.Nat.{_-_, _≤_}
+use borrow.Author.Needs.{needs}
+use Rattle.frames.specs.LaneSteps.{turns, nineStep}
 use Rattle.frames.proofs.SearchSteps.{nine-next, nine-end}
 use Rattle.frames.proofs.LaneSteps.{turns-none}
-use Rattle.frames.specs.LaneSteps.{turns, nineStep}
-use Prim.Native.Nat.{_-_, _≤_}
-use mathlib.Core.Path.{_≡_}
-use borrow.Author.Needs.{needs}
 use Rattle.frames.proofs.side_by_side.next_nine.Statement.{statement}
 use Rattle.frames.proofs.side_by_side.next_nine.Tie as tie
 

@@ -1,10 +1,10 @@
 -- `frames::side_by_side::next_two` meets its contract. Assumes nothing.
+use mathlib.Core.Path.{_≡_}
+use Prim.Native.Nat.{_-_, _≤_}
+use borrow.Author.Needs.{needs}
+use Rattle.frames.specs.LaneSteps.{turns, twoStep}
 use Rattle.frames.proofs.SearchSteps.{two-next, two-end}
 use Rattle.frames.proofs.LaneSteps.{turns-none}
-use Rattle.frames.specs.LaneSteps.{turns, twoStep}
-use Prim.Native.Nat.{_-_, _≤_}
-use mathlib.Core.Path.{_≡_}
-use borrow.Author.Needs.{needs}
 use Rattle.frames.proofs.side_by_side.next_two.Statement.{statement}
 use Rattle.frames.proofs.side_by_side.next_two.Tie as tie
 

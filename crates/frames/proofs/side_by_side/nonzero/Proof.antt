@@ -1,7 +1,7 @@
 -- `frames::side_by_side::nonzero` meets its contract. Assumes nothing.
+use borrow.Author.Needs.{needs}
 use Rattle.frames.specs.SideBySide.{orTo}
 use Rattle.frames.specs.LaneSteps.{nonzero}
-use borrow.Author.Needs.{needs}
 use Rattle.frames.proofs.side_by_side.nonzero.Statement.{statement}
 use Rattle.frames.proofs.side_by_side.nonzero.Tie as tie
 

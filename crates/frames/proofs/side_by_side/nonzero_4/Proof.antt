@@ -1,10 +1,10 @@
 -- `frames::side_by_side::nonzero_4` meets its contract. Assumes nothing.
-use Rattle.frames.proofs.SearchSteps.{or-start, nonzero4-next, nonzero4-end}
+use mathlib.Core.Path.{_≡_}
+use Prim.Native.Nat.{_-_, _≤_}
+use borrow.Author.Needs.{needs}
 use Rattle.frames.specs.LaneSteps.{cell4}
 use Rattle.frames.specs.SideBySide.{orTo}
-use Prim.Native.Nat.{_-_, _≤_}
-use mathlib.Core.Path.{_≡_}
-use borrow.Author.Needs.{needs}
+use Rattle.frames.proofs.SearchSteps.{or-start, nonzero4-next, nonzero4-end}
 use Rattle.frames.proofs.side_by_side.nonzero_4.Statement.{statement}
 use Rattle.frames.proofs.side_by_side.nonzero_4.Tie as tie
 

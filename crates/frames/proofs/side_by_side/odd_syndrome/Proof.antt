@@ -1,9 +1,9 @@
 -- `frames::side_by_side::odd_syndrome` meets its contract. Assumes nothing.
-use Rattle.frames.proofs.LaneSteps.{turns-none, odd-next, odd-end}
-use Rattle.frames.specs.LaneSteps.{turns, oddStep}
 use mathlib.Core.Path.{_≡_}
-use borrow.Author.Needs.{needs}
 use Prim.Native.Nat.{_-_, _≤_}
+use borrow.Author.Needs.{needs}
+use Rattle.frames.specs.LaneSteps.{turns, oddStep}
+use Rattle.frames.proofs.LaneSteps.{turns-none, odd-next, odd-end}
 use Rattle.frames.proofs.side_by_side.odd_syndrome.Statement.{statement}
 use Rattle.frames.proofs.side_by_side.odd_syndrome.Tie as tie
 

@@ -1,6 +1,6 @@
 -- `frames::side_by_side::places_in` meets its contract. Assumes nothing.
-use Rattle.frames.proofs.SearchSteps.{places-all, places-last}
 use borrow.Author.Needs.{needs}
+use Rattle.frames.proofs.SearchSteps.{places-all, places-last}
 use Rattle.frames.proofs.side_by_side.places_in.Statement.{statement}
 use Rattle.frames.proofs.side_by_side.places_in.Tie as tie
 

@@ -1,6 +1,6 @@
 -- `frames::side_by_side::product` meets its contract. Assumes nothing.
-use Rattle.frames.proofs.LaneSteps.{product-is}
 use borrow.Author.Needs.{needs}
+use Rattle.frames.proofs.LaneSteps.{product-is}
 use Rattle.frames.proofs.side_by_side.product.Statement.{statement}
 use Rattle.frames.proofs.side_by_side.product.Tie as tie
 

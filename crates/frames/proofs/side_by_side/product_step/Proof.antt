@@ -1,6 +1,6 @@
 -- `frames::side_by_side::product_step` meets its contract. Assumes nothing.
-use Rattle.frames.specs.LaneSteps.{productStep}
 use borrow.Author.Needs.{needs}
+use Rattle.frames.specs.LaneSteps.{productStep}
 use Rattle.frames.proofs.side_by_side.product_step.Statement.{statement}
 use Rattle.frames.proofs.side_by_side.product_step.Tie as tie
 

@@ -1,6 +1,6 @@
 -- `frames::side_by_side::put_numbers` meets its contract. Assumes nothing.
-use Rattle.frames.proofs.LaneSteps.{element-stored}
 use borrow.Author.Needs.{needs}
+use Rattle.frames.proofs.LaneSteps.{element-stored}
 use Rattle.frames.proofs.side_by_side.put_numbers.Statement.{statement}
 use Rattle.frames.proofs.side_by_side.put_numbers.Tie as tie
 

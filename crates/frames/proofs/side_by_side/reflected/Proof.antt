@@ -1,6 +1,6 @@
 -- `frames::side_by_side::reflected` meets its contract. Assumes nothing.
-use Rattle.frames.proofs.LocatorSteps.{reflected-none, reflected-all, reflected-other}
 use borrow.Author.Needs.{needs}
+use Rattle.frames.proofs.LocatorSteps.{reflected-none, reflected-all, reflected-other}
 use Rattle.frames.proofs.side_by_side.reflected.Statement.{statement}
 use Rattle.frames.proofs.side_by_side.reflected.Tie as tie
 

@@ -1,6 +1,6 @@
 -- `frames::side_by_side::row` meets its contract. Assumes nothing.
-use Rattle.frames.specs.LaneSteps.{row}
 use borrow.Author.Needs.{needs}
+use Rattle.frames.specs.LaneSteps.{row}
 use Rattle.frames.proofs.side_by_side.row.Statement.{statement}
 use Rattle.frames.proofs.side_by_side.row.Tie as tie
 

@@ -1,15 +1,16 @@
 -- `frames::side_by_side::search_2` meets its contract. Assumes nothing.
+use mathlib.Core.Path.{_≡_}
+use Prim.Native.Nat.{_-_, _≤_}
+use borrow.Author.Needs.{needs}
+use Rattle.frames.specs.LaneSteps.{turns, nextRows, nonzero2, flips2}
 use Rattle.frames.proofs.SearchSteps.{Searched, inBlocks, searched-start, block-found, rows-follow, search-end}
 use Rattle.frames.proofs.LaneSteps.{turns-none}
-use Rattle.frames.specs.LaneSteps.{turns, nextRows, nonzero2, flips2}
-use Prim.Native.Nat.{_-_, _≤_}
-use mathlib.Core.Path.{_≡_}
-use borrow.Author.Needs.{needs}
 use Rattle.frames.proofs.side_by_side.search_2.Statement.{statement}
 use Rattle.frames.proofs.side_by_side.search_2.Tie as tie
 
 abbrev Inv-loop : tie.InvT-loop
-Inv-loop locator wrong flips₀ rows₀ constant k₀ flips rows k = (k ≤ 186) × Searched (inBlocks (nonzero2) constant rows₀) wrong k flips × (rows ≡ turns (nextRows constant) k rows₀)
+Inv-loop locator wrong flips₀ rows₀ constant k₀ flips rows k =
+    (k ≤ 186) × Searched (inBlocks (nonzero2) constant rows₀) wrong k flips × (rows ≡ turns (nextRows constant) k rows₀)
 
 abbrev μ-loop : tie.MeasureT-loop
 μ-loop locator wrong flips₀ rows₀ constant k₀ flips rows k = 186 - k
@@ -41,8 +42,13 @@ loop-less c = search needs
 loop-again : tie.Need-loop-again Inv-loop μ-loop
 loop-again c = (
   search needs,
-  block-found _ _ _ _ _ (c .before .before .before .before .before .before .before .before .before .before .before .before .loop .inv .2) (c .before .before .before .before .before .before .before .before .before .before .before .before .loop .inv .1) (c .before .before .before .before .before .before .before .before .block-2 .ensures),
-  rows-follow _ _ _ (c .before .before .before .before .before .before .before .before .before .before .before .before .loop .inv .2) (c .before .before .before .next-nine .ensures) (c .next-two .ensures),
+  block-found _ _ _ _ _
+      (c .before .before .before .before .before .before .before .before .before .before .before .before .loop .inv .2)
+      (c .before .before .before .before .before .before .before .before .before .before .before .before .loop .inv .1)
+      (c .before .before .before .before .before .before .before .before .block-2 .ensures),
+  rows-follow _ _ _
+      (c .before .before .before .before .before .before .before .before .before .before .before .before .loop .inv .2)
+      (c .before .before .before .next-nine .ensures) (c .next-two .ensures),
 )
 
 same-length : tie.Need-same-length Inv-loop μ-loop
@@ -50,7 +56,9 @@ same-length c = search needs
 
 returns : tie.Need-returns Inv-loop μ-loop
 unfolding flips2
-returns c = search-end _ _ _ _ _ _ (c .before .before .before .before .first-rows .ensures) (c .before .before .constants .ensures) (c .before .loop .inv .1) (search needs)
+returns c =
+    search-end _ _ _ _ _ _
+    (c .before .before .before .before .first-rows .ensures) (c .before .before .constants .ensures) (c .before .loop .inv .1) (search needs)
 
 pub search-2-spec : {M : Type 1} → statement M
 search-2-spec =

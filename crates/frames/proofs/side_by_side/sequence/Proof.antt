@@ -1,10 +1,10 @@
 -- `frames::side_by_side::sequence` meets its contract. Assumes nothing.
+use mathlib.Core.Path.{_≡_}
+use Prim.Native.Nat.{_-_, _≤_}
+use borrow.Author.Needs.{needs}
+use Rattle.frames.specs.LaneSteps.{turns, sequenceStep}
 use Rattle.frames.proofs.SearchSteps.{sequence-next, sequence-end}
 use Rattle.frames.proofs.LaneSteps.{turns-none}
-use Rattle.frames.specs.LaneSteps.{turns, sequenceStep}
-use Prim.Native.Nat.{_-_, _≤_}
-use mathlib.Core.Path.{_≡_}
-use borrow.Author.Needs.{needs}
 use Rattle.frames.proofs.side_by_side.sequence.Statement.{statement}
 use Rattle.frames.proofs.side_by_side.sequence.Tie as tie
 
@@ -75,7 +75,14 @@ loop-again : tie.Need-loop-again Inv-loop μ-loop
 loop-again c = search (needs, sequence-next)
 
 returns : tie.Need-returns Inv-loop μ-loop
-returns c = sequence-end _ _ (c .before .loop .inv .1) _ _ _ (search needs) (search needs) (c .before .before .before .before .before .before .before .before .before .before .first-term .ensures) (c .before .before .before .before .before .before .before .before .coordinates .ensures) (c .before .before .before .before .before .before .before .put-numbers .ensures) (c .before .before .before .before .before .times-a2 .ensures) (c .before .before .before .before .sum .ensures) (c .before .before .before .coordinates2 .ensures) (c .before .before .put-numbers2 .ensures)
+returns c =
+    sequence-end _ _
+    (c .before .loop .inv .1) _ _ _ (search needs) (search needs)
+    (c .before .before .before .before .before .before .before .before .before .before .first-term .ensures)
+    (c .before .before .before .before .before .before .before .before .coordinates .ensures)
+    (c .before .before .before .before .before .before .before .put-numbers .ensures)
+    (c .before .before .before .before .before .times-a2 .ensures) (c .before .before .before .before .sum .ensures)
+    (c .before .before .before .coordinates2 .ensures) (c .before .before .put-numbers2 .ensures)
 
 pub sequence-spec : {M : Type 1} → statement M
 sequence-spec =

@@ -1,6 +1,6 @@
 -- `frames::side_by_side::sparse_product` meets its contract. Assumes nothing.
-use Rattle.frames.proofs.LaneSteps.{sparse-none}
 use borrow.Author.Needs.{needs}
+use Rattle.frames.proofs.LaneSteps.{sparse-none}
 use Rattle.frames.proofs.side_by_side.sparse_product.Statement.{statement}
 use Rattle.frames.proofs.side_by_side.sparse_product.Tie as tie
 

@@ -1,7 +1,7 @@
 -- `frames::side_by_side::square` meets its contract. Assumes nothing.
+use borrow.Author.Needs.{needs}
 use Rattle.fields.specs.Elements.{xor}
 use Rattle.frames.specs.LaneSteps.{square}
-use borrow.Author.Needs.{needs}
 use Rattle.frames.proofs.side_by_side.square.Statement.{statement}
 use Rattle.frames.proofs.side_by_side.square.Tie as tie
 

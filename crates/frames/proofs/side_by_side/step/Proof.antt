@@ -1,6 +1,6 @@
 -- `frames::side_by_side::step` meets its contract. Assumes nothing.
-use Rattle.frames.proofs.LocatorSteps.{step-same, step-grown}
 use borrow.Author.Needs.{needs}
+use Rattle.frames.proofs.LocatorSteps.{step-same, step-grown}
 use Rattle.frames.proofs.side_by_side.step.Statement.{statement}
 use Rattle.frames.proofs.side_by_side.step.Tie as tie
 
@@ -14,7 +14,10 @@ follow-requires : tie.Need-follow-requires
 follow-requires c κs = search needs
 
 returns : tie.Need-returns
-returns c = step-same _ _ _ _ _ (c .before .before .before .before .before .discrepancy .ensures) (c .before .before .before .before .nonzero .ensures) (c .before .before .before .if1 .taken) (c .follow .ensures)
+returns c =
+    step-same _ _ _ _ _
+    (c .before .before .before .before .before .discrepancy .ensures) (c .before .before .before .before .nonzero .ensures)
+    (c .before .before .before .if1 .taken) (c .follow .ensures)
 
 add-grows : tie.Need-add-grows
 add-grows c = search needs
@@ -41,7 +44,14 @@ lengthened-requires : tie.Need-lengthened-requires
 lengthened-requires c κs = search needs
 
 returns-2 : tie.Need-returns-2
-returns-2 c = step-grown _ _ _ _ _ (c .before .before .before .before .before .before .before .before .before .before .before .before .before .before .before .discrepancy .ensures) (c .before .before .before .before .before .before .before .before .before .before .before .before .before .before .nonzero .ensures) (c .before .before .before .before .before .before .before .before .before .before .before .before .before .if1 .left) (c .before .before .before .before .before .before .before .before .copy .ensures) (c .before .before .before .before .before .combine .ensures) (c .before .before .follow2 .ensures) (c .before .chosen .ensures) (c .lengthened .ensures)
+returns-2 c =
+    step-grown _ _ _ _ _
+    (c .before .before .before .before .before .before .before .before .before .before .before .before .before .before .before .discrepancy .ensures)
+    (c .before .before .before .before .before .before .before .before .before .before .before .before .before .before .nonzero .ensures)
+    (c .before .before .before .before .before .before .before .before .before .before .before .before .before .if1 .left)
+    (c .before .before .before .before .before .before .before .before .copy .ensures)
+    (c .before .before .before .before .before .combine .ensures) (c .before .before .follow2 .ensures) (c .before .chosen .ensures)
+    (c .lengthened .ensures)
 
 pub step-spec : {M : Type 1} → statement M
 step-spec =

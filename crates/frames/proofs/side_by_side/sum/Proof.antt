@@ -1,7 +1,7 @@
 -- `frames::side_by_side::sum` meets its contract. Assumes nothing.
+use borrow.Author.Needs.{needs}
 use Rattle.fields.specs.Elements.{xor}
 use Rattle.frames.specs.LaneSteps.{sum}
-use borrow.Author.Needs.{needs}
 use Rattle.frames.proofs.side_by_side.sum.Statement.{statement}
 use Rattle.frames.proofs.side_by_side.sum.Tie as tie
 

@@ -1,9 +1,9 @@
 -- `frames::side_by_side::syndromes` meets its contract. Assumes nothing.
-use Rattle.frames.proofs.LaneSteps.{turns-none, syndromes-next, syndromes-end}
-use Rattle.frames.specs.LaneSteps.{turns, syndromeStep}
 use mathlib.Core.Path.{_≡_}
-use borrow.Author.Needs.{needs}
 use Prim.Native.Nat.{_-_, _≤_}
+use borrow.Author.Needs.{needs}
+use Rattle.frames.specs.LaneSteps.{turns, syndromeStep}
+use Rattle.frames.proofs.LaneSteps.{turns-none, syndromes-next, syndromes-end}
 use Rattle.frames.proofs.side_by_side.syndromes.Statement.{statement}
 use Rattle.frames.proofs.side_by_side.syndromes.Tie as tie
 
@@ -47,7 +47,13 @@ loop-less : tie.Need-loop-less Inv-loop μ-loop
 loop-less c = search needs
 
 loop-again : tie.Need-loop-again Inv-loop μ-loop
-loop-again c = (search needs, syndromes-next _ _ _ (c .before .before .before .before .before .before .before .before .before .loop .inv .1) (c .before .before .before .before .before .before .odd-syndrome .ensures) (c .before .before .before .before .before .put .ensures) (c .before .before .before .get .ensures) (c .before .square .ensures) (c .put2 .ensures))
+loop-again c = (
+  search needs,
+  syndromes-next _ _ _
+      (c .before .before .before .before .before .before .before .before .before .loop .inv .1)
+      (c .before .before .before .before .before .before .odd-syndrome .ensures) (c .before .before .before .before .before .put .ensures)
+      (c .before .before .before .get .ensures) (c .before .square .ensures) (c .put2 .ensures),
+)
 
 returns : tie.Need-returns Inv-loop μ-loop
 returns c = search (needs, syndromes-end)

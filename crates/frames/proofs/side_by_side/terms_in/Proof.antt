@@ -1,6 +1,6 @@
 -- `frames::side_by_side::terms_in` meets its contract. Assumes nothing.
-use Rattle.frames.proofs.LocatorSteps.{terms-few, terms-all}
 use borrow.Author.Needs.{needs}
+use Rattle.frames.proofs.LocatorSteps.{terms-few, terms-all}
 use Rattle.frames.proofs.side_by_side.terms_in.Statement.{statement}
 use Rattle.frames.proofs.side_by_side.terms_in.Tie as tie
 

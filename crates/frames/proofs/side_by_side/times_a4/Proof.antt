@@ -1,6 +1,6 @@
 -- `frames::side_by_side::times_a4` meets its contract. Assumes nothing.
-use Rattle.frames.specs.LaneSteps.{turns, timesPower}
 use borrow.Author.Needs.{needs}
+use Rattle.frames.specs.LaneSteps.{turns, timesPower}
 use Rattle.frames.proofs.side_by_side.times_a4.Statement.{statement}
 use Rattle.frames.proofs.side_by_side.times_a4.Tie as tie
 

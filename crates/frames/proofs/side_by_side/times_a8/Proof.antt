@@ -1,6 +1,6 @@
 -- `frames::side_by_side::times_a8` meets its contract. Assumes nothing.
-use Rattle.frames.specs.LaneSteps.{turns, timesPower}
 use borrow.Author.Needs.{needs}
+use Rattle.frames.specs.LaneSteps.{turns, timesPower}
 use Rattle.frames.proofs.side_by_side.times_a8.Statement.{statement}
 use Rattle.frames.proofs.side_by_side.times_a8.Tie as tie
 

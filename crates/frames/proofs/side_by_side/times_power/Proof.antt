@@ -1,9 +1,9 @@
 -- `frames::side_by_side::times_power` meets its contract. Assumes nothing.
 use mathlib.Core.Path.{_≡_}
-use Rattle.frames.proofs.LaneSteps.{power-none, power-next, power-end}
-use Rattle.frames.specs.LaneSteps.{timesPower}
-use borrow.Author.Needs.{needs}
 use Prim.Native.Nat.{_-_, _≤_}
+use borrow.Author.Needs.{needs}
+use Rattle.frames.specs.LaneSteps.{timesPower}
+use Rattle.frames.proofs.LaneSteps.{power-none, power-next, power-end}
 use Rattle.frames.proofs.side_by_side.times_power.Statement.{statement}
 use Rattle.frames.proofs.side_by_side.times_power.Tie as tie
 

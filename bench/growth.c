@@ -5,7 +5,7 @@
 
 enum { ROUNDS = 301 };
 
-static const int words[] = { 0, 1, 2, 4, 8, 10, 11, 16, 32, 64 };
+static const int words[] = { 0, 1, 2, 4, 8, 12, 16, 17, 32, 64 };
 static const int errors[] = { 1, 2, 8 };
 
 enum { WORDS = sizeof words / sizeof *words, ERRORS = sizeof errors / sizeof *errors };

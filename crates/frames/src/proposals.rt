@@ -14,9 +14,6 @@ ghost use Rattle.frames.specs.Symbols.{Placed};
 ghost use Rattle.frames.specs.Passes.{wrongWords};
 ghost use Rattle.frames.specs.Proposals.{Flipped, flipCounts, overRadius, beyondRadius, ones, Nearer};
 
-// Every inner word.
-const ALL: u64 = 0xffff_ffff_ffff_ffff;
-
 // Writes place p of every inner word.
 fn put_place(block: &mut [u8], p: usize, x: u64)
     requires { ⌜ (length (now block) ≡ 16320) × (p < 2040) ⌝ }
@@ -87,7 +84,7 @@ pub fn take(wrong: u64, flips: &[u64], block: &mut [u8]) -> u64
     requires { ⌜ wrong ≡ wrongWords (bitAt (now block)) ⌝ }
     ensures { λ r. ⌜ (r ≡ wrongWords (bitAt (now (block .exit)))) × Nearer r (now (block .entry)) (now (block .exit)) ⌝ }
 {
-    flip_places(flips, ALL, block);
+    flip_places(flips, side_by_side::ALL, block);
     let wrong_now = inner_words::wrong_words(block);
     let counts = flip_counts(flips);
     let back = wrong_now | beyond_radius(&counts);
@@ -99,7 +96,7 @@ pub fn take(wrong: u64, flips: &[u64], block: &mut [u8]) -> u64
 }
 
 // More wrong inner words than this are worth a proposal; a proposal for one takes as long as for all.
-const FEW: usize = 10;
+const FEW: usize = 16;
 
 // How many bits of the number are 1.
 fn ones(x: u64) -> usize

@@ -8,13 +8,15 @@ use native.Mathlib.Decide.{ℕ-discrete, decLt}
 use native.Mathlib.Nat.{le-refl, not-suc-le-zero}
 use native.Mathlib.Omega.{arith}
 use borrow.Author.Tests.{eq-eqb, le-leb, le-ltb, lt-ltb, not-true, not-false}
-use lib.Bits.{bitAnd, and-mask}
+use lib.Bits.{bitAnd, bitOr, and-mask}
 use lib.Dec.{eqb}
 use lib.ListN.{length, take, drop}
 use lib.Seq.{length-take-le}
 use Rattle.fields.proofs.Lists.{tabulate-is, tabulate-same}
 use Rattle.words.specs.Places.{at, allBelow}
 use Rattle.words.specs.OuterCode.{isOuter}
+use Rattle.words.specs.Division.{outerRemainder}
+use Rattle.words.specs.SixSymbols.{Packs}
 use Rattle.words.specs.Nearest.{nearest}
 use Rattle.words.specs.Answers.{refusal, within, found, corrected, outerCorrected, refusalOf, changedOf}
 use Rattle.words.specs.declared.Correction.{Correction}
@@ -71,15 +73,15 @@ code-nearest w u r short h e = go r e
     go true p = sym (permitted-some w u short u self (sym p))
     go false p = sym (permitted-not w u short u self (sym p))
 
-module _ (row : List ℕ) (long : length row ≡ 12496) (w n : ℕ) (h : w < 16) (e : n ≡ dataIn w) (t : Bool)
-    (test : t ≡ isOuter (take (781 * w + n + 16 - 781 * w) (drop (781 * w) row))) where
+module _ (row : List ℕ) (long : length row ≡ 12496) (w n : ℕ) (h : w < 16) (e : n ≡ dataIn w) (below : allBelow 1024 (rowWord row w) ≡ true) (x y z : ℕ)
+    (p : Packs x y z (outerRemainder (take (781 * w + n + 16 - 781 * w) (drop (781 * w) row)))) (t : Bool) (test : t ≡ eqb (bitOr (bitOr x y) z) 0) where
   pub code-kept : t ≡ true → (r : Bool) → r ≡ isPadded w (take (781 * w + n + 16 - 781 * w) (drop (781 * w) row)) → WordRestored w row row r
-  code-kept is-code r p =
-      let code : isOuter (rowWord row w) ≡ true = sym (word-tested row long w n h e t test) ∙ is-code in
-      word-kept w row r (code-nearest w (rowWord row w) r (word-short row w) code (p ∙ ap (isPadded w) (part-is row long w n h e)))
+  code-kept is-code r q =
+      let code : isOuter (rowWord row w) ≡ true = sym (word-tested row long w n h e below x y z p t test) ∙ is-code in
+      word-kept w row r (code-nearest w (rowWord row w) r (word-short row w) code (q ∙ ap (isPadded w) (part-is row long w n h e)))
 
   pub no-code : t ≡ false → isOuter (rowWord row w) ≡ false
-  no-code f = sym (word-tested row long w n h e t test) ∙ f
+  no-code f = sym (word-tested row long w n h e below x y z p t test) ∙ f
 
 -- the part of the row that is lent for correction is word w, and is not refused
 module _ (row : List ℕ) (long : length row ≡ 12496) (w : ℕ) (h : w < 16) (word : List ℕ) (fits : length word ≡ dataIn w + 16)
@@ -90,12 +92,32 @@ module _ (row : List ℕ) (long : length row ≡ 12496) (w : ℕ) (h : w < 16) (
   abbrev u : List ℕ
   u = rowWord row w
 
+  lent-is : lent ≡ u
+  lent-is = row-word-part row w (781 * w + length word - 781 * w) long h (omega arith)
+
+  lent-long : length lent ≡ dataIn w + 16
+  lent-long = ap length lent-is ∙ word-length row w
+
+  pub lent-least : 17 ≤ length lent
+  lent-least = omega (arith, lent-long, dataIn-is w h)
+
+  pub lent-most : length lent ≤ 1023
+  lent-most = omega (arith, lent-long, dataIn-le w)
+
+  pub lent-below : allBelow 1024 lent ≡ true
+  lent-below = rw lent-is below
+
+  pub lent-fits : length word ≡ length lent
+  lent-fits = fits ∙ sym lent-long
+
+  pub lent-remainder : (x y z : ℕ) → Packs x y z (outerRemainder (rowWord row w)) → Packs x y z (outerRemainder lent)
+  lent-remainder x y z p = rw lent-is p
+
   answer : outerCorrected lent word ≡ found (λ c. c) u word (nearest isOuter 1024 8 u)
   unfolding outerCorrected corrected refusal within
   answer =
-      let same : lent ≡ u = row-word-part row w (781 * w + length word - 781 * w) long h (omega arith) in
       let least : 17 ≤ length u = omega (arith, word-length row w, dataIn-is w h) in
-      rw (same, le-leb 17 (length u) least, le-leb (length u) 1023 (word-short row w), eq-eqb (length word) (length u) (fits ∙ sym (word-length row w)), below)
+      rw (lent-is, le-leb 17 (length u) least, le-leb (length u) 1023 (word-short row w), eq-eqb (length word) (length u) (fits ∙ sym (word-length row w)), below)
 
   module _ (r : Correction) (after : List ℕ) (told : _≡_ {A = ℕ × ℕ × List ℕ} (refusalOf r, changedOf r, after) (outerCorrected lent word)) (k : ℕ) where
     -- what is told, if o is the nearest code word or none

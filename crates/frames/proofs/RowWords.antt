@@ -6,16 +6,20 @@ use Prim.Native.Nat.{ℕ, _+_, _-_, _*_, _/_, _%_, _≤_, _<_}
 use native.Mathlib.Decide.{ℕ-discrete}
 use native.Mathlib.Nat.{not-suc-le-zero}
 use native.Mathlib.Omega.{arith}
-use lib.Dec.{lit<}
+use lib.Bits.{bitOr}
+use lib.Dec.{eqb, lit<}
 use lib.ListN.{length, take, drop, length-drop}
 use lib.Seq.{getD-take, getD-drop, length-take-le}
 use Rattle.fields.specs.Lists.{tabulate}
 use Rattle.fields.proofs.Lists.{tabulate-at, tabulate-is, tabulate-length, tabulate-lt, tabulate-same}
 use Rattle.words.specs.Places.{at, allBelow, bitOf, bitAt, bytesOf}
 use Rattle.words.specs.OuterCode.{isOuter, outerParity}
+use Rattle.words.specs.Division.{outerRemainder}
+use Rattle.words.specs.SixSymbols.{Packs}
 use Rattle.words.proofs.Places.Tests.{below-at, below-all}
 use Rattle.words.proofs.Places.Bytes.{bitAt-lt}
 use Rattle.words.proofs.Codes.Proved.{codes}
+use Rattle.words.proofs.Steps.Joining.{outer-zero}
 use Rattle.frames.specs.Frames.{dataIn, outerData, outerWord, outerWords, rowBit, rowPlace, sentBit, payloadPlace, payloadOf}
 use Rattle.frames.specs.Correction.{receivedSymbol, receivedWord}
 use Rattle.frames.specs.Received.{receivedRow}
@@ -119,9 +123,12 @@ module _ (row : List ℕ) (long : length row ≡ 12496) (w n : ℕ) (h : w < 16)
   pub part-below : allBelow 1024 (rowWord row w) ≡ true → allBelow 1024 part ≡ true
   part-below b = rw part-is b
 
-  module _ (t : Bool) (test : t ≡ isOuter part) where
-    pub word-tested : t ≡ isOuter (rowWord row w)
-    word-tested = test ∙ ap isOuter part-is
+  module _ (below : allBelow 1024 (rowWord row w) ≡ true) (x y z : ℕ) (p : Packs x y z (outerRemainder part)) where
+    pub word-remainder : Packs x y z (outerRemainder (rowWord row w))
+    word-remainder = rw part-is at p
+
+    pub word-tested : (t : Bool) → t ≡ eqb (bitOr (bitOr x y) z) 0 → t ≡ isOuter (rowWord row w)
+    word-tested t test = test ∙ outer-zero part part-least (part-below below) x y z p part-most ∙ ap isOuter part-is
 
 -- the words of a received row are the block's
 pub received-word : (b : ℕ → ℕ) (w : ℕ) → w < 16 → rowWord (receivedRow b) w ≡ receivedWord b w

@@ -4,6 +4,7 @@ use crate::Frame;
 use crate::bits;
 use words::Correction;
 use words::packed;
+use words::packed::Packed;
 use words::reed_solomon;
 ghost use mathlib.Core.Path.{_≡_};
 ghost use mathlib.Core.Bool.{true, false};
@@ -11,7 +12,8 @@ ghost use Prim.Native.Nat.{_+_, _-_, _*_, _≤_, _<_};
 ghost use lib.ListN.{length};
 ghost use Rattle.words.specs.Places.{at, allBelow, bitAt};
 ghost use Rattle.words.specs.OuterCode.{isOuter};
-ghost use Rattle.words.specs.SixSymbols.{parities};
+ghost use Rattle.words.specs.Division.{outerRemainder};
+ghost use Rattle.words.specs.SixSymbols.{Packs, parities};
 ghost use Rattle.frames.specs.Frames.{dataIn, outerData, outerWord, outerWords, rowPlace};
 ghost use Rattle.frames.specs.Correction.{receivedSymbol, isPadded};
 ghost use Rattle.frames.specs.Received.{receivedRow};
@@ -175,15 +177,15 @@ fn is_padded(w: usize, word: &[u16]) -> bool
 }
 
 // Outer word w of the row, which is no code word, becomes the permitted code word within eight symbols, and the answer is true; false, if there is none.
-// `word` is space for it.
-fn restore(w: usize, row: &mut [u16], word: &mut [u16]) -> bool
+// `rest` is the word's remainder, and `word` space for the code word.
+fn restore(rest: Packed, w: usize, row: &mut [u16], word: &mut [u16]) -> bool
     requires { ⌜ (w < 16) × (length (now row) ≡ 12496) × (length (now word) ≡ dataIn w + 16) × (allBelow 1024 (rowWord (now row) w) ≡ true) ⌝ }
-    requires { ⌜ isOuter (rowWord (now row) w) ≡ false ⌝ }
+    requires { ⌜ Packs (rest .high) (rest .middle) (rest .low) (outerRemainder (rowWord (now row) w)) × (isOuter (rowWord (now row) w) ≡ false) ⌝ }
     ensures { λ r. ⌜ WordRestored w (now (row .entry)) (now (row .exit)) r ⌝ }
 {
     let from = Frame::WORD_SYMBOLS * w;
     let end = from + word.len();
-    match words::correct_outer(&row[from..end], word) {
+    match reed_solomon::correct_from(rest, &row[from..end], word) {
         Correction::Corrected { changed: _ } => {
             if !is_padded(w, word) {
                 return false;
@@ -210,11 +212,12 @@ fn correct_word(table: &[u64], w: usize, row: &mut [u16]) -> bool
 {
     let from = Frame::WORD_SYMBOLS * w;
     let end = from + data_in(w) + words::Outer::PARITY;
-    if packed::is_code_word(table, &row[from..end]) {
+    let rest = packed::remainder(table, &row[from..end]);
+    if rest.is_zero() {
         return is_padded(w, &row[from..end]);
     }
     let mut word = blank_word();
-    restore(w, row, &mut word[0..end - from])
+    restore(rest, w, row, &mut word[0..end - from])
 }
 
 // The outer pass: each outer word in the row becomes the permitted code word within eight symbols; false, if some word has none.

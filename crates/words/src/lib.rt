@@ -4,7 +4,7 @@
 // Outer words (modules reed_solomon, division and packed), Reed-Solomon over field A, lent as 16-bit symbols:
 //     check    length and symbols, then the word's values at the sixteen roots, those of its remainder, all zero for a code word
 //     encode   the data goes symbol by symbol through the division register; what the register then holds is the parity
-//     correct  the values at the sixteen roots are the syndromes, from which the decoder finds the errors
+//     correct  the values of the remainder at the sixteen roots are the syndromes, from which the decoder finds the errors
 // Inner words (module bch), binary BCH over field B, lent as bytes, place 0 the highest bit of the first:
 //     check    the remainder of the 2,040 places after division by the divisor, zero for a code word
 //     encode   the same remainder of the data followed by 88 zeros is the parity
@@ -81,7 +81,9 @@ pub fn check_outer(word: &[u16]) -> u8
     }
     let exp = fields::exp_a();
     let log = fields::log_a();
-    let values = packed::root_values(&exp, &log, word);
+    let table = packed::table();
+    let rest = packed::remainder(&table, word);
+    let values = packed::root_values(&exp, &log, rest);
     if reed_solomon::all_below(&values, 1) {
         0
     } else {
@@ -115,18 +117,9 @@ pub fn correct_outer(word: &[u16], out: &mut [u16]) -> Correction
     if number != 0 {
         return Correction::Refused { number };
     }
-    let exp = fields::exp_a();
-    let log = fields::log_a();
-    let t = packed::root_values(&exp, &log, word);
-    let e = decoder::decode(&exp, &log, t, word.len());
-    let left = e.left;
-    if !reed_solomon::all_below(&left, 1) {
-        return Correction::Refused { number: 5 };
-    }
-    reed_solomon::correct(word, e, out);
-    Correction::Corrected {
-        changed: decoder::weight(e),
-    }
+    let table = packed::table();
+    let rest = packed::remainder(&table, word);
+    reed_solomon::correct_from(rest, word, out)
 }
 
 // 0 for an inner code word; 6 or 4.

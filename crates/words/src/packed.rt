@@ -6,10 +6,12 @@ use crate::reed_solomon;
 ghost use mathlib.Core.Path.{_≡_};
 ghost use mathlib.Core.Bool.{true};
 ghost use Prim.Native.Nat.{_+_, _*_, _/_, _%_, _^_, _≤_, _<_};
+ghost use lib.Bits.{bitOr};
+ghost use lib.Dec.{eqb};
 ghost use lib.ListN.{length};
-ghost use Rattle.fields.specs.Elements.{xor, powersA, exponentsA};
+ghost use Rattle.fields.specs.Elements.{xor};
 ghost use Rattle.words.specs.Places.{at, allBelow};
-ghost use Rattle.words.specs.OuterCode.{isOuter, outerParity};
+ghost use Rattle.words.specs.OuterCode.{outerParity};
 ghost use Rattle.words.specs.ByTables.{rootValues};
 ghost use Rattle.words.specs.Division.{outerRemainder};
 ghost use Rattle.words.specs.SixSymbols.{joinedFrom, symbolOf, six, Packs, numberAt, unpacked, sixParity, parityEntry, parities, unitParities, Stored};
@@ -343,6 +345,13 @@ impl Packed {
         }
     }
 
+    // Each cell is zero.
+    pub fn is_zero(self) -> bool
+        ensures { λ r. ⌜ r ≡ eqb (bitOr (bitOr (self .high) (self .middle)) (self .low)) 0 ⌝ }
+    {
+        (self.high | self.middle | self.low) == 0
+    }
+
     // The register after six symbols more.
     pub fn next(self, table: &[u64], x: u64) -> Self
         requires { ⌜ (now table ≡ parities) × (self .high < 2 ^ 60) × (x < 2 ^ 60) ⌝ }
@@ -435,8 +444,8 @@ pub fn parity(table: &[u64], data: &[u16]) -> [u16; Outer::PARITY]
     unpacked(divide(table, data))
 }
 
-// The remainder of a word after division by the generator: the parity of all but the last sixteen symbols, and these, added.
-fn remainder(table: &[u64], word: &[u16]) -> Packed
+// The remainder of a word after division by the generator: the parity of all but the last sixteen symbols, and these, added. It is zero for a code word.
+pub fn remainder(table: &[u64], word: &[u16]) -> Packed
     requires { ⌜ (now table ≡ parities) × (16 ≤ length (now word)) × (allBelow 1024 (now word) ≡ true) ⌝ }
     ensures { λ r. ⌜ Packs (r .high) (r .middle) (r .low) (outerRemainder (now (word .entry))) ⌝ }
 {
@@ -452,22 +461,10 @@ fn remainder(table: &[u64], word: &[u16]) -> Packed
     }
 }
 
-// Whether a word is a code word: its remainder is zero.
-pub fn is_code_word(table: &[u64], word: &[u16]) -> bool
-    requires { ⌜ now table ≡ parities ⌝ }
-    requires { ⌜ (16 ≤ length (now word)) × (length (now word) ≤ 1023) × (allBelow 1024 (now word) ≡ true) ⌝ }
-    ensures { λ r. ⌜ r ≡ isOuter (now (word .entry)) ⌝ }
+// The values at the sixteen roots of a remainder, which are those of the word: the generator vanishes there.
+pub fn root_values(exp: &[u16], log: &[u16], rest: Packed) -> [u16; Outer::PARITY]
+    ensures { λ r. ⌜ r ≡ rootValues (now (exp .entry)) (now (log .entry)) (unpacked (rest .high) (rest .middle) (rest .low)) ⌝ }
 {
-    let p = remainder(table, word);
-    (p.high | p.middle | p.low) == 0
-}
-
-// The word's values at the sixteen roots: those of its remainder, since the generator vanishes there.
-pub fn root_values(exp: &[u16], log: &[u16], word: &[u16]) -> [u16; Outer::PARITY]
-    requires { ⌜ (now exp ≡ powersA) × (now log ≡ exponentsA) × (16 ≤ length (now word)) × (allBelow 1024 (now word) ≡ true) ⌝ }
-    ensures { λ r. ⌜ r ≡ rootValues (now (exp .entry)) (now (log .entry)) (now (word .entry)) ⌝ }
-{
-    let table = table();
-    let rest = unpacked(remainder(&table, word));
-    reed_solomon::root_values(exp, log, &rest)
+    let cells = unpacked(rest);
+    reed_solomon::root_values(exp, log, &cells)
 }

@@ -1,15 +1,22 @@
-// Outer words over a field that is lent as its two tables: refusals, values at the roots, the generator, and a word with errors added. `symbol` and `copy` are for the
-// crates above too.
+// Outer words over a field that is lent as its two tables: refusals, values at the roots, the generator, a word with errors added, and the code word near a
+// word. `symbol`, `copy` and `correct_from` are for the crates above too.
+use crate::Correction;
 use crate::Outer;
+use crate::decoder;
 use crate::decoder::Errors;
+use crate::packed;
+use crate::packed::Packed;
 ghost use mathlib.Core.Path.{_≡_};
+ghost use mathlib.Core.Bool.{true};
 ghost use Prim.Native.Nat.{_≤_};
 ghost use lib.ListN.{length};
 ghost use Rattle.fields.specs.Elements.{xor};
 ghost use Rattle.words.specs.Places.{at, allBelow};
 ghost use Rattle.words.specs.OuterCode.{generator};
-ghost use Rattle.words.specs.Answers.{refusal, within};
+ghost use Rattle.words.specs.Answers.{refusal, within, refusalOf, changedOf, outerCorrected};
 ghost use Rattle.words.specs.ByTables.{lentValue, rootValues};
+ghost use Rattle.words.specs.Division.{outerRemainder};
+ghost use Rattle.words.specs.SixSymbols.{Packs};
 ghost use Rattle.words.specs.Decoder.{withError, withErrors};
 
 // Each symbol of the word is below q.
@@ -154,5 +161,25 @@ pub fn correct(word: &[u16], e: Errors, out: &mut [u16])
     while k < places.count {
         add(out, places.at[k] as usize, e.values[k]);
         k += 1;
+    }
+}
+
+// Writes the code word within eight symbols of a word that no entry refuses, whose remainder is `rest`; 5.
+pub fn correct_from(rest: Packed, word: &[u16], out: &mut [u16]) -> Correction
+    requires { ⌜ (17 ≤ length (now word)) × (length (now word) ≤ 1023) × (allBelow 1024 (now word) ≡ true) × (length (now out) ≡ length (now word)) ⌝ }
+    requires { ⌜ Packs (rest .high) (rest .middle) (rest .low) (outerRemainder (now word)) ⌝ }
+    ensures { λ r. ⌜ (refusalOf r, changedOf r, now (out .exit)) ≡ outerCorrected (now (word .entry)) (now (out .entry)) ⌝ }
+{
+    let exp = fields::exp_a();
+    let log = fields::log_a();
+    let t = packed::root_values(&exp, &log, rest);
+    let e = decoder::decode(&exp, &log, t, word.len());
+    let left = e.left;
+    if !all_below(&left, 1) {
+        return Correction::Refused { number: 5 };
+    }
+    correct(word, e, out);
+    Correction::Corrected {
+        changed: decoder::weight(e),
     }
 }

@@ -1,13 +1,13 @@
 -- Errors are added to a word one after the other; what `correct_outer` answers, on each way through it. Assumes nothing.
 use mathlib.Core.Path.{_≡_, refl, sym, ap, _∙_}
-use mathlib.Core.Bool.{Bool, true, false, not, cond, and-eq-true-iff}
+use mathlib.Core.Bool.{Bool, true, false, not, cond}
 use mathlib.Core.List.{List}
 use Prim.Native.Nat.{ℕ, _+_, _≤_, _<_}
 use native.Mathlib.Decide.{ℕ-discrete}
 use native.Mathlib.Numerals.{add-one}
 use native.Mathlib.Omega.{arith}
-use borrow.Author.Tests.{eq-eqb, eqb-true, leb-true, ne-eqb, not-false, not-true}
-use lib.Dec.{eqb, leb, lit<}
+use borrow.Author.Tests.{eq-eqb, eqb-true, le-leb, ne-eqb, not-false, not-true}
+use lib.Dec.{eqb, lit<}
 use lib.ListN.{length, getD, set, length-set}
 use lib.Seq.{getD-set-same, getD-set-other}
 use Rattle.fields.specs.Elements.{xor, powersA, exponentsA}
@@ -17,12 +17,15 @@ use Rattle.fields.proofs.Xor.{xor-assoc, xor-zero-r}
 use Rattle.words.specs.Places.{at, allBelow}
 use Rattle.words.specs.Answers.{refusal, within, found, corrected, outerCorrected}
 use Rattle.words.specs.ByTables.{rootValues}
+use Rattle.words.specs.Division.{outerRemainder}
+use Rattle.words.specs.SixSymbols.{Packs, unpacked}
 use Rattle.words.specs.Decoder.{Tables, xorTo, errorAt, Decoded, weightOf, withError, withErrors}
 use Rattle.words.proofs.Places.Tests.{below-at, below-all}
 use Rattle.words.proofs.Algebra.Tables.{powers-length}
 use Rattle.words.proofs.Decoding.Changes.{errors-length, errors-at}
 use Rattle.words.proofs.Decoding.Outer.{tables-a, outer-changes, outer-found, outer-lost}
-use Rattle.words.proofs.Steps.Entries.{passed, word-symbols}
+use Rattle.words.proofs.Steps.Joining.{root-values-made}
+use Rattle.words.proofs.Steps.Entries.{passed}
 
 -- v is added to the symbol at place i
 module _ (out : List ℕ) (i v : ℕ) where
@@ -77,44 +80,39 @@ module _ (w o : List ℕ) (r : ℕ) (told : r ≡ refusal (within 17 1023 (lengt
   unfolding outerCorrected corrected
   correct-outer-refused n = rw (← told, ne-eqb r 0 n)
 
-  module _ (none : r ≡ 0) where
-    word-short : length w ≤ 1023
-    unfolding within
-    word-short = leb-true _ 1023 (and-eq-true-iff (leb 17 (length w)) (leb (length w) 1023) .0 (passed _ _ _ (sym told ∙ none) .0) .1)
+  pub correct-outer-fits : r ≡ 0 → length o ≡ length w
+  correct-outer-fits none = eqb-true _ _ (passed _ _ _ (sym told ∙ none) .1)
 
-    pub correct-outer-fits : length o ≡ length w
-    correct-outer-fits = eqb-true _ _ (passed _ _ _ (sym told ∙ none) .1)
+-- a word that is not refused
+module _ (w o : List ℕ) (least : 17 ≤ length w) (most : length w ≤ 1023) (symbols : allBelow 1024 w ≡ true) (fits : length o ≡ length w) where
+  accepted : refusal (within 17 1023 (length w)) (eqb (length o) (length w)) (allBelow 1024 w) ≡ 0
+  unfolding refusal within
+  accepted = rw (le-leb 17 (length w) least, le-leb (length w) 1023 most, eq-eqb (length o) (length w) fits, symbols)
 
-    symbols : allBelow 1024 w ≡ true
-    symbols = word-symbols w _ r told none
+  module _ (es ls : List ℕ) (exp : es ≡ powersA) (log : ls ≡ exponentsA) where
+    pub word-fits : length w ≤ length es
+    word-fits = let l : length es ≡ 1023 = ap length exp ∙ powers-length 10 1033 field-a in omega arith
 
-    pub word-small : length w < 65536
-    word-small = omega (arith, word-short)
+    module _ (h m l : ℕ) (p : Packs h m l (outerRemainder w)) (t : List ℕ) (v : t ≡ rootValues es ls (unpacked h m l)) (places values : List ℕ) (count : ℕ)
+        (left : List ℕ) (D : Decoded es ls t (length w) places values count left) (b : Bool) where
+      D′ : Decoded powersA exponentsA (rootValues powersA exponentsA w) (length w) places values count left
+      D′ = rw (root-values-made w (omega arith) symbols h m l p es ls t exp log v, exp, log) at D
 
-    module _ (es ls : List ℕ) (exp : es ≡ powersA) (log : ls ≡ exponentsA) where
-      pub word-fits : length w ≤ length es
-      word-fits = let l : length es ≡ 1023 = ap length exp ∙ powers-length 10 1033 field-a in omega (arith, word-short)
+      -- what is not below q, for any q above 0, is not all zero
+      some-left : (q : ℕ) → 0 < q → allBelow q left ≡ false → allBelow 1 left ≡ false
+      some-left q h f = go (allBelow 1 left) refl
+        where
+          go : (z : Bool) → allBelow 1 left ≡ z → z ≡ false
+          go false e = refl
+          go true e = sym (below-all q left (λ i l. omega (arith, below-at 1 left (lit< tt) e i))) ∙ f
 
-      module _ (t : List ℕ) (v : t ≡ rootValues es ls w) (places values : List ℕ) (count : ℕ) (left : List ℕ) (D : Decoded es ls t (length w) places values count left)
-          (b : Bool) where
-        D′ : Decoded powersA exponentsA (rootValues powersA exponentsA w) (length w) places values count left
-        D′ = rw (v, exp, log) at D
+      pub correct-outer-lost : (q : ℕ) → 0 < q → b ≡ allBelow q left → length left ≡ 16 → not b ≡ true → _≡_ {A = ℕ × ℕ × List ℕ} (5, 0, o) (outerCorrected w o)
+      unfolding outerCorrected corrected found
+      correct-outer-lost q h test long n = rw (accepted, outer-lost w symbols places values count left D′ long (some-left q h (sym test ∙ not-true b n)))
 
-        -- what is not below q, for any q above 0, is not all zero
-        some-left : (q : ℕ) → 0 < q → allBelow q left ≡ false → allBelow 1 left ≡ false
-        some-left q h f = go (allBelow 1 left) refl
-          where
-            go : (z : Bool) → allBelow 1 left ≡ z → z ≡ false
-            go false e = refl
-            go true e = sym (below-all q left (λ i l. omega (arith, below-at 1 left (lit< tt) e i))) ∙ f
-
-        pub correct-outer-lost : (q : ℕ) → 0 < q → b ≡ allBelow q left → length left ≡ 16 → not b ≡ true → _≡_ {A = ℕ × ℕ × List ℕ} (5, 0, o) (outerCorrected w o)
-        unfolding outerCorrected corrected found
-        correct-outer-lost q h test long n = rw (← told, none, outer-lost w symbols places values count left D′ long (some-left q h (sym test ∙ not-true b n)))
-
-        pub correct-outer-found : b ≡ allBelow 1 left → not b ≡ false → (out : List ℕ) → out ≡ withErrors (at w) places values count (length w) → (changed : ℕ) → changed ≡ weightOf values count →
-            _≡_ {A = ℕ × ℕ × List ℕ} (0, changed, out) (outerCorrected w o)
-        unfolding outerCorrected corrected found
-        correct-outer-found test n out e changed c =
-            let zero : allBelow 1 left ≡ true = sym test ∙ not-false b n in
-            rw (← told, none, outer-found w symbols places values count left D′ zero word-short, outer-changes w symbols places values count left D′ zero, e, c)
+      pub correct-outer-found : b ≡ allBelow 1 left → not b ≡ false → (out : List ℕ) → out ≡ withErrors (at w) places values count (length w) → (changed : ℕ) → changed ≡ weightOf values count →
+          _≡_ {A = ℕ × ℕ × List ℕ} (0, changed, out) (outerCorrected w o)
+      unfolding outerCorrected corrected found
+      correct-outer-found test n out e changed c =
+          let zero : allBelow 1 left ≡ true = sym test ∙ not-false b n in
+          rw (accepted, outer-found w symbols places values count left D′ zero most, outer-changes w symbols places values count left D′ zero, e, c)

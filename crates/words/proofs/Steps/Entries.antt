@@ -1,5 +1,5 @@
 -- What each entry answers, on each way through it. Assumes nothing.
-use mathlib.Core.Path.{_≡_, refl, sym, ap, ap₂, _∙_}
+use mathlib.Core.Path.{_≡_, refl, sym, ap, _∙_}
 use mathlib.Core.Bool.{Bool, true, false, and-eq-true-iff}
 use mathlib.Core.List.{List}
 use Prim.Native.Nat.{ℕ, zero, suc, _+_, _*_, _≤_}
@@ -15,12 +15,15 @@ use Rattle.words.specs.OuterCode.{outerValue, isOuter, outerParity}
 use Rattle.words.specs.InnerCode.{divisor, remainder, isInner, innerRemainder, innerParity}
 use Rattle.words.specs.Answers.{refusal, within, answered, firstOf, outerChecked, outerEncoded, innerChecked, innerEncoded}
 use Rattle.words.specs.ByTables.{rootValue, rootValues}
+use Rattle.words.specs.Division.{outerRemainder}
+use Rattle.words.specs.SixSymbols.{Packs, unpacked}
 use Rattle.words.specs.Limbs.{number, Holds}
 use Rattle.words.proofs.Places.Tests.{every-same}
 use Rattle.words.proofs.Places.Numbers.{numberOf-same}
 use Rattle.words.proofs.Places.Bytes.{bits-at, bits-below, bits-length}
 use Rattle.words.proofs.Codes.Horner.{horner-same}
 use Rattle.words.proofs.Codes.OuterWords.{root-is}
+use Rattle.words.proofs.Steps.Joining.{root-values-made}
 
 -- what no refusal tells: the length is right, the buffer fits, and the symbols are below 1,024
 pub passed : (long fits symbols : Bool) → refusal long fits symbols ≡ 0 → (long ≡ true) × (fits ≡ true) × (symbols ≡ true)
@@ -49,9 +52,18 @@ roots-tested w h =
 
 -- a word that is not refused
 module _ (w : List ℕ) (fits : Bool) (r : ℕ) (told : r ≡ refusal (within 17 1023 (length w)) fits (allBelow 1024 w)) (none : r ≡ 0) where
-  pub word-least : 16 ≤ length w
+  word-within : (leb 17 (length w) ≡ true) × (leb (length w) 1023 ≡ true)
   unfolding within
-  word-least = omega (arith, leb-true 17 (length w) (and-eq-true-iff (leb 17 (length w)) (leb (length w) 1023) .0 (passed _ _ _ (sym told ∙ none) .0) .0))
+  word-within = and-eq-true-iff (leb 17 (length w)) (leb (length w) 1023) .0 (passed _ _ _ (sym told ∙ none) .0)
+
+  pub word-least : 17 ≤ length w
+  word-least = leb-true 17 (length w) (word-within .0)
+
+  pub word-most : length w ≤ 1023
+  word-most = leb-true (length w) 1023 (word-within .1)
+
+  pub word-parity : 16 ≤ length w
+  word-parity = omega (arith, word-least)
 
   pub word-symbols : allBelow 1024 w ≡ true
   word-symbols = passed _ _ _ (sym told ∙ none) .2
@@ -61,12 +73,14 @@ module _ (w : List ℕ) (r : ℕ) (told : r ≡ refusal (within 17 1023 (length 
   unfolding outerChecked firstOf
   outer-refused n = rw (← told, ne-eqb r 0 n)
 
-  module _ (none : r ≡ 0) (es ls values : List ℕ) (exp : es ≡ powersA) (log : ls ≡ exponentsA) (v : values ≡ rootValues es ls w) (b : Bool) (test : b ≡ allBelow 1 values) where
+  module _ (none : r ≡ 0) (es ls : List ℕ) (exp : es ≡ powersA) (log : ls ≡ exponentsA) (h m l : ℕ) (p : Packs h m l (outerRemainder w)) (values : List ℕ)
+      (v : values ≡ rootValues es ls (unpacked h m l)) (b : Bool) (test : b ≡ allBelow 1 values) where
     code-tested : b ≡ isOuter w
     unfolding isOuter
     code-tested =
         let symbols = word-symbols w true r told none in
-        test ∙ ap (allBelow 1) (v ∙ ap₂ (λ (e l : List ℕ). rootValues e l w) exp log) ∙ roots-tested w symbols ∙ rw symbols
+        let made = root-values-made w (word-parity w true r told none) symbols h m l p es ls values exp log v in
+        test ∙ ap (allBelow 1) made ∙ roots-tested w symbols ∙ rw symbols
 
     pub outer-accepted : b ≡ true → 0 ≡ outerChecked w
     unfolding outerChecked firstOf

@@ -260,6 +260,9 @@ module _ (h m l i : ℕ) (cells : List ℕ) (so-far : Filled 16 (cellOf h m l) i
   unfolding cellOf unpacked
   cells-end b = filled-end so-far b
 
+pub cells-valued : (es ls cells r : List ℕ) (h m l : ℕ) → cells ≡ unpacked h m l → r ≡ rootValues es ls cells → r ≡ rootValues es ls (unpacked h m l)
+cells-valued es ls cells r h m l e v = v ∙ ap (rootValues es ls) e
+
 module _ (d : List ℕ) (small : allBelow 1024 d ≡ true) (h m l : ℕ) (p : Packs h m l (outerParity d)) where
   pub parity-unpacked : (r : List ℕ) → r ≡ unpacked h m l → r ≡ outerParity d
   parity-unpacked r e = e ∙ unpacked-is h m l (outerParity d) (outer-length d) (below-at 1024 (outerParity d) (lit< tt) (parity-below d small)) p
@@ -309,6 +312,6 @@ module _ (w : List ℕ) (least : 16 ≤ length w) (small : allBelow 1024 w ≡ t
             let some : (Bits.bitOr h m ≡ 0) = omega (arith, s, Bits.and-le-l (Bits.bitOr h m) l, Bits.and-le-r (Bits.bitOr h m) l) in
             (omega (arith, t, some, Bits.and-le-l h m, Bits.and-le-r h m), omega (arith, t, some, Bits.and-le-l h m, Bits.and-le-r h m), omega (arith, s, Bits.and-le-l (Bits.bitOr h m) l, Bits.and-le-r (Bits.bitOr h m) l))
 
-    pub root-values-made : (es ls rest r : List ℕ) → es ≡ powersA → ls ≡ exponentsA → rest ≡ unpacked h m l → r ≡ rootValues es ls rest → r ≡ rootValues es ls w
-    root-values-made es ls rest r exp log erest er =
-        er ∙ rw (exp, log, erest, unpacked-is h m l (outerRemainder w) long remainder-lt p) (remainder-roots w (length w - 16) refl least small)
+    pub root-values-made : (es ls r : List ℕ) → es ≡ powersA → ls ≡ exponentsA → r ≡ rootValues es ls (unpacked h m l) → r ≡ rootValues powersA exponentsA w
+    root-values-made es ls r exp log er =
+        er ∙ rw (exp, log, unpacked-is h m l (outerRemainder w) long remainder-lt p) (remainder-roots w (length w - 16) refl least small)

@@ -1,6 +1,6 @@
 -- `words::check_outer` meets its contract. Assumes nothing.
 use borrow.Author.Needs.{needs}
-use Rattle.words.proofs.Steps.Entries.{outer-refused, word-least, word-symbols, outer-accepted, outer-no-code}
+use Rattle.words.proofs.Steps.Entries.{outer-refused, word-parity, word-symbols, outer-accepted, outer-no-code}
 use Rattle.words.proofs.check_outer.Statement.{statement}
 use Rattle.words.proofs.check_outer.Tie as tie
 
@@ -16,6 +16,15 @@ exp-a-requires c κs = search needs
 log-a-requires : tie.Need-log-a-requires
 log-a-requires c κs = search needs
 
+table-requires : tie.Need-table-requires
+table-requires c κs = search needs
+
+slice-aggregate-remainder : tie.Need-slice-aggregate-remainder
+slice-aggregate-remainder c = search needs
+
+remainder-requires : tie.Need-remainder-requires
+remainder-requires c κs = search (needs, word-parity, word-symbols)
+
 slice-aggregate-root-values : tie.Need-slice-aggregate-root-values
 slice-aggregate-root-values c = search needs
 
@@ -23,7 +32,7 @@ slice-aggregate-root-values-2 : tie.Need-slice-aggregate-root-values-2
 slice-aggregate-root-values-2 c = search needs
 
 root-values-requires : tie.Need-root-values-requires
-root-values-requires c κs = search (needs, word-least, word-symbols)
+root-values-requires c κs = search needs
 
 slice-aggregate-all-below : tie.Need-slice-aggregate-all-below
 slice-aggregate-all-below c = search needs
@@ -45,6 +54,9 @@ check-outer-spec =
     returns
     exp-a-requires
     log-a-requires
+    table-requires
+    slice-aggregate-remainder
+    remainder-requires
     slice-aggregate-root-values
     slice-aggregate-root-values-2
     root-values-requires

@@ -1,7 +1,7 @@
 -- `words::correct_outer` meets its contract. Assumes nothing.
 use borrow.Author.Needs.{needs}
-use Rattle.words.proofs.Steps.Entries.{word-least, word-symbols}
-use Rattle.words.proofs.Steps.Corrections.{correct-outer-refused, tables-lent, word-small, word-fits, correct-outer-fits, correct-outer-lost, correct-outer-found}
+use Rattle.words.proofs.Steps.Entries.{word-least, word-most, word-parity, word-symbols}
+use Rattle.words.proofs.Steps.Corrections.{correct-outer-refused, correct-outer-fits}
 use Rattle.words.proofs.correct_outer.Statement.{statement}
 use Rattle.words.proofs.correct_outer.Tie as tie
 
@@ -11,53 +11,23 @@ refusal-requires c κs = search needs
 returns : tie.Need-returns
 returns c = search (needs, correct-outer-refused)
 
-exp-a-requires : tie.Need-exp-a-requires
-exp-a-requires c κs = search needs
+table-requires : tie.Need-table-requires
+table-requires c κs = search needs
 
-log-a-requires : tie.Need-log-a-requires
-log-a-requires c κs = search needs
+slice-aggregate-remainder : tie.Need-slice-aggregate-remainder
+slice-aggregate-remainder c = search needs
 
-slice-aggregate-root-values : tie.Need-slice-aggregate-root-values
-slice-aggregate-root-values c = search needs
+remainder-requires : tie.Need-remainder-requires
+remainder-requires c κs = search (needs, word-parity, word-symbols)
 
-slice-aggregate-root-values-2 : tie.Need-slice-aggregate-root-values-2
-slice-aggregate-root-values-2 c = search needs
-
-root-values-requires : tie.Need-root-values-requires
-root-values-requires c κs = search (needs, word-least, word-symbols)
-
-slice-aggregate-decode : tie.Need-slice-aggregate-decode
-slice-aggregate-decode c = search needs
-
-slice-aggregate-decode-2 : tie.Need-slice-aggregate-decode-2
-slice-aggregate-decode-2 c = search needs
-
-decode-requires : tie.Need-decode-requires
-decode-requires c κs = (search (needs, tables-lent), (search (needs, word-fits), search (needs, word-small)))
-
-slice-aggregate-all-below : tie.Need-slice-aggregate-all-below
-slice-aggregate-all-below c = search needs
-
-all-below-requires : tie.Need-all-below-requires
-all-below-requires c κs = search needs
-
-returns-2 : tie.Need-returns-2
-returns-2 c = search (needs, correct-outer-lost)
-
-correct-requires : tie.Need-correct-requires
-correct-requires c κs =
-    let accepted = c .before .before .before .before .before .before .before .before .before .before .before .before .before in
-    let given = accepted .before .before .before .before .args in
-    (correct-outer-fits (given .word .now) (given .out .now) _ (accepted .before .refusal .ensures) (accepted .if1 .left), search needs)
-
-weight-requires : tie.Need-weight-requires
-weight-requires c κs = search needs
+correct-from-requires : tie.Need-correct-from-requires
+correct-from-requires c κs = search (needs, word-least, word-most, word-symbols, correct-outer-fits)
 
 same-length : tie.Need-same-length
 same-length c = search needs
 
-returns-3 : tie.Need-returns-3
-returns-3 c = search (needs, correct-outer-found)
+returns-2 : tie.Need-returns-2
+returns-2 c = search needs
 
 pub correct-outer-spec : {M : Type 1} → statement M
 correct-outer-spec =
@@ -65,18 +35,9 @@ correct-outer-spec =
     (tie.spec
     refusal-requires
     returns
-    exp-a-requires
-    log-a-requires
-    slice-aggregate-root-values
-    slice-aggregate-root-values-2
-    root-values-requires
-    slice-aggregate-decode
-    slice-aggregate-decode-2
-    decode-requires
-    slice-aggregate-all-below
-    all-below-requires
-    returns-2
-    correct-requires
-    weight-requires
+    table-requires
+    slice-aggregate-remainder
+    remainder-requires
+    correct-from-requires
     same-length
-    returns-3)
+    returns-2)

@@ -1,6 +1,6 @@
 -- `frames::outer_words::correct_word` meets its contract. Assumes nothing.
 use borrow.Author.Needs.{needs}
-use Rattle.frames.proofs.RowWords.{part-least, part-most, part-below}
+use Rattle.frames.proofs.RowWords.{part-least, part-below, word-remainder}
 use Rattle.frames.proofs.OuterPass.{space-long, code-kept, no-code}
 use Rattle.frames.proofs.outer_words.correct_word.Statement.{statement}
 use Rattle.frames.proofs.outer_words.correct_word.Tie as tie
@@ -17,20 +17,23 @@ add-end c = search needs
 add-end-2 : tie.Need-add-end-2
 add-end-2 c = search needs
 
-mul-is-code-word : tie.Need-mul-is-code-word
-mul-is-code-word c = search needs
+mul-remainder : tie.Need-mul-remainder
+mul-remainder c = search needs
 
-sub-is-code-word : tie.Need-sub-is-code-word
-sub-is-code-word c = search needs
+sub-remainder : tie.Need-sub-remainder
+sub-remainder c = search needs
 
-part-is-code-word-start : tie.Need-part-is-code-word-start
-part-is-code-word-start c = search needs
+part-remainder-start : tie.Need-part-remainder-start
+part-remainder-start c = search needs
 
-part-is-code-word-end : tie.Need-part-is-code-word-end
-part-is-code-word-end c = search needs
+part-remainder-end : tie.Need-part-remainder-end
+part-remainder-end c = search needs
 
-is-code-word-requires : tie.Need-is-code-word-requires
-is-code-word-requires c κs = search (needs, part-least, part-most, part-below)
+remainder-requires : tie.Need-remainder-requires
+remainder-requires c κs = search (needs, part-least, part-below)
+
+is-zero-requires : tie.Need-is-zero-requires
+is-zero-requires c κs = search needs
 
 mul-is-padded : tie.Need-mul-is-padded
 mul-is-padded c = search needs
@@ -69,7 +72,7 @@ part-word-end : tie.Need-part-word-end
 part-word-end c = search needs
 
 restore-requires : tie.Need-restore-requires
-restore-requires c κs = search (needs, space-long, no-code)
+restore-requires c κs = (search (needs, space-long), (search (needs, word-remainder), search (needs, no-code)))
 
 same-length-2 : tie.Need-same-length-2
 same-length-2 c = search needs
@@ -85,11 +88,12 @@ correct-word-spec =
     data-in-requires
     add-end
     add-end-2
-    mul-is-code-word
-    sub-is-code-word
-    part-is-code-word-start
-    part-is-code-word-end
-    is-code-word-requires
+    mul-remainder
+    sub-remainder
+    part-remainder-start
+    part-remainder-end
+    remainder-requires
+    is-zero-requires
     mul-is-padded
     sub-is-padded
     part-is-padded-start

@@ -1,6 +1,6 @@
 -- `frames::outer_words::restore` meets its contract. Assumes nothing.
 use borrow.Author.Needs.{needs}
-use Rattle.frames.proofs.OuterPass.{word-room, restored-none, restored-not, restored-word}
+use Rattle.frames.proofs.OuterPass.{word-room, lent-least, lent-most, lent-below, lent-fits, lent-remainder, restored-none, restored-not, restored-word}
 use Rattle.frames.proofs.outer_words.restore.Statement.{statement}
 use Rattle.frames.proofs.outer_words.restore.Tie as tie
 
@@ -10,20 +10,20 @@ mul-from c = search needs
 add-end : tie.Need-add-end
 add-end c = search needs
 
-mul-correct-outer : tie.Need-mul-correct-outer
-mul-correct-outer c = search needs
+mul-correct-from : tie.Need-mul-correct-from
+mul-correct-from c = search needs
 
-sub-correct-outer : tie.Need-sub-correct-outer
-sub-correct-outer c = search needs
+sub-correct-from : tie.Need-sub-correct-from
+sub-correct-from c = search needs
 
-part-correct-outer-start : tie.Need-part-correct-outer-start
-part-correct-outer-start c = search needs
+part-correct-from-start : tie.Need-part-correct-from-start
+part-correct-from-start c = search needs
 
-part-correct-outer-end : tie.Need-part-correct-outer-end
-part-correct-outer-end c = search (needs, word-room)
+part-correct-from-end : tie.Need-part-correct-from-end
+part-correct-from-end c = search (needs, word-room)
 
-correct-outer-requires : tie.Need-correct-outer-requires
-correct-outer-requires c κs = search needs
+correct-from-requires : tie.Need-correct-from-requires
+correct-from-requires c κs = search (needs, lent-least, lent-most, lent-below, lent-fits, lent-remainder)
 
 enum-told : tie.Need-enum-told
 enum-told c = search needs
@@ -70,11 +70,11 @@ restore-spec =
     (tie.spec
     mul-from
     add-end
-    mul-correct-outer
-    sub-correct-outer
-    part-correct-outer-start
-    part-correct-outer-end
-    correct-outer-requires
+    mul-correct-from
+    sub-correct-from
+    part-correct-from-start
+    part-correct-from-end
+    correct-from-requires
     enum-told
     is-padded-requires
     same-length

@@ -1,17 +1,8 @@
 -- `words::packed::root_values` meets its contract. Assumes nothing.
-use Rattle.words.proofs.Steps.Joining.{root-values-made}
 use borrow.Author.Needs.{needs}
+use Rattle.words.proofs.Steps.Joining.{cells-valued}
 use Rattle.words.proofs.packed.root_values.Statement.{statement}
 use Rattle.words.proofs.packed.root_values.Tie as tie
-
-table-requires : tie.Need-table-requires
-table-requires c κs = search needs
-
-slice-aggregate-remainder : tie.Need-slice-aggregate-remainder
-slice-aggregate-remainder c = search needs
-
-remainder-requires : tie.Need-remainder-requires
-remainder-requires c κs = search needs
 
 unpacked-requires : tie.Need-unpacked-requires
 unpacked-requires c κs = search needs
@@ -23,16 +14,8 @@ root-values-requires : tie.Need-root-values-requires
 root-values-requires c κs = search needs
 
 returns : tie.Need-returns
-returns c = search (needs, root-values-made)
+returns c = search (needs, cells-valued)
 
 pub root-values-spec : {M : Type 1} → statement M
 root-values-spec =
-    tie.close
-    (tie.spec
-    table-requires
-    slice-aggregate-remainder
-    remainder-requires
-    unpacked-requires
-    slice-aggregate-root-values
-    root-values-requires
-    returns)
+    tie.close (tie.spec unpacked-requires slice-aggregate-root-values root-values-requires returns)

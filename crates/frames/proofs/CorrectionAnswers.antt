@@ -17,11 +17,10 @@ use Rattle.words.proofs.Places.Numbers.{numberOf-same}
 use Rattle.frames.specs.Frames.{symbolAt, dataIn, withParity, frameOfWords}
 use Rattle.frames.specs.Correction.{innerPass, receivedBit, receivedSymbol, receivedWord, isPermitted, outerRestored, everyOf, outerPass, restoredFrame, reportOf, total}
 use Rattle.frames.specs.Answers.{Corrected, noCounts, refused, reported, frameCorrected, withoutReport}
-use Rattle.frames.specs.Received.{receivedRow, outerCodes, innerCodes}
+use Rattle.frames.specs.Received.{outerCodes, innerCodes}
 use Rattle.frames.specs.Symbols.{InRow, Sent, rowWord}
-use Rattle.frames.specs.Passes.{InnerPassed, provided, written, rowWords, rowRestored}
+use Rattle.frames.specs.Passes.{InnerPassed, provided, written, rowWords}
 use Rattle.frames.proofs.ReceivedWords.{received-cases, received-first, received-padding, received-last, row-room}
-use Rattle.frames.proofs.RowWords.{received-word}
 use Rattle.frames.proofs.FrameAnswers.{frame-written, is-block}
 use Rattle.frames.proofs.RestoredWords.{frame-kept}
 
@@ -40,11 +39,7 @@ module _ (b c : ℕ → ℕ) (same : (i : ℕ) → i < 130560 → b i ≡ c i) w
       tabulate-same (dataIn w + 16) _ _ (λ s l.
       numberOf-same 10 _ _ (λ j m. received-bit-same (10 * (781 * w + s) + j) (omega (arith, row-room w s k l))))
 
--- the outer pass over the row of a block, and over a block after the inner pass
-row-passed : (b : ℕ → ℕ) → rowRestored (receivedRow b) ≡ outerPass b
-unfolding rowRestored outerPass outerRestored
-row-passed b = ap everyOf (tabulate-same 16 _ _ (λ w k. ap (nearest (isPermitted w) 1024 8) (received-word b w k)))
-
+-- the outer pass over a block after the inner pass
 pub passes-done : (block copy passed : List ℕ) → copy ≡ block → InnerPassed copy passed → outerPass (bitAt passed) ≡ outerPass (innerPass (bitAt block))
 unfolding outerPass outerRestored
 passes-done block copy passed e p =
@@ -69,19 +64,16 @@ pub pass-kept : (passed out o : List ℕ) (s t : Bool) → length passed ≡ 163
 unfolding written
 pass-kept passed out o s t long bytes inner hs et h e = rw (frame-kept passed (is-block passed long bytes) (sym et ∙ h) (inner hs), e)
 
-module _ (passed row next o : List ℕ) (t : Bool) (er : row ≡ receivedRow (bitAt passed)) (restored : provided t (rowWords next) ≡ rowRestored row) where
-  passed-row : outerPass (bitAt passed) ≡ provided t (rowWords next)
-  passed-row = sym (row-passed (bitAt passed)) ∙ ap rowRestored (sym er) ∙ sym restored
-
+module _ (passed next o : List ℕ) (t : Bool) (restored : provided t (rowWords next) ≡ outerPass (bitAt passed)) where
   pub pass-none : not t ≡ true → _≡_ {A = Bool × List ℕ} (false, o) (written o (Option·map frameOfWords (outerPass (bitAt passed))))
   unfolding written provided
-  pass-none h = rw (passed-row, not-true t h)
+  pass-none h = rw (← restored, not-true t h)
 
   pub pass-written : not t ≡ false → (mid out : List ℕ) → length next ≡ 12496 → Sent next mid → out ≡ bytesOf 16320 (withParity (bitAt mid)) →
       _≡_ {A = Bool × List ℕ} (true, out) (written o (Option·map frameOfWords (outerPass (bitAt passed))))
   unfolding written provided
   pass-written h mid out long sent made =
-      rw (passed-row, not-false t h, made ∙ frame-written (rowWords next) next mid (row-words next long) sent)
+      rw (← restored, not-false t h, made ∙ frame-written (rowWords next) next mid (row-words next long) sent)
 
 -- ---- the entry
 

@@ -8,7 +8,7 @@ use borrow.Author.Tests.{eq-eqb, ne-eqb, not-true, not-false}
 use lib.ListN.{length, getD}
 use mir.Syntax.{w8}
 use mir.Val.{Fits}
-use Rattle.words.specs.Places.{at, allBelow, bitAt, bytesOf}
+use Rattle.words.specs.Places.{at, bitAt, bytesOf}
 use Rattle.words.specs.InnerCode.{innerParity}
 use Rattle.words.specs.Answers.{answered}
 use Rattle.words.proofs.Places.Tests.{below-all}
@@ -18,7 +18,7 @@ use Rattle.frames.specs.Received.{receivedRow, outerCodes, innerCodes}
 use Rattle.frames.specs.Symbols.{InRow, Sent, payloadInRow}
 use Rattle.frames.proofs.FrameBits.{bits-same, data-same, parity-before, parity-after, parity-cases}
 use Rattle.frames.proofs.ReceivedWords.{is-frame}
-use Rattle.frames.proofs.RowWords.{received-below, received-payload, row-sent}
+use Rattle.frames.proofs.RowWords.{received-payload, row-sent}
 
 -- ---- encoding
 
@@ -50,10 +50,6 @@ module _ (p o : List ℕ) where
     encode-written row mid out f r s w = rw (eq-eqb (length p) 15296 e, eq-eqb (length o) 16320 f, w, frame-written (outerWords p) row mid r s)
 
 -- ---- blocks
-
--- the row of a block
-pub row-below : (b row : List ℕ) → row ≡ receivedRow (bitAt b) → allBelow 1024 row ≡ true
-row-below b row e = rw e (received-below b)
 
 -- the outer words, then the inner words
 module _ (b : List ℕ) (outer : Bool) (test : outer ≡ outerCodes (bitAt b)) where

@@ -1,11 +1,11 @@
--- The outer pass: the outer words of the row, one after the other, become the permitted code words near them. Assumes nothing.
+-- The outer pass: the outer words of a block, one after the other, are written into the row and become the permitted code words near them. Assumes nothing.
 use mathlib.Core.Path.{_≡_, refl, sym, ap, _∙_}
 use mathlib.Core.Bool.{Bool, true, false, not, cond}
 use mathlib.Core.List.{List}
 use mathlib.Core.Option.{Option, none, some}
 use Prim.Native.Nat.{ℕ, _+_, _-_, _*_, _≤_, _<_, zero-le}
 use native.Mathlib.Decide.{ℕ-discrete, decLt}
-use native.Mathlib.Nat.{le-refl, not-suc-le-zero}
+use native.Mathlib.Nat.{not-suc-le-zero}
 use native.Mathlib.Omega.{arith}
 use borrow.Author.Tests.{eq-eqb, le-leb, le-ltb, lt-ltb, not-true, not-false}
 use lib.Bits.{bitAnd, bitOr, and-mask}
@@ -13,7 +13,7 @@ use lib.Dec.{eqb}
 use lib.ListN.{length, take, drop}
 use lib.Seq.{length-take-le}
 use Rattle.fields.proofs.Lists.{tabulate-is, tabulate-same}
-use Rattle.words.specs.Places.{at, allBelow}
+use Rattle.words.specs.Places.{at, allBelow, bitAt}
 use Rattle.words.specs.OuterCode.{isOuter}
 use Rattle.words.specs.Division.{outerRemainder}
 use Rattle.words.specs.SixSymbols.{Packs}
@@ -23,14 +23,14 @@ use Rattle.words.specs.declared.Correction.{Correction}
 use Rattle.words.specs.declared.Correction.the-variants.{Corrected, Refused}
 use Rattle.words.proofs.Codes.Proved.{codes}
 use Rattle.frames.specs.Frames.{dataIn}
-use Rattle.frames.specs.Correction.{isPadded, isPermitted}
-use Rattle.frames.specs.Symbols.{Placed, rowWord}
-use Rattle.frames.specs.Passes.{provided, WordRestored, rowWords, rowRestored}
+use Rattle.frames.specs.Correction.{receivedSymbol, isPadded, isPermitted, outerRestored, outerPass}
+use Rattle.frames.specs.Symbols.{Placed, partFrom, rowWord}
+use Rattle.frames.specs.Passes.{provided, WordRestored, rowWords}
 use Rattle.frames.proofs.FrameBits.{dataIn-le, dataIn-is}
 use Rattle.frames.proofs.Differences.{apart-self, apart-none}
 use Rattle.frames.proofs.Options.{every-some, every-missing}
 use Rattle.frames.proofs.Permitted.{permitted-none, permitted-some, permitted-not}
-use Rattle.frames.proofs.RowWords.{word-length, word-below, row-word-part, part-is, word-tested}
+use Rattle.frames.proofs.RowWords.{word-length, row-word-part, part-is, word-tested, received-word, word-before, received-below}
 
 -- ---- padding bits
 
@@ -174,43 +174,44 @@ module _ (row : List ℕ) (long : length row ≡ 12496) (w : ℕ) (h : w < 16) (
 
 -- ---- all words
 
--- the invariant: the first w words are restored, the others as they were
-pub record Restoring (before : List ℕ) (w : ℕ) (row : List ℕ) : Type 0 where
+-- the invariant: the first w words of the block are restored
+pub record Restoring (b : ℕ → ℕ) (w : ℕ) (row : List ℕ) : Type 0 where
   pub long : length row ≡ 12496
   pub within : w ≤ 16
-  pub done : (v : ℕ) → v < w → nearest (isPermitted v) 1024 8 (rowWord before v) ≡ some (rowWord row v)
-  pub ahead : (v : ℕ) → w ≤ v → v < 16 → rowWord row v ≡ rowWord before v
+  pub done : (v : ℕ) → v < w → outerRestored b v ≡ some (rowWord row v)
 
-pub restoring-start : {row : List ℕ} → length row ≡ 12496 → Restoring row 0 row
-restoring-start e = record { long = e; within = zero-le; done = λ v h. absurd (not-suc-le-zero h); ahead = λ v g h. refl }
+pub restoring-start : {b : ℕ → ℕ} {row : List ℕ} → length row ≡ 12496 → Restoring b 0 row
+restoring-start e = record { long = e; within = zero-le; done = λ v h. absurd (not-suc-le-zero h) }
 
-module _ {before : List ℕ} {w : ℕ} {row : List ℕ} (so-far : Restoring before w row) (h : w < 16) where
-  pub restoring-below : allBelow 1024 before ≡ true → allBelow 1024 (rowWord row w) ≡ true
-  restoring-below b = rw (so-far .ahead w (le-refl w) h) (word-below before w b)
+-- the next word is written, and then restored
+module _ (bytes : List ℕ) {w : ℕ} {row mid : List ℕ} (so-far : Restoring (bitAt bytes) w row) (h : w < 16)
+    (p : Placed (781 * w) (partFrom (receivedSymbol (bitAt bytes)) (781 * w) 781) row mid) where
+  pub restoring-long : length mid ≡ 12496
+  restoring-long = p .long ∙ so-far .long
 
-  module _ {after : List ℕ} {t : Bool} (r : WordRestored w row after t) where
-    near : nearest (isPermitted w) 1024 8 (rowWord before w) ≡ provided t (rowWord after w)
-    near = ap (nearest (isPermitted w) 1024 8) (sym (so-far .ahead w (le-refl w) h)) ∙ sym (r .word)
+  pub restoring-below : allBelow 1024 (rowWord mid w) ≡ true
+  restoring-below = rw (received-word (bitAt bytes) w p) (received-below bytes w)
 
-    pub restoring-next : not t ≡ false → Restoring before (w + 1) after
+  module _ {after : List ℕ} {t : Bool} (r : WordRestored w mid after t) where
+    pub restoring-kept : length after ≡ 12496
+    restoring-kept = r .long ∙ restoring-long
+
+    near : outerRestored (bitAt bytes) w ≡ provided t (rowWord after w)
+    unfolding outerRestored
+    near = ap (nearest (isPermitted w) 1024 8) (sym (received-word (bitAt bytes) w p)) ∙ sym (r .word)
+
+    pub restoring-next : not t ≡ false → Restoring (bitAt bytes) (w + 1) after
     unfolding provided
-    restoring-next f =
-        record {
-          long = r .long ∙ so-far .long;
-          within = omega arith;
-          done = λ v l. go v l (ℕ-discrete v w);
-          ahead = λ v g l. r .others v l (λ q. omega arith) ∙ so-far .ahead v (omega arith) l;
-        }
+    restoring-next f = record { long = restoring-kept; within = omega arith; done = λ v l. go v l (ℕ-discrete v w) }
       where
-        go : (v : ℕ) → v < w + 1 → Dec (v ≡ w) → nearest (isPermitted v) 1024 8 (rowWord before v) ≡ some (rowWord after v)
+        go : (v : ℕ) → v < w + 1 → Dec (v ≡ w) → outerRestored (bitAt bytes) v ≡ some (rowWord after v)
         go v l (yes q) = rw (q, near, not-false t f)
-        go v l (no q) = so-far .done v (omega arith) ∙ ap some (sym (r .others v (omega arith) q))
+        go v l (no q) = so-far .done v (omega arith) ∙ ap some (sym (r .others v (omega arith) q ∙ word-before (bitAt bytes) w p v (omega arith)))
 
-    pub restoring-not : not t ≡ true → provided false (rowWords after) ≡ rowRestored before
-    unfolding provided rowRestored
-    restoring-not f =
-        sym (every-missing 16 _ w h (near ∙ ap (λ (b : Bool). provided b (rowWord after w)) (not-true t f)))
+    pub restoring-not : not t ≡ true → provided false (rowWords after) ≡ outerPass (bitAt bytes)
+    unfolding provided outerPass
+    restoring-not f = sym (every-missing 16 _ w h (near ∙ ap (λ (b : Bool). provided b (rowWord after w)) (not-true t f)))
 
-pub restoring-end : {before : List ℕ} {w : ℕ} {row : List ℕ} → Restoring before w row → 16 ≤ w → provided true (rowWords row) ≡ rowRestored before
-unfolding provided rowRestored rowWords
-restoring-end {before} {w} {row} r g = sym (every-some 16 _ (rowWord row) (λ v l. r .done v (omega arith)))
+pub restoring-end : {b : ℕ → ℕ} {w : ℕ} {row : List ℕ} → Restoring b w row → 16 ≤ w → provided true (rowWords row) ≡ outerPass b
+unfolding provided outerPass rowWords
+restoring-end {b} {w} {row} r g = sym (every-some 16 _ (rowWord row) (λ v l. r .done v (omega arith)))

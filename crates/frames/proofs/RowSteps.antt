@@ -1,12 +1,12 @@
 -- A law for each way through the functions on the row of outer words. Assumes nothing.
-use mathlib.Core.Path.{_≡_, sym, ap, _∙_}
+use mathlib.Core.Path.{_≡_, sym, ap, _∙_, subst}
 use mathlib.Core.List.{List}
 use Prim.Native.Nat.{ℕ, _+_, _-_, _*_, _/_, _%_, _≤_, _<_}
 use native.Mathlib.Decide.{decLt}
 use native.Mathlib.Omega.{arith}
 use lib.Bits.{bitAnd, and-high}
 use lib.ListN.{length, set}
-use Rattle.fields.proofs.Lists.{tabulate-append, tabulate-at, tabulate-length, tabulate-same}
+use Rattle.fields.proofs.Lists.{tabulate-same}
 use Rattle.words.specs.Places.{at, bitOf, numberOf, bitAt}
 use Rattle.words.proofs.Places.Bytes.{bitAt-lt}
 use Rattle.words.proofs.Places.Filling.{Filled, filled-start, filled-next, filled-end}
@@ -14,9 +14,9 @@ use Rattle.words.proofs.Places.Numbers.{bitOf-lt, bitOf-number, numberOf-lt, nu
 use Rattle.frames.specs.Frames.{symbolAt, dataIn, outerData, rowPlace}
 use Rattle.frames.specs.Correction.{receivedSymbol}
 use Rattle.frames.specs.Received.{receivedRow}
-use Rattle.frames.specs.Symbols.{Placed, Sent, byteAt, numberAt, partsOf, symbolBit, symbolByte, dataPlace, dataSymbol, payloadByte, payloadPart, payloadInRow, startOf, endOf}
+use Rattle.frames.specs.Symbols.{Placed, Sent, byteAt, numberAt, partsOf, symbolBit, symbolByte, dataPlace, dataSymbol, payloadByte, partFrom, payloadInRow, startOf, endOf}
 use Rattle.frames.proofs.FrameBits.{dataIn-is, place-first, place-last}
-use Rattle.frames.proofs.Placing.{Placing, placing-next, placing-end, placed-append}
+use Rattle.frames.proofs.Placing.{Placing, placed-append, part-length, part-next, part-filled, part-append}
 use Rattle.frames.proofs.ReceivedWords.{received-first, received-padding, received-last}
 use Rattle.frames.proofs.Windows.{byte-of-symbols}
 use Rattle.frames.proofs.Groups.{parts-length, parts-at}
@@ -87,17 +87,10 @@ sent-end row {out} h l = record { long = h .long; bits = bit }
 -- ---- the row of a block
 
 -- the symbols before the one with the padding bits stand in the block as in the row
-pub received-start : (block : List ℕ) {before row : List ℕ} → Placed 0 (partsOf 10 12476 (bitAt block) 0) before row → length before ≡ 12496 →
-    Filled 12496 (receivedSymbol (bitAt block)) 12476 row
-unfolding symbolAt receivedSymbol numberAt
-received-start block {before} {row} p long = record { long = p .long ∙ long; within = omega arith; done = symbol }
-  where
-    symbol : (t : ℕ) → t < 12476 → at row t ≡ receivedSymbol (bitAt block) t
-    symbol t l =
-        let e : t ≡ 0 + t = omega arith in
-        let n = parts-length 10 12476 (bitAt block) 0 in
-        ap (at row) e ∙ p .inside t (omega (arith, n)) ∙ parts-at 10 12476 (bitAt block) 0 t l
-        ∙ numberOf-same 10 _ _ (λ j h. ap (bitAt block) (omega arith) ∙ sym (received-first (bitAt block) (10 * t + j) (omega arith)))
+parts-received : (b : ℕ → ℕ) (t n : ℕ) → t + n ≤ 12476 → partsOf 10 n b (10 * t) ≡ partFrom (receivedSymbol b) t n
+unfolding partsOf numberAt partFrom receivedSymbol symbolAt
+parts-received b t n room =
+    tabulate-same n _ _ (λ s l. numberOf-same 10 _ _ (λ j h. ap b (omega arith) ∙ sym (received-first b (10 * (t + s) + j) (omega arith))))
 
 pub symbol-after : (b : ℕ → ℕ) (t s : ℕ) → 12476 ≤ t → (t ≡ 12476 → ⊥) → s ≡ symbolAt b (10 * t - 2) → s ≡ receivedSymbol b t
 unfolding symbolAt receivedSymbol
@@ -122,9 +115,41 @@ symbol-padded bytes t s et e =
       received-padding b (10 * t + 9) (omega arith) (omega arith),
     )
 
-pub row-end : (b : ℕ → ℕ) {k : ℕ} {row : List ℕ} → Filled 12496 (receivedSymbol b) k row → 12496 ≤ k → row ≡ receivedRow b
+pub last-next : (b : ℕ → ℕ) {s v : ℕ} {before row : List ℕ} → Placing 12476 (partFrom (receivedSymbol b) 12476 20) s before row → s < 20 →
+    length before ≡ 12496 → v ≡ receivedSymbol b (12476 + s) → Placing 12476 (partFrom (receivedSymbol b) 12476 20) (s + 1) before (set row (12476 + s) v)
+last-next b p l long e = part-next (receivedSymbol b) 12476 20 p l (omega arith) long e
+
+-- an outer word before the last, and the last one
+pub word-first : (b : ℕ → ℕ) (w : ℕ) {before row : List ℕ} → w < 15 → Placed (781 * w) (partsOf 10 781 b (10 * (781 * w))) before row →
+    Placed (781 * w) (partFrom (receivedSymbol b) (781 * w) 781) before row
+word-first b w h p = rw (parts-received b (781 * w) 781 (omega arith)) at p
+
+pub word-last : (b : ℕ → ℕ) (w : ℕ) {before mid row : List ℕ} → w < 16 → 15 ≤ w →
+    Placed (781 * w) (partsOf 10 (12476 - 781 * w) b (10 * (781 * w))) before mid → Placed 12476 (partFrom (receivedSymbol b) 12476 20) mid row →
+    Placed (781 * w) (partFrom (receivedSymbol b) (781 * w) 781) before row
+word-last b w {before} {mid} {row} h g p q =
+    let f = receivedSymbol b in
+    let t = 781 * w in
+    let n = 12476 - t in
+    let place : 12476 ≡ t + n = omega arith in
+    let all : n + 20 ≡ 781 = omega arith in
+    let first : Placed t (partFrom f t n) before mid = rw (parts-received b t n (omega arith)) at p in
+    let second : Placed (t + n) (partFrom f (t + n) 20) mid row = subst (λ (i : ℕ). Placed i (partFrom f i 20) mid row) place q in
+    subst (λ (xs : List ℕ). Placed t xs before row) (part-append f t n 20 ∙ ap (partFrom f t) all) (placed-append (part-length f t n) first second)
+
+-- one word after the other
+pub row-start : (b : ℕ → ℕ) {row : List ℕ} → length row ≡ 12496 → Filled 12496 (receivedSymbol b) (781 * 0) row
+row-start b e = filled-start e
+
+pub row-next : (b : ℕ → ℕ) {w : ℕ} {row after : List ℕ} → Filled 12496 (receivedSymbol b) (781 * w) row → w < 16 →
+    Placed (781 * w) (partFrom (receivedSymbol b) (781 * w) 781) row after → Filled 12496 (receivedSymbol b) (781 * (w + 1)) after
+row-next b {w} {row} {after} f h p =
+    let e : 781 * w + 781 ≡ 781 * (w + 1) = omega arith in
+    rw e at (part-filled (receivedSymbol b) (781 * w) 781 f (omega arith) p)
+
+pub row-end : (b : ℕ → ℕ) {w : ℕ} {row : List ℕ} → Filled 12496 (receivedSymbol b) (781 * w) row → 16 ≤ w → row ≡ receivedRow b
 unfolding receivedRow
-row-end b h l = filled-end h l
+row-end b h l = filled-end h (omega arith)
 
 -- ---- the payload in a row
 
@@ -132,33 +157,6 @@ pub payload-read : (row : List ℕ) (k p q x y b : ℕ) → p ≡ dataPlace (8 *
     b ≡ byteAt x y (8 * k % 10) → b ≡ payloadByte row k
 unfolding payloadByte dataSymbol
 payload-read row k p q x y b ep ex eq ey e = byte-of-symbols (dataSymbol row) (8 * k) x y b (ex ∙ ap (at row) ep) (ey ∙ ap (at row) eq) e
-
-module _ (row : List ℕ) (k n : ℕ) where
-  pub part-length : length (payloadPart row k n) ≡ n
-  unfolding payloadPart
-  part-length = tabulate-length n _
-
-  pub part-at : (m : ℕ) → m < n → at (payloadPart row k n) m ≡ payloadByte row (k + m)
-  unfolding payloadPart
-  part-at m l = tabulate-at n _ m 0 l
-
-  pub payload-next : {m v : ℕ} {before out : List ℕ} → Placing k (payloadPart row k n) m before out → m < n → k + n ≤ 15296 →
-      length before ≡ 15296 → v ≡ payloadByte row (k + m) → Placing k (payloadPart row k n) (m + 1) before (set out (k + m) v)
-  payload-next {m} p l room long e = placing-next p (omega (arith, part-length)) (omega (arith, part-length)) (e ∙ sym (part-at m l))
-
-  pub payload-part : {m : ℕ} {before out : List ℕ} → Placing k (payloadPart row k n) m before out → n ≤ m → Placed k (payloadPart row k n) before out
-  payload-part p l = placing-end p (omega (arith, part-length))
-
--- one part after another
-parts-filled : (row : List ℕ) (k n : ℕ) {out after : List ℕ} → Filled 15296 (payloadByte row) k out → k + n ≤ 15296 → Placed k (payloadPart row k n) out after →
-    Filled 15296 (payloadByte row) (k + n) after
-parts-filled row k n {out} {after} f room p = record { long = p .long ∙ f .long; within = room; done = λ m l. go m l (decLt m k) }
-  where
-    go : (m : ℕ) → m < k + n → Dec (m < k) → at after m ≡ payloadByte row m
-    go m l (yes h) = p .below m h ∙ f .done m h
-    go m l (no h) =
-        let e : k + (m - k) ≡ m = omega arith in
-        rw e at (p .inside (m - k) (omega (arith, part-length row k n)) ∙ part-at row k n (m - k) (omega arith))
 
 -- the groups of an outer word stand in the payload as in the row
 module _ (row : List ℕ) (w g n : ℕ) (h : w < 16) (en : n ≡ dataIn w) (eg : g ≡ (n - 3 * w % 4) / 4) where
@@ -178,8 +176,8 @@ module _ (row : List ℕ) (w g n : ℕ) (h : w < 16) (en : n ≡ dataIn w) (eg :
       let s : (10 * (765 * w + f) + x) % 10 ≡ x % 10 = omega arith in
       rw (a, r, b, s, c, d)
 
-  groups-payload : partsOf 8 (5 * g) (symbolBit (at row)) (10 * (781 * w + 3 * w % 4)) ≡ payloadPart row (5 * ((765 * w + 3 * w % 4) / 4)) (5 * g)
-  unfolding partsOf numberAt payloadPart payloadByte symbolByte
+  groups-payload : partsOf 8 (5 * g) (symbolBit (at row)) (10 * (781 * w + 3 * w % 4)) ≡ partFrom (payloadByte row) (5 * ((765 * w + 3 * w % 4) / 4)) (5 * g)
+  unfolding partsOf numberAt partFrom payloadByte symbolByte
   groups-payload =
       tabulate-same (5 * g) _ _ (λ m l. numberOf-same 8 _ _ (λ j b.
       ap (symbolBit (at row)) (omega arith) ∙ group-bit (8 * m + j) (omega arith) ∙ ap (symbolBit (dataSymbol row)) (omega (arith, group-byte))))
@@ -204,10 +202,10 @@ fours u f n g a e l eg =
 
 -- the bytes that begin before an outer word, and its groups
 pub word-extracted : (row : List ℕ) (w g n p : ℕ) {before mid after : List ℕ} → w < 16 → n ≡ dataIn w → g ≡ (n - 3 * w % 4) / 4 → p ≡ dataPlace (765 * w + 3 * w % 4) →
-    Placed (5 * (765 * w / 4)) (payloadPart row (5 * (765 * w / 4)) (5 * ((765 * w + 3 * w % 4) / 4) - 5 * (765 * w / 4))) before mid →
+    Placed (5 * (765 * w / 4)) (partFrom (payloadByte row) (5 * (765 * w / 4)) (5 * ((765 * w + 3 * w % 4) / 4) - 5 * (765 * w / 4))) before mid →
     Placed (5 * ((765 * w + 3 * w % 4) / 4)) (partsOf 8 (5 * g) (symbolBit (at row)) (10 * p)) mid after →
-    Placed (startOf w) (payloadPart row (startOf w) (endOf w - startOf w)) before after
-unfolding startOf endOf dataPlace payloadPart
+    Placed (startOf w) (partFrom (payloadByte row) (startOf w) (endOf w - startOf w)) before after
+unfolding startOf endOf dataPlace
 word-extracted row w g n p h en eg ep first groups =
     let f = 3 * w % 4 in
     let s = 5 * (765 * w / 4) in
@@ -218,8 +216,8 @@ word-extracted row w g n p h en eg ep first groups =
     fours (765 * w) f (dataIn w) g ((765 * w + f) / 4) four (omega (arith, dataIn-is w h)) (eg ∙ ap (λ (m : ℕ). (m - f) / 4) en) in
     let next : k ≡ s + (k - s) = omega arith in
     let moved = rw (place, groups-payload row w g n h en eg) at groups in
-    let whole = tabulate-append (k - s) (5 * g) (λ m. payloadByte row (s + m)) (λ m. payloadByte row (s + (k - s) + m)) (λ m. ap (payloadByte row) (omega arith)) in
-    rw (whole ∙ ap (λ (m : ℕ). payloadPart row s m) end) at (placed-append (part-length row s (k - s)) first (rw next at moved))
+    let whole = part-append (payloadByte row) s (k - s) (5 * g) in
+    rw (whole ∙ ap (partFrom (payloadByte row) s) end) at (placed-append (part-length (payloadByte row) s (k - s)) first (rw next at moved))
 
 -- the bytes that are written before outer word w
 unfoldable pub doneTo : ℕ → ℕ
@@ -230,17 +228,17 @@ unfolding doneTo
 payload-start row e = filled-start e
 
 pub payload-word : (row : List ℕ) {w : ℕ} {out after : List ℕ} → Filled 15296 (payloadByte row) (doneTo w) out → w < 16 →
-    Placed (startOf w) (payloadPart row (startOf w) (endOf w - startOf w)) out after → Filled 15296 (payloadByte row) (doneTo (w + 1)) after
+    Placed (startOf w) (partFrom (payloadByte row) (startOf w) (endOf w - startOf w)) out after → Filled 15296 (payloadByte row) (doneTo (w + 1)) after
 unfolding doneTo startOf endOf
 payload-word row {w} f h p =
     let s = 5 * (765 * w / 4) in
     let start : 5 * ((765 * w - 3 * (w / 16)) / 4) ≡ s = omega arith in
     let e : s + (5 * ((765 * w + dataIn w) / 4) - s) ≡ 5 * ((765 * (w + 1) - 3 * ((w + 1) / 16)) / 4) = omega (arith, dataIn-is w h) in
-    rw e at (parts-filled row s (5 * ((765 * w + dataIn w) / 4) - s) (rw start at f) (omega (arith, dataIn-is w h)) p)
+    rw e at (part-filled (payloadByte row) s (5 * ((765 * w + dataIn w) / 4) - s) (rw start at f) (omega (arith, dataIn-is w h)) p)
 
 pub payload-all : (row : List ℕ) {w : ℕ} {out after : List ℕ} → Filled 15296 (payloadByte row) (doneTo w) out → w ≤ 16 → 16 ≤ w →
-    Placed 15295 (payloadPart row 15295 1) out after → after ≡ payloadInRow row
+    Placed 15295 (partFrom (payloadByte row) 15295 1) out after → after ≡ payloadInRow row
 unfolding payloadInRow doneTo
 payload-all row {w} f l g p =
     let e : 5 * ((765 * w - 3 * (w / 16)) / 4) ≡ 15295 = omega arith in
-    filled-end (parts-filled row 15295 1 (rw e at f) (omega arith) p) (omega arith)
+    filled-end (part-filled (payloadByte row) 15295 1 (rw e at f) (omega arith) p) (omega arith)

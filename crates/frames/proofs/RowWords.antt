@@ -16,17 +16,17 @@ use Rattle.words.specs.Places.{at, allBelow, bitOf, bitAt, bytesOf}
 use Rattle.words.specs.OuterCode.{isOuter, outerParity}
 use Rattle.words.specs.Division.{outerRemainder}
 use Rattle.words.specs.SixSymbols.{Packs}
-use Rattle.words.proofs.Places.Tests.{below-at, below-all}
+use Rattle.words.proofs.Places.Tests.{below-all}
 use Rattle.words.proofs.Places.Bytes.{bitAt-lt}
 use Rattle.words.proofs.Codes.Proved.{codes}
 use Rattle.words.proofs.Steps.Joining.{outer-zero}
 use Rattle.frames.specs.Frames.{dataIn, outerData, outerWord, outerWords, rowBit, rowPlace, sentBit, payloadPlace, payloadOf}
 use Rattle.frames.specs.Correction.{receivedSymbol, receivedWord}
 use Rattle.frames.specs.Received.{receivedRow}
-use Rattle.frames.specs.Symbols.{Placed, InRow, rowWord, symbolBit, symbolByte, dataPlace, dataSymbol, payloadByte, payloadInRow}
-use Rattle.frames.proofs.Placing.{placed-append}
+use Rattle.frames.specs.Symbols.{Placed, partFrom, InRow, rowWord, symbolBit, symbolByte, dataPlace, dataSymbol, payloadByte, payloadInRow}
+use Rattle.frames.proofs.Placing.{placed-append, part-length, part-at}
 use Rattle.frames.proofs.FrameBits.{bits-same, dataIn-le, dataIn-is, outer-data-length, outer-word-length, outer-data-below, place-near}
-use Rattle.frames.proofs.ReceivedWords.{received-first, row-room, symbol-lt, symbol-bit}
+use Rattle.frames.proofs.ReceivedWords.{received-first, symbol-lt, symbol-bit}
 
 -- a part of a list, place by place
 part-places : (i n : ℕ) (l : List ℕ) → i + n ≤ length l → take n (drop i l) ≡ tabulate n (λ j. at l (i + j))
@@ -94,11 +94,6 @@ pub word-length : (row : List ℕ) (w : ℕ) → length (rowWord row w) ≡ data
 unfolding rowWord
 word-length row w = tabulate-length (dataIn w + 16) _
 
-pub word-below : (row : List ℕ) (w : ℕ) → allBelow 1024 row ≡ true → allBelow 1024 (rowWord row w) ≡ true
-unfolding rowWord
-word-below row w b =
-    below-all 1024 _ (λ i l. tabulate-lt 1024 (dataIn w + 16) (λ s. at row (781 * w + s)) (lit< tt) (λ s. below-at 1024 row (lit< tt) b (781 * w + s)) i)
-
 pub row-word-part : (row : List ℕ) (w n : ℕ) → length row ≡ 12496 → w < 16 → n ≡ dataIn w + 16 → take n (drop (781 * w) row) ≡ rowWord row w
 unfolding rowWord
 row-word-part row w n long h e =
@@ -130,14 +125,23 @@ module _ (row : List ℕ) (long : length row ≡ 12496) (w n : ℕ) (h : w < 16)
     pub word-tested : (t : Bool) → t ≡ eqb (bitOr (bitOr x y) z) 0 → t ≡ isOuter (rowWord row w)
     word-tested t test = test ∙ outer-zero part part-least (part-below below) x y z p part-most ∙ ap isOuter part-is
 
--- the words of a received row are the block's
-pub received-word : (b : ℕ → ℕ) (w : ℕ) → w < 16 → rowWord (receivedRow b) w ≡ receivedWord b w
-unfolding rowWord receivedRow receivedWord
-received-word b w h = tabulate-same (dataIn w + 16) _ _ (λ s l. tabulate-at 12496 (receivedSymbol b) (781 * w + s) 0 (omega (arith, row-room w s h l)))
+-- ---- the words of a block, stored
 
-pub received-below : (bytes : List ℕ) → allBelow 1024 (receivedRow (bitAt bytes)) ≡ true
-unfolding receivedRow
-received-below bytes = below-all 1024 _ (λ i l. tabulate-lt 1024 12496 (receivedSymbol (bitAt bytes)) (lit< tt) (symbol-lt (bitAt bytes) (bitAt-lt bytes)) i)
+module _ (b : ℕ → ℕ) (w : ℕ) {before row : List ℕ} (p : Placed (781 * w) (partFrom (receivedSymbol b) (781 * w) 781) before row) where
+  pub received-word : rowWord row w ≡ receivedWord b w
+  unfolding rowWord receivedWord
+  received-word =
+      let f = receivedSymbol b in
+      tabulate-same (dataIn w + 16) _ _ (λ s l. p .inside s (omega (arith, part-length f (781 * w) 781, dataIn-le w)) ∙ part-at f (781 * w) 781 s (omega (arith, dataIn-le w)))
+
+  pub word-before : (v : ℕ) → v < w → rowWord row v ≡ rowWord before v
+  unfolding rowWord
+  word-before v l = tabulate-same (dataIn v + 16) _ _ (λ s h. p .below (781 * v + s) (omega (arith, dataIn-le v)))
+
+pub received-below : (bytes : List ℕ) (w : ℕ) → allBelow 1024 (receivedWord (bitAt bytes) w) ≡ true
+unfolding receivedWord
+received-below bytes w =
+    below-all 1024 _ (λ i l. tabulate-lt 1024 (dataIn w + 16) _ (lit< tt) (λ s. symbol-lt (bitAt bytes) (bitAt-lt bytes) (781 * w + s)) i)
 
 -- ---- bits of the row
 

@@ -10,7 +10,7 @@ use Rattle.words.specs.Places.{at, bitOf, numberOf, bitAt}
 use Rattle.words.specs.InnerCode.{isInner}
 use Rattle.words.specs.Nearest.{nearest}
 use Rattle.frames.specs.Frames.{innerWord}
-use Rattle.frames.specs.Correction.{innerRestored, innerPass, isPermitted, everyOf}
+use Rattle.frames.specs.Correction.{innerRestored, innerPass, isPermitted}
 use Rattle.frames.specs.Symbols.{rowWord}
 
 -- ---- inner words
@@ -60,12 +60,9 @@ pub record WordRestored (w : ℕ) (before after : List ℕ) (r : Bool) : Type 0 
   pub word : provided r (rowWord after w) ≡ nearest (isPermitted w) 1024 8 (rowWord before w)
   pub others : (v : ℕ) → v < 16 → (v ≡ w → ⊥) → rowWord after v ≡ rowWord before v
 
--- the sixteen words of a row; and what the outer pass makes of them
+-- the sixteen words of a row
 unfoldable pub rowWords : List ℕ → List (List ℕ)
 rowWords row = tabulate 16 (rowWord row)
-
-unfoldable pub rowRestored : List ℕ → Option (List (List ℕ))
-rowRestored row = everyOf (tabulate 16 (λ w. nearest (isPermitted w) 1024 8 (rowWord row w)))
 
 -- ---- the report
 

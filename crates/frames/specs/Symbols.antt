@@ -25,6 +25,10 @@ pub record Placed (i : ℕ) (xs before after : List ℕ) : Type 0 where
   pub below : (j : ℕ) → j < i → at after j ≡ at before j
   pub above : (j : ℕ) → i + length xs ≤ j → at after j ≡ at before j
 
+-- n of the numbers f 0, f 1, .., from f k on
+unfoldable pub partFrom : (ℕ → ℕ) → ℕ → ℕ → List ℕ
+partFrom f k n = tabulate n (λ m. f (k + m))
+
 -- sixteen outer words stand in the row, 781 places each
 pub record InRow (words : List (List ℕ)) (row : List ℕ) : Type 0 where
   pub long : length row ≡ 12496
@@ -56,10 +60,6 @@ dataSymbol row u = at row (dataPlace u)
 -- the payload in a row
 unfoldable pub payloadByte : List ℕ → ℕ → ℕ
 payloadByte row k = symbolByte (dataSymbol row) (8 * k)
-
--- n bytes of it from byte k on
-unfoldable pub payloadPart : List ℕ → ℕ → ℕ → List ℕ
-payloadPart row k n = tabulate n (λ m. payloadByte row (k + m))
 
 -- four data symbols are five payload bytes: the bytes of those that end before outer word w, and that end with it
 unfoldable pub startOf : ℕ → ℕ

@@ -5,9 +5,9 @@
 //     check    a frame is a block whose outer words (module outer_test) and inner words are all code words
 //     extract  after the same test, the block's bytes make the row again, and its data symbols are the payload
 //     correct  inner pass: the inner words of a copy of the block that are no code words become the code words within eight places, those that have none
-//              stay; outer pass: the copy's bytes make the row, and its outer words become the code words within eight symbols; if each has one, the row
-//              is sent and parity bits are made as in encoding, and the report compares block and frame (module comparison); a copy that is a frame after
-//              the inner pass is the answer as it stands
+//              stay; outer pass: the copy's bytes make one outer word after the other, which becomes the code word within eight symbols; if each has one,
+//              the row of them is sent and parity bits are made as in encoding, and the report compares block and frame (module comparison); a copy that is
+//              a frame after the inner pass is the answer as it stands
 //
 // Every input is answered: an entry returns 0, or the number of the refusal; a refusal leaves the output buffer as it was. Where there is more than one
 // fault, the order is 1 (length of the payload) or 2 (length of the block), 3 (size of the output buffer), then 4 (no frame) or 5
@@ -163,8 +163,7 @@ fn outer_pass(passed: &[u8], inner: bool, out: &mut [u8]) -> bool
         }
     }
     let mut row = outer_words::blank();
-    outer_words::receive(passed, &mut row);
-    if !outer_words::correct(&mut row) {
+    if !outer_words::correct(passed, &mut row) {
         return false;
     }
     outer_words::send(&row, out);

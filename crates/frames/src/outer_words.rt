@@ -1,5 +1,5 @@
-// The outer words of a frame stand in a row, 781 symbols each: the row of a payload and of a block, the bytes that are sent of it, the outer pass over it,
-// and the payload in it.
+// The outer words of a frame stand in a row, 781 symbols each: the row of a payload, the bytes that are sent of it, the row of a block, written word by word, the
+// outer pass, which corrects each word as it is written, and the payload in a row.
 use crate::Frame;
 use crate::bits;
 use words::Correction;
@@ -15,10 +15,10 @@ ghost use Rattle.words.specs.OuterCode.{isOuter};
 ghost use Rattle.words.specs.Division.{outerRemainder};
 ghost use Rattle.words.specs.SixSymbols.{Packs, parities};
 ghost use Rattle.frames.specs.Frames.{dataIn, outerData, outerWord, outerWords, rowPlace};
-ghost use Rattle.frames.specs.Correction.{receivedSymbol, isPadded};
+ghost use Rattle.frames.specs.Correction.{receivedSymbol, isPadded, outerPass};
 ghost use Rattle.frames.specs.Received.{receivedRow};
-ghost use Rattle.frames.specs.Symbols.{Placed, InRow, Sent, rowWord, symbolByte, dataPlace, payloadByte, payloadPart, payloadInRow, startOf, endOf};
-ghost use Rattle.frames.specs.Passes.{provided, WordRestored, rowWords, rowRestored};
+ghost use Rattle.frames.specs.Symbols.{Placed, InRow, Sent, rowWord, symbolByte, dataPlace, partFrom, payloadByte, payloadInRow, startOf, endOf};
+ghost use Rattle.frames.specs.Passes.{provided, WordRestored, rowWords};
 
 pub const LAST: usize = Frame::WORDS - 1;
 
@@ -28,6 +28,9 @@ const WORD_BITS: usize = Frame::SYMBOL_BITS * Frame::DATA_SYMBOLS;
 pub const PADDED: usize = LAST * Frame::WORD_SYMBOLS + Frame::LAST_DATA_SYMBOLS - 1;
 
 const UNPADDED: u16 = 1020;
+
+// So many symbols are the row from that one on.
+const FROM_PADDED: usize = Frame::ROW - PADDED;
 
 // The groups of symbols before it, whose bytes stand in the frame as in the row.
 const GROUPS: usize = PADDED / bits::GROUP;
@@ -153,16 +156,42 @@ fn last_symbol(block: &[u8], t: usize) -> u16
     bits::symbol(block, Frame::SYMBOL_BITS * t - Frame::PADDING)
 }
 
+// Writes the symbols of the row of a block from the one with the padding bits on.
+fn receive_last(block: &[u8], row: &mut [u16])
+    requires { ⌜ length (now row) ≡ 12496 ⌝ }
+    ensures { λ _. ⌜ Placed 12476 (partFrom (receivedSymbol (bitAt (now (block .entry)))) 12476 20) (now (row .entry)) (now (row .exit)) ⌝ }
+{
+    let mut s: usize = 0;
+    while s < FROM_PADDED {
+        row[PADDED + s] = last_symbol(block, PADDED + s);
+        s += 1;
+    }
+}
+
+// Writes the symbols of the row of a block that have place for outer word w.
+fn receive_word(block: &[u8], w: usize, row: &mut [u16])
+    requires { ⌜ (w < 16) × (length (now block) ≡ 16320) × (length (now row) ≡ 12496) ⌝ }
+    ensures { λ _. ⌜ Placed (781 * w) (partFrom (receivedSymbol (bitAt (now (block .entry)))) (781 * w) 781) (now (row .entry)) (now (row .exit)) ⌝ }
+{
+    let t = Frame::WORD_SYMBOLS * w;
+    let i = Frame::SYMBOL_BITS * t;
+    if w < LAST {
+        bits::write_from_bit(block, i, Frame::WORD_SYMBOLS, row, t);
+    } else {
+        bits::write_from_bit(block, i, PADDED - t, row, t);
+        receive_last(block, row);
+    }
+}
+
 // Writes the row of a block.
 pub fn receive(block: &[u8], row: &mut [u16])
     requires { ⌜ (length (now block) ≡ 16320) × (length (now row) ≡ 12496) ⌝ }
     ensures { λ _. ⌜ now (row .exit) ≡ receivedRow (bitAt (now (block .entry))) ⌝ }
 {
-    bits::write_from_byte(block, 0, PADDED, row, 0);
-    let mut t: usize = PADDED;
-    while t < Frame::ROW {
-        row[t] = last_symbol(block, t);
-        t += 1;
+    let mut w: usize = 0;
+    while w < Frame::WORDS {
+        receive_word(block, w, row);
+        w += 1;
     }
 }
 
@@ -220,14 +249,16 @@ fn correct_word(table: &[u64], w: usize, row: &mut [u16]) -> bool
     restore(rest, w, row, &mut word[0..end - from])
 }
 
-// The outer pass: each outer word in the row becomes the permitted code word within eight symbols; false, if some word has none.
-pub fn correct(row: &mut [u16]) -> bool
-    requires { ⌜ (length (now row) ≡ 12496) × (allBelow 1024 (now row) ≡ true) ⌝ }
-    ensures { λ r. ⌜ (length (now (row .exit)) ≡ 12496) × (provided r (rowWords (now (row .exit))) ≡ rowRestored (now (row .entry))) ⌝ }
+// The outer pass over a block: each outer word is written into the row and becomes the permitted code word within eight symbols; false at the first that has
+// none, so that no word is made ahead of its turn.
+pub fn correct(block: &[u8], row: &mut [u16]) -> bool
+    requires { ⌜ (length (now block) ≡ 16320) × (length (now row) ≡ 12496) ⌝ }
+    ensures { λ r. ⌜ (length (now (row .exit)) ≡ 12496) × (provided r (rowWords (now (row .exit))) ≡ outerPass (bitAt (now (block .entry)))) ⌝ }
 {
     let table = packed::table();
     let mut w: usize = 0;
     while w < Frame::WORDS {
+        receive_word(block, w, row);
         if !correct_word(&table, w, row) {
             return false;
         }
@@ -259,7 +290,7 @@ fn payload_byte(row: &[u16], k: usize) -> u8
 // Writes n bytes of the payload in the row from byte k on, one by one.
 fn extract_each(row: &[u16], k: usize, n: usize, out: &mut [u8])
     requires { ⌜ (k + n ≤ 15296) × (length (now out) ≡ 15296) ⌝ }
-    ensures { λ _. ⌜ Placed k (payloadPart (now (row .entry)) k n) (now (out .entry)) (now (out .exit)) ⌝ }
+    ensures { λ _. ⌜ Placed k (partFrom (payloadByte (now (row .entry))) k n) (now (out .entry)) (now (out .exit)) ⌝ }
 {
     let mut m: usize = 0;
     while m < n {
@@ -271,7 +302,7 @@ fn extract_each(row: &[u16], k: usize, n: usize, out: &mut [u8])
 // Writes the payload bytes that end with outer word w: one by one those of a group that begins in the word before, the others by groups.
 fn extract_word(row: &[u16], w: usize, out: &mut [u8])
     requires { ⌜ (w < 16) × (length (now row) ≡ 12496) × (length (now out) ≡ 15296) ⌝ }
-    ensures { λ _. ⌜ Placed (startOf w) (payloadPart (now (row .entry)) (startOf w) (endOf w - startOf w)) (now (out .entry)) (now (out .exit)) ⌝ }
+    ensures { λ _. ⌜ Placed (startOf w) (partFrom (payloadByte (now (row .entry))) (startOf w) (endOf w - startOf w)) (now (out .entry)) (now (out .exit)) ⌝ }
 {
     let start = bits::GROUP_BYTES * (Frame::DATA_SYMBOLS * w / bits::GROUP);
     let first = 3 * w % bits::GROUP;

@@ -1,7 +1,6 @@
 -- `frames::outer_pass` meets its contract. Assumes nothing.
 use borrow.Author.Needs.{needs}
 use Rattle.frames.proofs.CorrectionAnswers.{pass-kept, pass-none, pass-written}
-use Rattle.frames.proofs.FrameAnswers.{row-below}
 use Rattle.frames.proofs.outer_pass.Statement.{statement}
 use Rattle.frames.proofs.outer_pass.Tie as tie
 
@@ -20,17 +19,11 @@ returns c = search (needs, pass-kept, c .before .before .before .before .before 
 blank-requires : tie.Need-blank-requires
 blank-requires c κs = search needs
 
-slice-aggregate-receive : tie.Need-slice-aggregate-receive
-slice-aggregate-receive c = search needs
-
-receive-requires : tie.Need-receive-requires
-receive-requires c κs = search needs
-
 slice-aggregate-correct : tie.Need-slice-aggregate-correct
 slice-aggregate-correct c = search needs
 
 correct-requires : tie.Need-correct-requires
-correct-requires c κs = search (needs, row-below)
+correct-requires c κs = search needs
 
 returns-2 : tie.Need-returns-2
 returns-2 c = search (needs, pass-none)
@@ -59,8 +52,6 @@ outer-pass-spec =
     same-length
     returns
     blank-requires
-    slice-aggregate-receive
-    receive-requires
     slice-aggregate-correct
     correct-requires
     returns-2

@@ -1,14 +1,13 @@
 -- `frames::outer_words::extract_each` meets its contract. Assumes nothing.
 use Prim.Native.Nat.{_-_}
 use borrow.Author.Needs.{needs}
-use Rattle.frames.specs.Symbols.{payloadPart}
-use Rattle.frames.proofs.Placing.{Placing, placing-start}
-use Rattle.frames.proofs.RowSteps.{payload-next, payload-part}
+use Rattle.frames.specs.Symbols.{partFrom, payloadByte}
+use Rattle.frames.proofs.Placing.{Placing, placing-start, part-next, part-end}
 use Rattle.frames.proofs.outer_words.extract_each.Statement.{statement}
 use Rattle.frames.proofs.outer_words.extract_each.Tie as tie
 
 abbrev Inv-loop : tie.InvT-loop
-Inv-loop row k n out₀ m₀ out m = Placing k (payloadPart row k n) m out₀ out
+Inv-loop row k n out₀ m₀ out m = Placing k (partFrom (payloadByte row) k n) m out₀ out
 
 abbrev μ-loop : tie.MeasureT-loop
 μ-loop row k n out₀ m₀ out m = n - m
@@ -35,13 +34,13 @@ loop-less : tie.Need-loop-less Inv-loop μ-loop
 loop-less c = search needs
 
 loop-again : tie.Need-loop-again Inv-loop μ-loop
-loop-again c = search (needs, payload-next)
+loop-again c = search (needs, part-next)
 
 same-length : tie.Need-same-length Inv-loop μ-loop
 same-length c = search needs
 
 returns : tie.Need-returns Inv-loop μ-loop
-returns c = search (needs, payload-part)
+returns c = search (needs, part-end)
 
 pub extract-each-spec : {M : Type 1} → statement M
 extract-each-spec =

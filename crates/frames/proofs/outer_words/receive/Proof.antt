@@ -1,42 +1,33 @@
 -- `frames::outer_words::receive` meets its contract. Assumes nothing.
-use Prim.Native.Nat.{_-_, _≤_}
+use Prim.Native.Nat.{_-_, _*_}
 use borrow.Author.Needs.{needs}
 use Rattle.words.specs.Places.{bitAt}
-use Rattle.words.proofs.Places.Filling.{Filled, filled-next}
+use Rattle.words.proofs.Places.Filling.{Filled}
 use Rattle.frames.specs.Correction.{receivedSymbol}
-use Rattle.frames.proofs.RowSteps.{received-start, row-end}
+use Rattle.frames.proofs.RowSteps.{row-start, row-next, row-end}
 use Rattle.frames.proofs.outer_words.receive.Statement.{statement}
 use Rattle.frames.proofs.outer_words.receive.Tie as tie
 
 abbrev Inv-loop : tie.InvT-loop
-Inv-loop block row₀ t₀ row t = (12476 ≤ t) × Filled 12496 (receivedSymbol (bitAt block)) t row
+Inv-loop block row₀ w₀ row w = Filled 12496 (receivedSymbol (bitAt block)) (781 * w) row
 
 abbrev μ-loop : tie.MeasureT-loop
-μ-loop block row₀ t₀ row t = 12496 - t
-
-write-from-byte-requires : tie.Need-write-from-byte-requires Inv-loop μ-loop
-write-from-byte-requires c κs = search needs
+μ-loop block row₀ w₀ row w = 16 - w
 
 loop-holds : tie.Need-loop-holds Inv-loop μ-loop
-loop-holds c = search (needs, received-start)
+loop-holds c = search (needs, row-start)
 
-last-symbol-requires : tie.Need-last-symbol-requires Inv-loop μ-loop
-last-symbol-requires c κs = search needs
+receive-word-requires : tie.Need-receive-word-requires Inv-loop μ-loop
+receive-word-requires c κs = search needs
 
-mul-row : tie.Need-mul-row Inv-loop μ-loop
-mul-row c = search needs
-
-slice-write-row : tie.Need-slice-write-row Inv-loop μ-loop
-slice-write-row c = search needs
-
-add-t : tie.Need-add-t Inv-loop μ-loop
-add-t c = search needs
+add-w : tie.Need-add-w Inv-loop μ-loop
+add-w c = search needs
 
 loop-less : tie.Need-loop-less Inv-loop μ-loop
 loop-less c = search needs
 
 loop-again : tie.Need-loop-again Inv-loop μ-loop
-loop-again c = search (needs, filled-next)
+loop-again c = search (needs, row-next)
 
 same-length : tie.Need-same-length Inv-loop μ-loop
 same-length c = search needs
@@ -50,12 +41,9 @@ receive-spec =
     (tie.spec
     Inv-loop
     μ-loop
-    write-from-byte-requires
     loop-holds
-    last-symbol-requires
-    mul-row
-    slice-write-row
-    add-t
+    receive-word-requires
+    add-w
     loop-less
     loop-again
     same-length

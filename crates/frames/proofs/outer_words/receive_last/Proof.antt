@@ -1,0 +1,67 @@
+-- `frames::outer_words::receive_last` meets its contract. Assumes nothing.
+use Prim.Native.Nat.{_-_}
+use borrow.Author.Needs.{needs}
+use Rattle.words.specs.Places.{bitAt}
+use Rattle.frames.specs.Correction.{receivedSymbol}
+use Rattle.frames.specs.Symbols.{partFrom}
+use Rattle.frames.proofs.Placing.{Placing, placing-start, part-end}
+use Rattle.frames.proofs.RowSteps.{last-next}
+use Rattle.frames.proofs.outer_words.receive_last.Statement.{statement}
+use Rattle.frames.proofs.outer_words.receive_last.Tie as tie
+
+abbrev Inv-loop : tie.InvT-loop
+Inv-loop block row₀ s₀ row s = Placing 12476 (partFrom (receivedSymbol (bitAt block)) 12476 20) s row₀ row
+
+abbrev μ-loop : tie.MeasureT-loop
+μ-loop block row₀ s₀ row s = 20 - s
+
+loop-holds : tie.Need-loop-holds Inv-loop μ-loop
+loop-holds c = search (needs, placing-start)
+
+add-last-symbol : tie.Need-add-last-symbol Inv-loop μ-loop
+add-last-symbol c = search needs
+
+last-symbol-requires : tie.Need-last-symbol-requires Inv-loop μ-loop
+last-symbol-requires c κs = search needs
+
+add-row : tie.Need-add-row Inv-loop μ-loop
+add-row c = search needs
+
+mul-row : tie.Need-mul-row Inv-loop μ-loop
+mul-row c = search needs
+
+slice-write-row : tie.Need-slice-write-row Inv-loop μ-loop
+slice-write-row c = search needs
+
+add-s : tie.Need-add-s Inv-loop μ-loop
+add-s c = search needs
+
+loop-less : tie.Need-loop-less Inv-loop μ-loop
+loop-less c = search needs
+
+loop-again : tie.Need-loop-again Inv-loop μ-loop
+loop-again c = search (needs, last-next)
+
+same-length : tie.Need-same-length Inv-loop μ-loop
+same-length c = search needs
+
+returns : tie.Need-returns Inv-loop μ-loop
+returns c = search (needs, part-end)
+
+pub receive-last-spec : {M : Type 1} → statement M
+receive-last-spec =
+    tie.close
+    (tie.spec
+    Inv-loop
+    μ-loop
+    loop-holds
+    add-last-symbol
+    last-symbol-requires
+    add-row
+    mul-row
+    slice-write-row
+    add-s
+    loop-less
+    loop-again
+    same-length
+    returns)

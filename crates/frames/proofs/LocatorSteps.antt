@@ -14,20 +14,20 @@ use Rattle.fields.specs.Elements.{xor}
 use Rattle.frames.specs.declared.residues.Lanes.{Lanes}
 use Rattle.frames.specs.declared.side_by_side.Lengths.{Lengths}
 use Rattle.frames.specs.declared.side_by_side.Progress.{Progress}
-use Rattle.frames.specs.LaneSteps.{turns, bit, sum, nonzero, product, chosen, get, put, copied, termsIn, discrepancyStep, discrepancy}
+use Rattle.frames.specs.LaneSteps.{turns, bit, sum, nonzero, product, chosen, get, put, copied, allWords, termsIn, discrepancyStep, discrepancy}
 use Rattle.frames.specs.LaneSteps.{combinedStep, combined, followedStep, followed, reflected, lengthenedStep, lengthened}
 use Rattle.frames.specs.LaneSteps.{Polynomials, combinedAll, step, locators, degree}
 use Rattle.frames.proofs.LaneSteps.{turns-next, turns-over}
 
 -- ---- discrepancies
 
-pub terms-few : (r : ℕ) → r < 4 → 2 * r + 1 ≡ termsIn r
+pub terms-few : (r : ℕ) → 2 * r + 1 < 9 → 2 * r + 1 ≡ termsIn r
 unfolding termsIn
-terms-few r h = rw (lt-ltb r 4 h)
+terms-few r h = omega arith
 
-pub terms-all : (r : ℕ) → 4 ≤ r → 9 ≡ termsIn r
+pub terms-all : (r : ℕ) → 9 ≤ 2 * r + 1 → 9 ≡ termsIn r
 unfolding termsIn
-terms-all r h = rw (le-ltb r 4 h)
+terms-all r h = omega arith
 
 module _ (locator syndromes : List ℕ) (r i : ℕ) (s : Lanes) {d : Lanes} (so-far : d ≡ turns (discrepancyStep locator syndromes r) i s) where
   pub discrepancy-next : {x y p e : Lanes} → x ≡ get locator i → y ≡ get syndromes (2 * r - i) → p ≡ product x y → e ≡ sum d p →
@@ -73,17 +73,17 @@ module _ (lengths : Lengths) (r j : ℕ) where
   unfolding reflected
   reflected-none h = rw (le-ltb j (2 * r + 2) h)
 
-  pub reflected-all : j < 2 * r + 2 → 9 < 2 * r + 2 - j → 18446744073709551615 ≡ reflected lengths r j
+  pub reflected-all : j < 2 * r + 2 → 9 < 2 * r + 2 - j → allWords ≡ reflected lengths r j
   unfolding reflected
   reflected-all h l = rw (lt-ltb j (2 * r + 2) h, lt-ltb 9 (2 * r + 2 - j) l)
 
-  pub reflected-other : j < 2 * r + 2 → 2 * r + 2 - j ≤ 9 → bitXor (getD (lengths .at) (2 * r + 2 - j) 0) 18446744073709551615 ≡ reflected lengths r j
+  pub reflected-other : j < 2 * r + 2 → 2 * r + 2 - j ≤ 9 → bitXor (getD (lengths .at) (2 * r + 2 - j) 0) allWords ≡ reflected lengths r j
   unfolding reflected xor
   reflected-other h l = rw (lt-ltb j (2 * r + 2) h, le-ltb 9 (2 * r + 2 - j) l)
 
 module _ (lengths : Lengths) (r mask j : ℕ) (s : List ℕ) {a : List ℕ} (so-far : a ≡ turns (lengthenedStep lengths r mask) j s) where
   pub lengthened-next : {x : ℕ} → x ≡ reflected lengths r (j + 1) →
-      set a (j + 1) (bitOr (bitAnd x mask) (bitAnd (getD (lengths .at) (j + 1) 0) (bitXor mask 18446744073709551615)))
+      set a (j + 1) (bitOr (bitAnd x mask) (bitAnd (getD (lengths .at) (j + 1) 0) (bitXor mask allWords)))
       ≡ turns (lengthenedStep lengths r mask) (j + 1) s
   unfolding lengthenedStep xor
   lengthened-next ex = turns-next _ s j so-far (rw ex)
@@ -103,9 +103,9 @@ module _ (syndromes : List ℕ) (r : ℕ) (p : Progress) (locator other : List �
       rw (q, eo)
 
   pub step-grown : {old l o : List ℕ} {f : Lanes} {g : Lengths} → (n ≡ 0 → ⊥) → old ≡ copied locator → l ≡ combined locator (p .factor) other d →
-      o ≡ followed other (bitAnd n (bitXor (getD (p .lengths .at) (r + 1) 0) 18446744073709551615)) old →
-      f ≡ chosen (bitAnd n (bitXor (getD (p .lengths .at) (r + 1) 0) 18446744073709551615)) d (p .factor) →
-      g ≡ lengthened (p .lengths) r (bitAnd n (bitXor (getD (p .lengths .at) (r + 1) 0) 18446744073709551615)) →
+      o ≡ followed other (bitAnd n (bitXor (getD (p .lengths .at) (r + 1) 0) allWords)) old →
+      f ≡ chosen (bitAnd n (bitXor (getD (p .lengths .at) (r + 1) 0) allWords)) d (p .factor) →
+      g ≡ lengthened (p .lengths) r (bitAnd n (bitXor (getD (p .lengths .at) (r + 1) 0) allWords)) →
       _≡_ {A = Polynomials} (record { factor = f; lengths = g }, l, o) (step syndromes r (p, locator, other))
   unfolding step combinedAll xor
   step-grown z eold el eo ef eg =
@@ -114,8 +114,8 @@ module _ (syndromes : List ℕ) (r : ℕ) (p : Progress) (locator other : List �
 
 pub locators-end : (syndromes locator : List ℕ) (r : ℕ) (p₀ : Progress) (l₀ o₀ : List ℕ) {p : Progress} {l o : List ℕ} {x y z : Lanes} →
     _≡_ {A = Polynomials} (p, l, o) (turns (step syndromes) r (p₀, l₀, o₀)) → r ≤ 8 → 8 ≤ r →
-    x ≡ bit 18446744073709551615 → l₀ ≡ put locator 0 x → y ≡ bit 18446744073709551615 → o₀ ≡ put (replicate 176 0) 1 y →
-    z ≡ bit 18446744073709551615 → p₀ ≡ record { factor = z; lengths = record { at = replicate 10 0 } } → l ≡ locators syndromes locator
+    x ≡ bit allWords → l₀ ≡ put locator 0 x → y ≡ bit allWords → o₀ ≡ put (replicate 176 0) 1 y →
+    z ≡ bit allWords → p₀ ≡ record { factor = z; lengths = record { at = replicate 10 0 } } → l ≡ locators syndromes locator
 unfolding locators
 locators-end syndromes locator r p₀ l₀ o₀ so-far le h ex el ey eo ez ep =
     ap (λ (t : Polynomials). t .1) (turns-over _ (p₀, l₀, o₀) r so-far 8 _ le h (rw (ep, ez, el, ex, eo, ey)))

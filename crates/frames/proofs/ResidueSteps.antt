@@ -141,15 +141,15 @@ turn-end before cells c f h = filled-end (f .filled) h
 
 -- ---- bits that are 1 in some number
 
-module _ (xs : List ℕ) where
-  pub wrong-none : 0 ≡ orTo 0 (at xs)
+module _ (f : ℕ → ℕ) where
+  pub some-none : 0 ≡ orTo 0 f
   unfolding orTo
-  wrong-none = refl
+  some-none = refl
 
-  module _ (i x : ℕ) (so-far : x ≡ orTo i (at xs)) where
-    pub wrong-next : bitOr x (getD xs i 0) ≡ orTo (i + 1) (at xs)
+  module _ (i : ℕ) {x : ℕ} (so-far : x ≡ orTo i f) where
+    pub some-next : {y : ℕ} → y ≡ f i → bitOr x y ≡ orTo (i + 1) f
     unfolding orTo
-    wrong-next = rw (add-one, so-far)
+    some-next ey = rw (add-one, so-far, ey)
 
-    pub wrong-end : i ≤ 88 → 88 ≤ i → x ≡ orTo 88 (at xs)
-    wrong-end l h = let e : i ≡ 88 = omega arith in rw e at so-far
+    pub some-end : (n : ℕ) → i ≤ n → n ≤ i → x ≡ orTo n f
+    some-end n l h = let e : i ≡ n = omega arith in rw e at so-far

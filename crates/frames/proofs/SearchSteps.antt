@@ -18,11 +18,12 @@ use Rattle.words.specs.Places.{at}
 use Rattle.frames.specs.declared.residues.Lanes.{Lanes}
 use Rattle.frames.specs.SideBySide.{orTo}
 use Rattle.frames.specs.Symbols.{Placed}
-use Rattle.frames.specs.LaneSteps.{turns, sum, nonzero, doubled, timesPower, coordinates, row, get, stored, put, syndromes, locators, degree}
+use Rattle.frames.specs.LaneSteps.{turns, sum, nonzero, doubled, timesPower, coordinates, row, get, stored, put, syndromes, allWords, locators, degree}
 use Rattle.frames.specs.LaneSteps.{firstTerm, sequenceStep, sequence, sequenceOf, rowStep, firstRows, constantStep, constants}
 use Rattle.frames.specs.LaneSteps.{nineStep, nextNine, twoStep, nextTwo, nextRows, rowsOf, placesIn}
 use Rattle.frames.specs.LaneSteps.{nonzero2, cell4, nonzero4, cell8, nonzero8, others, blockFlips, flipsBy, flips2, flips4, flips8, proposal}
 use Rattle.frames.proofs.Placing.{Placing, placing-next, placing-end}
+use Rattle.frames.proofs.ResidueSteps.{some-next, some-end}
 use Rattle.frames.proofs.LaneSteps.{turns-next, turns-over, power-next}
 
 -- ---- terms
@@ -106,16 +107,6 @@ pub places-last : (k : ℕ) → 185 ≤ k → 5 ≡ placesIn k
 unfolding placesIn
 places-last k h = rw (le-ltb k 185 h)
 
--- bits that are 1 in some number
-module _ (f : ℕ → ℕ) where
-  pub or-start : 0 ≡ orTo 0 f
-  unfolding orTo
-  or-start = refl
-
-  pub or-next : (b : ℕ) {x y : ℕ} → x ≡ orTo b f → y ≡ f b → bitOr x y ≡ orTo (b + 1) f
-  unfolding orTo
-  or-next b ex ey = rw (add-one b, ex, ey)
-
 pub nonzero2-is : (rows : List ℕ) (k q : ℕ) {x : Lanes} {n : ℕ} → x ≡ get rows q → n ≡ nonzero x → n ≡ nonzero2 rows k q
 unfolding nonzero2
 nonzero2-is rows k q ex en = en ∙ ap nonzero ex
@@ -123,22 +114,22 @@ nonzero2-is rows k q ex en = en ∙ ap nonzero ex
 module _ (s3 rows : List ℕ) (k q b : ℕ) {x : ℕ} (so-far : x ≡ orTo b (cell4 s3 rows k q)) where
   pub nonzero4-next : bitOr x (bitXor (getD rows (11 * q + b) 0) (getD s3 (33 * k % 2047 + 3 * q + b) 0)) ≡ orTo (b + 1) (cell4 s3 rows k q)
   unfolding cell4 xor
-  nonzero4-next = or-next _ b so-far refl
+  nonzero4-next = some-next _ b so-far refl
 
   pub nonzero4-end : b ≤ 11 → 11 ≤ b → x ≡ nonzero4 s3 rows k q
   unfolding nonzero4
-  nonzero4-end l h = let e : b ≡ 11 = omega arith in rw e at so-far
+  nonzero4-end l h = some-end _ b so-far 11 l h
 
 module _ (s3 s5 s6 s7 rows : List ℕ) (k q b : ℕ) {x : ℕ} (so-far : x ≡ orTo b (cell8 s3 s5 s6 s7 rows k q)) where
   pub nonzero8-next :
       bitOr x (bitXor (bitXor (bitXor (bitXor (getD rows (11 * q + b) 0) (getD s3 (33 * k % 2047 + 3 * q + b) 0)) (getD s5 (55 * k % 2047 + 5 * q + b) 0))
       (getD s6 (66 * k % 2047 + 6 * q + b) 0)) (getD s7 (77 * k % 2047 + 7 * q + b) 0)) ≡ orTo (b + 1) (cell8 s3 s5 s6 s7 rows k q)
   unfolding cell8 cell4 xor
-  nonzero8-next = or-next _ b so-far refl
+  nonzero8-next = some-next _ b so-far refl
 
   pub nonzero8-end : b ≤ 11 → 11 ≤ b → x ≡ nonzero8 s3 s5 s6 s7 rows k q
   unfolding nonzero8
-  nonzero8-end l h = let e : b ≡ 11 = omega arith in rw e at so-far
+  nonzero8-end l h = some-end _ b so-far 11 l h
 
 module _ (f : ℕ → ℕ) (k wrong : ℕ) {n : ℕ} (en : n ≡ placesIn k) (q : ℕ) {before after : List ℕ}
     (so-far : Placing (11 * k) (blockFlips f k wrong) q before after) where
@@ -151,7 +142,7 @@ module _ (f : ℕ → ℕ) (k wrong : ℕ) {n : ℕ} (en : n ≡ placesIn k) (q 
   flips-at h = tabulate-at (placesIn k) (λ i. others wrong (f i)) q 0 h
 
   pub block-next : {x : ℕ} → q < n → 11 * k + n ≤ 2040 → length before ≡ 2040 → x ≡ f q →
-      Placing (11 * k) (blockFlips f k wrong) (q + 1) before (set after (11 * k + q) (bitAnd wrong (bitXor x 18446744073709551615)))
+      Placing (11 * k) (blockFlips f k wrong) (q + 1) before (set after (11 * k + q) (bitAnd wrong (bitXor x allWords)))
   unfolding others xor
   block-next h room long ex =
       placing-next so-far (omega (arith, flips-long)) (omega (arith, flips-long)) (ap (others wrong) ex ∙ sym (flips-at (omega arith)))

@@ -2,7 +2,7 @@
 -- k of a number, the highest of 64 first, for inner word k; a bank is sixteen elements, one after the other.
 use mathlib.Core.Bool.{cond}
 use mathlib.Core.List.{List}
-use Prim.Native.Nat.{ℕ, zero, suc, _+_, _-_, _*_, _/_, _%_}
+use Prim.Native.Nat.{ℕ, zero, suc, _+_, _-_, _*_, _/_, _%_, min}
 use lib.Bits.{bitAnd, bitOr}
 use lib.Dec.{eqb, ltb}
 use lib.ListN.{set, replicate}
@@ -30,6 +30,7 @@ lanes f = record { r0 = f 0; r1 = f 1; r2 = f 2; r3 = f 3; r4 = f 4; r5 = f 5; r
 unfoldable pub bit : ℕ → Lanes
 bit x = record { r0 = x; r1 = 0; r2 = 0; r3 = 0; r4 = 0; r5 = 0; r6 = 0; r7 = 0; r8 = 0; r9 = 0; r10 = 0 }
 
+-- the sum of two elements
 unfoldable pub sum : Lanes → Lanes → Lanes
 sum x y = lanes (λ i. xor (at (cells x) i) (at (cells y) i))
 
@@ -65,6 +66,7 @@ timesPower x n = turns (λ i y. doubled y) n x
 unfoldable pub productStep : Lanes → Lanes → ℕ → Lanes
 productStep p x y = sum (doubled p) (masked x y)
 
+-- the product of two elements
 unfoldable pub product : Lanes → Lanes → Lanes
 product x y = turns (λ i p. productStep p x (at (cells y) (10 - i))) 11 (bit 0)
 
@@ -115,14 +117,14 @@ copied bank = tabulate 176 (at bank)
 
 -- ---- syndromes
 
--- Horner's rule at a^(2 j + 1): one coefficient more of the residue modulo factor j, the highest first
+-- the value at a^(2 j + 1) of the residue modulo factor j, by Horner's rule: one coefficient more, the highest first; all eleven
 unfoldable pub oddStep : List ℕ → ℕ → ℕ → Lanes → Lanes
 oddStep residues j i v = sum (timesPower v (2 * j + 1)) (bit (at residues (11 * j + (10 - i))))
 
 unfoldable pub oddSyndrome : List ℕ → ℕ → Lanes
 oddSyndrome residues j = turns (oddStep residues j) 11 (bit 0)
 
--- the values at a^(2 j + 1) and at a^(2 j + 2), which is the square of that at a^(j + 1)
+-- the values at a^(2 j + 1) and at a^(2 j + 2), which is the square of that at a^(j + 1); those at a, a^2, .. a^16
 unfoldable pub syndromeStep : List ℕ → ℕ → List ℕ → List ℕ
 syndromeStep residues j bank =
     let b = put bank (2 * j) (oddSyndrome residues j) in
@@ -139,7 +141,7 @@ allWords = 18446744073709551615
 
 -- terms of the discrepancy in step r; one of them more; their sum
 unfoldable pub termsIn : ℕ → ℕ
-termsIn r = cond (ltb r 4) (2 * r + 1) 9
+termsIn r = min (2 * r + 1) 9
 
 unfoldable pub discrepancyStep : List ℕ → List ℕ → ℕ → ℕ → Lanes → Lanes
 discrepancyStep locator syndromes r i d = sum d (product (get locator i) (get syndromes (2 * r - i)))
@@ -167,7 +169,7 @@ reflected lengths r j =
     let q = 2 * r + 2 - j in
     cond (ltb j (2 * r + 2)) (cond (ltb 9 q) allWords (xor (at (lengths .at) q) allWords)) 0
 
--- the lengths, reflected in the inner words of the mask
+-- the lengths, reflected in the inner words of the mask: from length j + 1; all
 unfoldable pub lengthenedStep : Lengths → ℕ → ℕ → ℕ → List ℕ → List ℕ
 lengthenedStep lengths r mask j l =
     set l (j + 1) (bitOr (bitAnd (reflected lengths r (j + 1)) mask) (bitAnd (at (lengths .at) (j + 1)) (xor mask allWords)))
@@ -175,10 +177,11 @@ lengthenedStep lengths r mask j l =
 unfoldable pub lengthened : Lengths → ℕ → ℕ → Lengths
 lengthened lengths r mask = record { at = turns (lengthenedStep lengths r mask) 9 (replicate 10 0) }
 
--- step r, on what it has from the steps before, the locator polynomial and the other one: where no discrepancy is, and where the discrepancy is d
+-- what goes from one step to the next: the progress, the locator polynomial and the other one
 abbrev pub Polynomials : Type 0
 Polynomials = Progress × List ℕ × List ℕ
 
+-- step r where the discrepancy d is not zero everywhere; and any step r
 unfoldable pub combinedAll : ℕ → Lanes → Polynomials → Polynomials
 combinedAll r d (p, locator, other) =
     let grows = bitAnd (nonzero d) (xor (at (p .lengths .at) (r + 1)) allWords) in (
@@ -208,7 +211,7 @@ degree locator = find (λ i. ltb 0 (nonzero (get locator i))) 9
 unfoldable pub firstTerm : List ℕ → ℕ → Lanes
 firstTerm locator i = timesPower (get locator i) (8 * i)
 
--- the sequence of the term of degree i: each number is the sum of those 18 and 22 before
+-- the sequence of the term of degree i, stored over s: each number is the sum of those 18 and 22 before; and alone
 unfoldable pub sequenceStep : ℕ → List ℕ → List ℕ
 sequenceStep n s = set s (n + 22) (xor (at s (n + 4)) (at s n))
 
@@ -250,17 +253,19 @@ twoStep constant m rows = set rows (m + 99) (xor (xor (at rows (m + 99)) (at row
 unfoldable pub nextTwo : List ℕ → List ℕ → List ℕ
 nextTwo constant rows = turns (twoStep constant) 22 rows
 
+-- both, on the way from block k to the next
 unfoldable pub nextRows : List ℕ → ℕ → List ℕ → List ℕ
 nextRows constant k rows = nextTwo constant (nextNine constant rows)
 
--- the rows of block k, of eleven places; and its places
+-- the rows of block k, and how many places it has: eleven, but for the last
 unfoldable pub rowsOf : List ℕ → ℕ → List ℕ
 rowsOf locator k = turns (nextRows (constants locator (replicate 176 0))) k (firstRows locator (replicate 176 0))
 
 unfoldable pub placesIn : ℕ → ℕ
 placesIn k = cond (ltb k 185) 11 5
 
--- the inner words whose polynomial is not zero at place q of block k, from the block's rows: of degree 2 at most, 4 at most, and 8
+-- the inner words whose polynomial is not zero at place q of block k, from the block's rows and the sequences of the terms of degree 3, 5, 6 and 7, of
+-- which number b is added to number b of the row: of degree 2 at most, 4 at most, and 8
 unfoldable pub nonzero2 : List ℕ → ℕ → ℕ → ℕ
 nonzero2 rows k q = nonzero (get rows q)
 
@@ -287,6 +292,7 @@ blockFlips nonzeroAt k wrong = tabulate (placesIn k) (λ q. others wrong (nonzer
 unfoldable pub flipsBy : (List ℕ → ℕ → ℕ → ℕ) → List ℕ → ℕ → List ℕ
 flipsBy nonzeroIn locator wrong = tabulate 2040 (λ p. others wrong (nonzeroIn (rowsOf locator (p / 11)) (p / 11) (p % 11)))
 
+-- the same by polynomials of degree 2 at most, 4 at most, and 8
 unfoldable pub flips2 : List ℕ → ℕ → List ℕ
 flips2 locator wrong = flipsBy nonzero2 locator wrong
 
@@ -296,7 +302,7 @@ flips4 locator wrong = flipsBy (nonzero4 (sequenceOf locator 3)) locator wrong
 unfoldable pub flips8 : List ℕ → ℕ → List ℕ
 flips8 locator wrong = flipsBy (nonzero8 (sequenceOf locator 3) (sequenceOf locator 5) (sequenceOf locator 6) (sequenceOf locator 7)) locator wrong
 
--- the places to be inverted
+-- the places to be inverted, from the residues
 unfoldable pub proposal : List ℕ → ℕ → List ℕ
 proposal residues wrong =
     let locator = locators (syndromes residues (replicate 176 0)) (replicate 176 0) in

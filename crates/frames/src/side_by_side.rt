@@ -273,7 +273,7 @@ fn terms_in(r: usize) -> usize
     requires { ⌜ r < 8 ⌝ }
     ensures { λ n. ⌜ (n ≡ termsIn r) × (n ≤ 9) × (n ≤ 2 * r + 1) ⌝ }
 {
-    if r < 4 {
+    if 2 * r + 1 < COEFFICIENTS {
         return 2 * r + 1;
     }
     COEFFICIENTS

@@ -4,7 +4,7 @@ use Prim.Native.Nat.{_-_, _≤_}
 use borrow.Author.Needs.{needs}
 use Rattle.words.specs.Places.{at}
 use Rattle.frames.specs.SideBySide.{orTo}
-use Rattle.frames.proofs.ResidueSteps.{wrong-none, wrong-next, wrong-end}
+use Rattle.frames.proofs.ResidueSteps.{some-none, some-next, some-end}
 use Rattle.frames.proofs.residues.wrong.Statement.{statement}
 use Rattle.frames.proofs.residues.wrong.Tie as tie
 
@@ -15,7 +15,7 @@ abbrev μ-loop : tie.MeasureT-loop
 μ-loop residues x₀ i₀ x i = 88 - i
 
 loop-holds : tie.Need-loop-holds Inv-loop μ-loop
-loop-holds c = search (needs, wrong-none)
+loop-holds c = search (needs, some-none)
 
 mul-x : tie.Need-mul-x Inv-loop μ-loop
 mul-x c = search needs
@@ -30,10 +30,10 @@ loop-less : tie.Need-loop-less Inv-loop μ-loop
 loop-less c = search needs
 
 loop-again : tie.Need-loop-again Inv-loop μ-loop
-loop-again c = search (needs, wrong-next)
+loop-again c = search (needs, some-next)
 
 returns : tie.Need-returns Inv-loop μ-loop
-returns c = search (needs, wrong-end)
+returns c = search (needs, some-end)
 
 pub wrong-spec : {M : Type 1} → statement M
 wrong-spec =

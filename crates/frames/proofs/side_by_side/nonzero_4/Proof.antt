@@ -4,7 +4,8 @@ use Prim.Native.Nat.{_-_, _≤_}
 use borrow.Author.Needs.{needs}
 use Rattle.frames.specs.LaneSteps.{cell4}
 use Rattle.frames.specs.SideBySide.{orTo}
-use Rattle.frames.proofs.SearchSteps.{or-start, nonzero4-next, nonzero4-end}
+use Rattle.frames.proofs.ResidueSteps.{some-none}
+use Rattle.frames.proofs.SearchSteps.{nonzero4-next, nonzero4-end}
 use Rattle.frames.proofs.side_by_side.nonzero_4.Statement.{statement}
 use Rattle.frames.proofs.side_by_side.nonzero_4.Tie as tie
 
@@ -27,7 +28,7 @@ add-n3 : tie.Need-add-n3 Inv-loop μ-loop
 add-n3 c = search needs
 
 loop-holds : tie.Need-loop-holds Inv-loop μ-loop
-loop-holds c = search (needs, or-start)
+loop-holds c = search (needs, some-none)
 
 mul-x : tie.Need-mul-x Inv-loop μ-loop
 mul-x c = search needs

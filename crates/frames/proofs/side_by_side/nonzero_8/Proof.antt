@@ -4,7 +4,8 @@ use Prim.Native.Nat.{_-_, _≤_}
 use borrow.Author.Needs.{needs}
 use Rattle.frames.specs.LaneSteps.{cell8}
 use Rattle.frames.specs.SideBySide.{orTo}
-use Rattle.frames.proofs.SearchSteps.{or-start, nonzero8-next, nonzero8-end}
+use Rattle.frames.proofs.ResidueSteps.{some-none}
+use Rattle.frames.proofs.SearchSteps.{nonzero8-next, nonzero8-end}
 use Rattle.frames.proofs.side_by_side.nonzero_8.Statement.{statement}
 use Rattle.frames.proofs.side_by_side.nonzero_8.Tie as tie
 
@@ -63,7 +64,7 @@ add-n7 : tie.Need-add-n7 Inv-loop μ-loop
 add-n7 c = search needs
 
 loop-holds : tie.Need-loop-holds Inv-loop μ-loop
-loop-holds c = search (needs, or-start)
+loop-holds c = search (needs, some-none)
 
 mul-x : tie.Need-mul-x Inv-loop μ-loop
 mul-x c = search needs

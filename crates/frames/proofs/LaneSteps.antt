@@ -6,7 +6,7 @@ use native.Mathlib.Decide.{ℕ-discrete}
 use native.Mathlib.Nat.{add-zero, not-suc-le-zero}
 use native.Mathlib.Numerals.{add-one}
 use native.Mathlib.Omega.{arith}
-use lib.Bits.{bitOr, or-add-and, and-le-l, and-le-r}
+use lib.Bits.{or-add-and, and-le-l, and-le-r}
 use lib.Dec.{lit<}
 use lib.ListN.{getD, set}
 use Rattle.fields.specs.Elements.{xor}

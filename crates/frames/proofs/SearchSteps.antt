@@ -1,15 +1,12 @@
 -- What the functions compute that find the roots of the locator polynomials of all inner words at once. Assumes nothing.
-use mathlib.Core.Path.{_≡_, refl, sym, ap, ap₂, _∙_}
-use mathlib.Core.Bool.{cond}
+use mathlib.Core.Path.{_≡_, refl, sym, ap, _∙_}
 use mathlib.Core.List.{List}
 use Prim.Native.Nat.{ℕ, zero, suc, _+_, _-_, _*_, _/_, _%_, _≤_, _<_}
 use native.Mathlib.Decide.{decLt}
 use native.Mathlib.Nat.{add-zero, add-suc, not-suc-le-zero}
-use native.Mathlib.Numerals.{add-one}
 use native.Mathlib.Omega.{arith}
 use borrow.Author.Tests.{lt-ltb, le-ltb}
 use lib.Bits.{bitAnd, bitOr, bitXor}
-use lib.Dec.{ltb}
 use lib.ListN.{length, getD, set, replicate}
 use Rattle.fields.specs.Lists.{tabulate}
 use Rattle.fields.specs.Elements.{xor}
@@ -24,7 +21,7 @@ use Rattle.frames.specs.LaneSteps.{nineStep, nextNine, twoStep, nextTwo,
 use Rattle.frames.specs.LaneSteps.{nonzero2, cell4, nonzero4, cell8, nonzero8, others, blockFlips, flipsBy, flips2, flips4, flips8, proposal}
 use Rattle.frames.proofs.Placing.{Placing, placing-next, placing-end}
 use Rattle.frames.proofs.ResidueSteps.{some-next, some-end}
-use Rattle.frames.proofs.LaneSteps.{turns-next, turns-over, power-next}
+use Rattle.frames.proofs.LaneSteps.{turns-next, turns-over}
 
 -- ---- terms
 

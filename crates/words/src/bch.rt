@@ -1,6 +1,6 @@
 // Inner words: binary polynomials, the divisor that the eight factors make, the remainder of a word after division by it, and correction: the syndromes
-// from the remainder, the errors that explain them, and the places inverted. `divisor`, `coefficient`,
-// `copy`, `flip`, `errors_by_rows`, `explains` and `invert` are for the crates above too.
+// from the remainder, the errors that explain them, and the places inverted. `copy`, `flip`, `errors_by_rows`, `explains` and `invert` are for the crates
+// above too.
 use crate::Inner;
 use crate::decoder;
 use crate::decoder::Errors;
@@ -240,7 +240,7 @@ pub fn store(v: Polynomial, out: &mut [u8])
 }
 
 // Coefficient k of the 88 of v, the highest first.
-pub fn coefficient(v: Polynomial, k: usize) -> u16
+fn coefficient(v: Polynomial, k: usize) -> u16
     requires { ⌜ (v .low < 2 ^ 48) × (k < 88) ⌝ }
     ensures { λ r. ⌜ (r ≡ bitOf 88 (number (v .high) (v .low)) k) × (r < 2) ⌝ }
 {

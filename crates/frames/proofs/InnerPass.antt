@@ -3,28 +3,18 @@ use mathlib.Core.Path.{_≡_, refl, sym, ap, _∙_}
 use mathlib.Core.Bool.{Bool, true, _&&_, cond, and-eq-true-iff}
 use mathlib.Core.List.{List}
 use mathlib.Core.Option.{Option, none, some, Option·getD}
-use Prim.Native.Nat.{ℕ, zero, suc, _+_, _-_, _*_, _/_, _%_, _^_, _≤_, _<_, zero-le}
+use Prim.Native.Nat.{ℕ, _+_, _-_, _*_, _/_, _%_, _^_, _≤_, _<_, zero-le}
 use native.Mathlib.Decide.{ℕ-discrete}
 use native.Mathlib.Nat.{not-suc-le-zero}
-use native.Mathlib.Numerals.{add-one}
 use native.Mathlib.Omega.{arith}
-use borrow.Author.Tests.{eq-eqb, ne-eqb}
-use lib.Bits.{bitAnd, bitXor, xor-lt}
-use lib.Dec.{eqb}
+use borrow.Author.Tests.{eq-eqb}
+use lib.Bits.{bitAnd}
 use lib.ListN.{length}
-use lib.Pow.{pow-mono}
-use mir.Syntax.{w8, w16}
-use mir.Val.{Fits}
-use Rattle.fields.specs.Elements.{xor}
-use Rattle.fields.proofs.Lists.{tabulate-is, tabulate-length, tabulate-same}
-use Rattle.fields.proofs.Xor.{xor-zero-r}
-use Rattle.words.specs.Places.{at, bitOf, numberOf, bitAt, bitsOf, bytesOf, differs}
+use Rattle.fields.proofs.Lists.{tabulate-same}
+use Rattle.words.specs.Places.{at, bitOf, bitAt}
 use Rattle.words.specs.InnerCode.{isInner}
 use Rattle.words.specs.Nearest.{nearest}
-use Rattle.words.specs.Answers.{refusal, found, corrected, innerCorrected}
-use Rattle.words.proofs.Places.Bytes.{bitAt-lt, bits-at, bits-length}
-use Rattle.words.proofs.Places.Filling.{Filled, filled-end}
-use Rattle.words.proofs.Places.Numbers.{bitOf-lt, numberOf-lt}
+use Rattle.words.proofs.Places.Numbers.{bitOf-lt}
 use Rattle.words.proofs.Places.Tests.{every-at, every-true}
 use Rattle.words.proofs.Codes.InnerWords.{inner-is}
 use Rattle.words.proofs.Codes.Proved.{codes}
@@ -34,7 +24,7 @@ use Rattle.frames.specs.Received.{innerCodes}
 use Rattle.frames.specs.Passes.{wrongWords, WordPut, WordCorrected, InnerPassed}
 use Rattle.frames.proofs.Windows.{masked-bit}
 use Rattle.frames.proofs.Differences.{apart-self}
-use Rattle.frames.proofs.FrameBits.{bytes-bit, inner-word-length, place-to-bit, bit-to-place}
+use Rattle.frames.proofs.FrameBits.{place-to-bit, bit-to-place}
 use Rattle.frames.proofs.InnerSteps.{wrong-not, wrong-bit, none-wrong}
 
 -- ---- an inner word corrected

@@ -4,7 +4,6 @@ use mathlib.Core.Bool.{_&&_, and-eq-true-iff, Bool, true, false, not}
 use mathlib.Core.List.{List}
 use Prim.Native.Nat.{ℕ, zero, suc, _+_, _-_, _*_, _/_, _%_, _^_, _≤_, _<_}
 use native.Mathlib.Nat.{le-refl, mod-lt}
-use native.Mathlib.Numerals.{add-one}
 use native.Mathlib.Decide.{decLt}
 use native.Mathlib.Omega.{arith}
 use borrow.Author.Tests.{not-true, not-false}
@@ -216,12 +215,12 @@ module _ (bytes : List ℕ) (w h m l : ℕ) where
       ∙ divided-same timesA 16 (at generator) (at (take (dataIn w) d)) (at d) i (λ j b. getD-take (dataIn w) d j 0 (omega arith)) in
       rw (← same) at p
 
-  pub division-tested : (x y z : ℕ) → Packs h m l (dividedTo (bitAt bytes) w (dataIn w)) →
+  pub division-tested : (x y z : ℕ) (r : Bool) → Packs h m l (dividedTo (bitAt bytes) w (dataIn w)) →
       x ≡ joinedFrom (receivedWord (bitAt bytes) w) (dataIn w + 0) 6 → y ≡ joinedFrom (receivedWord (bitAt bytes) w) (dataIn w + 6) 6 →
       z ≡ joinedFrom (receivedWord (bitAt bytes) w) (dataIn w + 12) 4 →
-      eqb (bitOr (bitOr (bitXor h x) (bitXor m y)) (bitXor l (z * 2 ^ 20 % 2 ^ 64))) 0 ≡ isOuter (receivedWord (bitAt bytes) w)
+      r ≡ eqb (bitOr (bitOr (bitXor h x) (bitXor m y)) (bitXor l (z * 2 ^ 20 % 2 ^ 64))) 0 → r ≡ isOuter (receivedWord (bitAt bytes) w)
   unfolding xor
-  division-tested x y z q ex ey ez =
+  division-tested x y z r q ex ey ez test =
       let p = division-all (dataIn w) refl q in
       let long = received-length (bitAt bytes) w in
       let least : 16 ≤ length d = omega (arith, long) in
@@ -229,7 +228,7 @@ module _ (bytes : List ℕ) (w h m l : ℕ) where
       let n0 : length d - 16 ≡ dataIn w + 0 = omega (arith, long) in
       let n6 : length d - 16 + 6 ≡ dataIn w + 6 = omega (arith, long) in
       let n12 : length d - 16 + 12 ≡ dataIn w + 12 = omega (arith, long) in
-      outer-zero d least (word-small bytes w) (bitXor h x) (bitXor m y) (bitXor l (z * 2 ^ 20 % 2 ^ 64))
+      test ∙ outer-zero d least (word-small bytes w) (bitXor h x) (bitXor m y) (bitXor l (z * 2 ^ 20 % 2 ^ 64))
       (packs-remainder d least (word-small bytes w) h m l (bitXor h x) (bitXor m y) (bitXor l (z * 2 ^ 20 % 2 ^ 64)) (rw n p) x y z (rw n0 ex) (rw n6 ey) (rw n12 ez) refl refl refl)
       (omega (arith, long, dataIn-le w))
 

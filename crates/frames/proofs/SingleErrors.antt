@@ -132,10 +132,6 @@ one-differs : differs 1 0 ≡ 1
 unfolding differs
 one-differs = refl
 
--- the bit to be inverted
-pub single-place : (k e : ℕ) → k < 64 → Fits w64 (64 * (2039 - e) + k)
-single-place k e h = record { fits = omega arith }
-
 module _ (block residues es : List ℕ) (k e : ℕ) (k-lt : k < 64) (long : length block ≡ 16320) (exp : es ≡ powersB) (R : WordResidues residues k block)
     (small : e < 2040) (t : Bool) (et : t ≡ isSingle es residues k e) (y : not t ≡ false) where
   abbrev b : ℕ → ℕ

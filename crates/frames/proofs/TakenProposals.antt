@@ -33,7 +33,7 @@ use Rattle.frames.specs.Symbols.{Placed}
 use Rattle.frames.specs.Passes.{wrongWords, InnerPassed}
 use Rattle.frames.specs.Proposals.{Flipped, flipCounts, overRadius, beyondRadius, ones, Nearer}
 use Rattle.frames.proofs.Windows.{masked-bit}
-use Rattle.frames.proofs.Placing.{Placing, placing-start, placing-next, placing-end}
+use Rattle.frames.proofs.Placing.{Placing, placing-next, placing-end}
 use Rattle.frames.proofs.Differences.{apart-tables}
 use Rattle.frames.proofs.FrameBits.{inner-word-length}
 use Rattle.frames.proofs.SideBySide.{place-bit, bit-product, bit-or, all-ones}
@@ -370,9 +370,6 @@ pub nearer-passed : (left : ℕ) (before mid after : List ℕ) → Nearer left b
 unfolding innerPass
 nearer-passed left before mid after n p =
     record { long = p .long ∙ n .long; bits = λ i b. p .bits i b ∙ ap (λ (w : List ℕ). at w (i / 64)) (n .word (i % 64) (omega arith)) }
-
-pub nearer-self : (left : ℕ) (before : List ℕ) → Nearer left before before
-nearer-self left before = record { long = refl; word = λ k l. refl; kept = λ k l e. refl }
 
 -- a proposal that leaves no wrong word is the pass
 pub nearer-done : (before after : List ℕ) (x : ℕ) → Nearer x before after → x ≡ wrongWords (bitAt after) → x ≡ 0 → InnerPassed before after

@@ -10,19 +10,19 @@ use native.Mathlib.Numerals.{add-one}
 use native.Mathlib.Omega.{arith}
 use borrow.Author.Tests.{eq-eqb, ne-eqb, not-true, not-false}
 use lib.Bits.{bitAnd, bitXor}
-use lib.Dec.{eqb, lit<}
+use lib.Dec.{eqb}
 use lib.ListN.{length}
 use mir.Syntax.{w16, w64}
 use mir.Val.{Fits}
 use Rattle.fields.specs.Lists.{tabulate}
-use Rattle.fields.specs.Elements.{xor, powersB, exponentsB}
+use Rattle.fields.specs.Elements.{xor, powersB}
 use Rattle.fields.specs.ByTables.{tablePower}
 use Rattle.fields.proofs.ByTables.{table-power}
 use Rattle.fields.proofs.Instances.{field-b}
-use Rattle.fields.proofs.Lists.{tabulate-at, tabulate-is, tabulate-length, tabulate-same}
+use Rattle.fields.proofs.Lists.{tabulate-is, tabulate-length}
 use Rattle.fields.proofs.Xor.{xor-zero-r}
-use Rattle.words.specs.Places.{at, bitOf, numberOf, bitAt, bitsOf, bytesOf, value, differs}
-use Rattle.words.specs.InnerCode.{factors, divisor, remainder, powerB, isInner}
+use Rattle.words.specs.Places.{at, bitOf, bitAt, bitsOf, bytesOf, value, differs}
+use Rattle.words.specs.InnerCode.{divisor, remainder, powerB, isInner}
 use Rattle.words.specs.Nearest.{nearest}
 use Rattle.words.specs.Decoder.{xorTo, errorAt, withErrors}
 use Rattle.words.specs.InnerDecoding.{oddValues, flips, ErrorsOf, InnerErrors, inverted, explains}
@@ -39,7 +39,7 @@ use Rattle.words.proofs.Decoding.Inner.{flip-at, inner-found, inner-lost}
 use Rattle.frames.specs.Frames.{innerWord}
 use Rattle.frames.specs.Correction.{innerRestored}
 use Rattle.frames.specs.InnerResidues.{coefficient, wordResidue, residuesOf, WordResidues, oddValue}
-use Rattle.frames.specs.Passes.{wrongWords, WordPut, WordCorrected}
+use Rattle.frames.specs.Passes.{wrongWords, WordCorrected}
 use Rattle.frames.specs.Proposals.{Nearer}
 use Rattle.frames.proofs.Windows.{masked-bit}
 use Rattle.frames.proofs.FrameBits.{bytes-bit, bytes-length, inner-word-length, place-to-bit}

@@ -82,7 +82,8 @@ fn ends_with(block: &[u8], w: usize, p: Packed) -> bool
     let middle = p.middle ^ parity_symbols(block, w, packed::SYMBOLS, packed::SYMBOLS);
     let last = parity_symbols(block, w, 2 * packed::SYMBOLS, packed::LAST_SYMBOLS);
     let low = p.low ^ (last << packed::LAST_ZEROS);
-    (high | middle | low) == 0
+    let rest = Packed { high, middle, low };
+    rest.is_zero()
 }
 
 fn is_code_word(table: &[u64], block: &[u8], w: usize) -> bool

@@ -79,7 +79,7 @@ fn flip_counts(flips: &[u64]) -> [u16; Frame::INNER_WORDS]
 }
 
 // Takes the proposal in the block, where it holds; what is left as it was and is no code word is the answer, bit k, the highest first, for word k.
-pub fn take(wrong: u64, flips: &[u64], block: &mut [u8]) -> u64
+fn take(wrong: u64, flips: &[u64], block: &mut [u8]) -> u64
     requires { ⌜ (length (now block) ≡ 16320) × (length (now flips) ≡ 2040) ⌝ }
     requires { ⌜ wrong ≡ wrongWords (bitAt (now block)) ⌝ }
     ensures { λ r. ⌜ (r ≡ wrongWords (bitAt (now (block .exit)))) × Nearer r (now (block .entry)) (now (block .exit)) ⌝ }

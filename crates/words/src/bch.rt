@@ -326,7 +326,7 @@ fn is_binary(exp: &[u16], e: Errors) -> bool
 }
 
 // The errors in a word that has these values, which is a code word with at most eight places wrong only if they explain it.
-pub fn errors_of(exp: &[u16], log: &[u16], odd: OddValues) -> Errors
+fn errors_of(exp: &[u16], log: &[u16], odd: OddValues) -> Errors
     requires { ⌜ (now exp ≡ powersB) × (now log ≡ exponentsB) ⌝ }
     ensures { λ r. ⌜ ErrorsOf (odd .at) (r .places .at) (r .values) (r .places .count) (r .left) ⌝ }
 {

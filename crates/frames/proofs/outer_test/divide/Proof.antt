@@ -5,7 +5,7 @@ use Rattle.frames.specs.Received.{dividedTo}
 use Rattle.frames.specs.Frames.{dataIn}
 use Rattle.words.specs.SixSymbols.{Packs}
 use Rattle.words.specs.Places.{bitAt}
-use Prim.Native.Nat.{_+_, _-_, _%_, _≤_}
+use Prim.Native.Nat.{_-_, _%_, _≤_}
 use mathlib.Core.Path.{_≡_}
 use Rattle.frames.proofs.outer_test.divide.Statement.{statement}
 use Rattle.frames.proofs.outer_test.divide.Tie as tie

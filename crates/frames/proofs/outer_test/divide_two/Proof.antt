@@ -2,7 +2,6 @@
 use borrow.Author.Needs.{needs}
 use Rattle.frames.proofs.OuterTest.{division-stop, data-first, data-second}
 use Rattle.frames.specs.Received.{dividedTo}
-use Rattle.frames.specs.Frames.{dataIn}
 use Rattle.words.specs.SixSymbols.{Packs}
 use Rattle.words.specs.Places.{bitAt}
 use Prim.Native.Nat.{_+_, _-_, _%_, _≤_}

@@ -19,6 +19,9 @@ parity-symbols-requires-3 c κs = search needs
 shl-low : tie.Need-shl-low
 shl-low c = search needs
 
+is-zero-requires : tie.Need-is-zero-requires
+is-zero-requires c κs = search needs
+
 returns : tie.Need-returns
 returns c = search (needs, division-tested)
 
@@ -31,4 +34,5 @@ ends-with-spec =
     mul-parity-symbols
     parity-symbols-requires-3
     shl-low
+    is-zero-requires
     returns)

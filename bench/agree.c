@@ -2,7 +2,7 @@
 #include <fec.h>
 #include "blocks.h"
 
-enum { BLOCKS = 200, WORDS = 16, SYMBOLS = 781, LAST_SYMBOLS = 778, LAST_DATA = 762, WORD_BITS = 7810, LAST_PARITY_BIT = 124768 };
+enum { BLOCKS = 200, LAST_PARITY_BIT = 124768 };
 
 static void nothing(void)
 {
@@ -59,12 +59,10 @@ static void burst_at_the_padding(void)
 	damage_burst(LAST_PARITY_BIT - next_random(length + 20), length);
 }
 
-// another symbol in word w; the last data symbol of the last word has eight bits in the frame
+// another symbol in word w
 static void change_symbol(int w, int s)
 {
-	int last = w == WORDS - 1;
-	int bits = last && s == LAST_DATA - 1 ? 8 : 10;
-	int first = WORD_BITS * w + 10 * s - (last && s >= LAST_DATA ? 2 : 0);
+	int bits = bits_in(w, s), first = bit_of(w, s);
 	int change = 1 + next_random((1 << bits) - 1);
 	for (int i = 0; i < bits; i++)
 		if (change >> i & 1)
@@ -74,7 +72,7 @@ static void change_symbol(int w, int s)
 static void change_symbols(int w, int n, int from)
 {
 	uint32_t chosen[SYMBOLS];
-	choose(chosen, n, (w < WORDS - 1 ? SYMBOLS : LAST_SYMBOLS) - from);
+	choose(chosen, n, symbols_in(w) - from);
 	for (int i = 0; i < n; i++)
 		change_symbol(w, from + chosen[i]);
 }
@@ -109,12 +107,6 @@ static void padding_not_zero(void)
 			invert_bit(LAST_PARITY_BIT + i);
 	change_symbols(WORDS - 1, next_random(9), 0);
 	peer_inner_parity(block);
-}
-
-static void noise(void)
-{
-	for (int i = 0; i < FRAME; i++)
-		block[i] = next_random(256);
 }
 
 static void compare_reading(const char *damage)
@@ -159,6 +151,7 @@ int main(void)
 	try("wrong symbols at the padding", wrong_symbols_at_the_padding);
 	try("padding bits that are not zero", padding_not_zero);
 	try("noise", noise);
-	printf("    answers of the kernel's decoder that gave no code word: %d; blocks that the peers answered wrongly for it: %d\n", no_code_words, wrong_blocks);
+	printf("    ");
+	print_wrong_answers();
 	return 0;
 }

@@ -1,12 +1,9 @@
 // Whole frames, from bytes to bytes: the proved entries of crates/frames against the codec of peer_codec.c, on the same payloads and blocks in one run. The
 // two take turns, and who goes first changes from frame to frame. Every answer is compared, outside of what is timed; so the kernel's answers are tested
 // there too, not in the peers' time.
-#include "blocks.h"
-#include "rounds.h"
+#include "turns.h"
 
 enum { ROUNDS = 1001 };
-
-typedef int (*side)(void);
 
 static int our_encode(void)
 {
@@ -39,18 +36,7 @@ static int peers_extract(void)
 	return peer_extract(block, peers_out);
 }
 
-static int our_correct(void)
-{
-	return g9751_i4_correct(block, FRAME, ours_out, FRAME);
-}
-
-static int peers_correct(void)
-{
-	return peer_correct(block, peers_out, NULL);
-}
-
-static const side encode[2] = { our_encode, peers_encode }, check[2] = { our_check, peers_check };
-static const side extract[2] = { our_extract, peers_extract }, correct[2] = { our_correct, peers_correct };
+static const side encode[2] = { our_encode, peers_encode }, check[2] = { our_check, peers_check }, extract[2] = { our_extract, peers_extract };
 
 struct row {
 	const char *name;
@@ -81,16 +67,6 @@ enum { ROWS = sizeof rows / sizeof *rows };
 
 static double times[ROWS][2][ROUNDS];
 
-static void take_turns(int r, int round, int *numbers)
-{
-	for (int turn = 0; turn < 2; turn++) {
-		int s = (round + turn) % 2;
-		double start = now();
-		numbers[s] = rows[r].sides[s]();
-		times[r][s][round] = now() - start;
-	}
-}
-
 static void compare(const struct row *row, const int *numbers)
 {
 	require(numbers[0] == row->number, "%s: proved answer %d", row->name, numbers[0]);
@@ -110,7 +86,7 @@ static void measure(int r, int round)
 	damage_words(row->words, row->errors);
 	damage_burst(next_random(8 * FRAME - row->burst + 1), row->burst);
 	clear_outputs();
-	take_turns(r, round, numbers);
+	take_turns(row->sides, round, ROUNDS, times[r], numbers);
 	compare(row, numbers);
 }
 
@@ -127,6 +103,7 @@ int main(void)
 		double a = median(times[r][0], ROUNDS), b = median(times[r][1], ROUNDS);
 		printf("| %s | %.1f | %.1f | %.2f |\n", rows[r].name, a / 1000, b / 1000, b / a);
 	}
-	printf("\nanswers of the kernel's decoder that gave no code word: %d; blocks that the peers answered wrongly for it: %d\n", no_code_words, wrong_blocks);
+	printf("\n");
+	print_wrong_answers();
 	return 0;
 }

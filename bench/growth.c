@@ -1,16 +1,15 @@
 // How the time of a correction grows with the number of damaged inner words: the proved corrector against the codec of peer_codec.c, on the same blocks in
 // turn, as in frames.c.
-#include "blocks.h"
-#include "rounds.h"
+#include "turns.h"
 
 enum { ROUNDS = 301 };
 
 static const int words[] = { 0, 1, 2, 4, 8, 12, 16, 17, 32, 64 };
 static const int errors[] = { 1, 2, 8 };
 
-enum { WORDS = sizeof words / sizeof *words, ERRORS = sizeof errors / sizeof *errors };
+enum { COUNTS = sizeof words / sizeof *words, ERRORS = sizeof errors / sizeof *errors };
 
-static double times[ERRORS][WORDS][2][ROUNDS];
+static double times[ERRORS][COUNTS][2][ROUNDS];
 
 static void measure(int e, int w, int round)
 {
@@ -18,12 +17,7 @@ static void measure(int e, int w, int round)
 	new_frame();
 	damage_words(words[w], errors[e]);
 	clear_outputs();
-	for (int turn = 0; turn < 2; turn++) {
-		int s = (round + turn) % 2;
-		double start = now();
-		numbers[s] = s ? peer_correct(block, peers_out, NULL) : g9751_i4_correct(block, FRAME, ours_out, FRAME);
-		times[e][w][s][round] = now() - start;
-	}
+	take_turns(correct, round, ROUNDS, times[e][w], numbers);
 	require(numbers[0] == 0 && !memcmp(ours_out, frame, FRAME), "%d wrong bits in %d inner words: proved answer %d", errors[e], words[w], numbers[0]);
 	compare_corrections(numbers[0], numbers[1], "growth");
 }
@@ -33,7 +27,7 @@ int main(void)
 	require(peer_init(), "no memory for the peers");
 	for (int round = 0; round < ROUNDS; round++)
 		for (int e = 0; e < ERRORS; e++)
-			for (int w = 0; w < WORDS; w++)
+			for (int w = 0; w < COUNTS; w++)
 				measure(e, w, round);
 	printf("correction by the number of damaged inner words, medians of %d frames: proved (µs), ratio theirs to ours\n\n| damaged inner words |", ROUNDS);
 	for (int e = 0; e < ERRORS; e++)
@@ -41,7 +35,7 @@ int main(void)
 	printf("\n|---|");
 	for (int e = 0; e < ERRORS; e++)
 		printf("---|");
-	for (int w = 0; w < WORDS; w++) {
+	for (int w = 0; w < COUNTS; w++) {
 		printf("\n| %d |", words[w]);
 		for (int e = 0; e < ERRORS; e++) {
 			double a = median(times[e][w][0], ROUNDS), b = median(times[e][w][1], ROUNDS);

@@ -1,4 +1,4 @@
-// What the programs of bench/ that time calls share: the clock, and the medians of two sides that take turns.
+// What the programs of bench/ that time calls share: the clock, and medians and other percentiles of times.
 #pragma once
 #include <stdlib.h>
 #include <time.h>
@@ -16,9 +16,14 @@ static inline int by_size(const void *a, const void *b)
 	return (x > y) - (x < y);
 }
 
-// sorts the times
-static inline double median(double *times, int rounds)
+// the time that so many of a hundred rounds did not exceed; sorts the times
+static inline double percentile(double *times, int rounds, int percent)
 {
 	qsort(times, rounds, sizeof(double), by_size);
-	return times[rounds / 2];
+	return times[rounds * percent / 100];
+}
+
+static inline double median(double *times, int rounds)
+{
+	return percentile(times, rounds, 50);
 }

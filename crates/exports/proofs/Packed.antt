@@ -4,13 +4,12 @@ use mathlib.Core.List.{List}
 use Prim.Native.Nat.{ℕ, _+_, _*_}
 use native.Mathlib.Nat.{add-comm}
 use native.Mathlib.Omega.{arith}
-use borrow.Author.Tests.{eq-eqb, ne-eqb}
-use lib.ListN.{length}
+use Rattle.fields.specs.Buffers.{copied}
 use Rattle.words.specs.declared.Correction.{Correction}
 use Rattle.words.specs.declared.Correction.the-variants as variants
 use Rattle.words.specs.Answers.{refusalOf, changedOf}
 use Rattle.frames.specs.Answers.{Corrected}
-use Rattle.exports.specs.Packed.{packed, packedWord, handedOut, packedFrame}
+use Rattle.exports.specs.Packed.{packed, packedWord, packedFrame}
 
 pub changes-packed : (c : Correction) (k r : ℕ) → c ≡ variants.Corrected k → r ≡ 256 * k → r ≡ packed (refusalOf c) (changedOf c)
 unfolding packed
@@ -20,20 +19,12 @@ pub number-packed : (c : Correction) (n r : ℕ) → c ≡ variants.Refused n �
 unfolding packed
 number-packed c n r e h = rw e (omega (arith, h))
 
-pub word-packed : (r n k : ℕ) (out : List ℕ) (a : ℕ × ℕ × List ℕ) → r ≡ packed n k → _≡_ {A = ℕ × ℕ × List ℕ} (n, k, out) a → _≡_ {A = ℕ × List ℕ} (r, out) (packedWord a)
+pub word-packed : (r : ℕ) (c : Correction) (out : List ℕ) (a : Correction × List ℕ) → r ≡ packed (refusalOf c) (changedOf c) → _≡_ {A = Correction × List ℕ} (c, out) a →
+    _≡_ {A = ℕ × List ℕ} (r, out) (packedWord a)
 unfolding packedWord
-word-packed r n k out a e h = rw (← h, e)
+word-packed r c out a e h = rw (← h, e)
 
--- counts where there is place for them, and where there is none
-pub handed-all : (all counts out : List ℕ) → length counts ≡ length all → out ≡ all → out ≡ handedOut all counts
-unfolding handedOut
-handed-all all counts out l e = rw (eq-eqb (length counts) (length all) l) e
-
-pub handed-none : (all counts : List ℕ) → (length counts ≡ length all → ⊥) → counts ≡ handedOut all counts
-unfolding handedOut
-handed-none all counts f = rw (ne-eqb (length counts) (length all) f)
-
-pub frame-packed : (r n sum : ℕ) (all out counts handed : List ℕ) (a : Corrected) → r ≡ 256 * sum + n → handed ≡ handedOut all counts →
+pub frame-packed : (r n sum : ℕ) (all out counts handed : List ℕ) (a : Corrected) → r ≡ 256 * sum + n → handed ≡ copied all counts →
     _≡_ {A = Corrected} (n, all, sum, out) a → _≡_ {A = ℕ × List ℕ × List ℕ} (r, out, handed) (packedFrame a counts)
 unfolding packedFrame packed
 frame-packed r n sum all out counts handed a e h q = rw (← q, e, h, add-comm n (256 * sum))

@@ -1,12 +1,13 @@
 // What the programs of tests/ and bench/ call and a terminal does not, exported for C and Rust: the entries on single words, the corrector with its report,
 // and chains of products through tables that are bound once and lent. An answer of more than one number comes packed into one.
+use decoding::symbols;
 use words::Correction;
 ghost use mathlib.Core.Path.{_≡_};
 ghost use Rattle.fields.specs.Elements.{powersA, exponentsA, powersB, exponentsB};
 ghost use Rattle.words.specs.Answers.{outerChecked, outerEncoded, innerChecked, innerEncoded, refusalOf, changedOf, outerCorrected, innerCorrected};
 ghost use Rattle.frames.specs.Answers.{frameCorrected};
 ghost use Rattle.exports.specs.Chains.{chain};
-ghost use Rattle.exports.specs.Packed.{packed, packedWord, handedOut, packedFrame};
+ghost use Rattle.exports.specs.Packed.{packed, packedWord, packedFrame};
 
 #[no_mangle]
 pub extern "C" fn exports_check_outer(word: &[u16]) -> u8
@@ -60,15 +61,6 @@ pub extern "C" fn exports_correct_inner(word: &[u8], out: &mut [u8]) -> u32
     packed_word(words::correct_inner(word, out))
 }
 
-// Writes all counts, if there is place for exactly as many.
-fn hand_out(all: &[u16], counts: &mut [u16])
-    ensures { λ _. ⌜ now (counts .exit) ≡ handedOut (now (all .entry)) (now (counts .entry)) ⌝ }
-{
-    if counts.len() == all.len() {
-        words::reed_solomon::copy(all, counts);
-    }
-}
-
 // 256 times the sum, plus the refusal's number; the counts are written if there is place for exactly 64.
 #[no_mangle]
 pub extern "C" fn exports_correct_frame(block: &[u8], out: &mut [u8], counts: &mut [u16]) -> u64
@@ -77,7 +69,7 @@ pub extern "C" fn exports_correct_frame(block: &[u8], out: &mut [u8], counts: &m
 {
     let report = frames::correct_frame(block, out);
     let all = report.counts;
-    hand_out(&all, counts);
+    symbols::copy(&all, counts);
     256 * report.sum as u64 + report.refusal as u64
 }
 

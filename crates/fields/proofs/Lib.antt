@@ -13,3 +13,4 @@ pub mod Rows
 pub mod TableTests
 pub mod Ways
 pub mod ByTables
+pub mod Places

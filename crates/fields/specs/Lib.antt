@@ -1,5 +1,8 @@
--- Binary fields: definitions, the laws that are proved of them, and what functions over lent tables give.
+-- Binary fields: definitions, the laws that are proved of them, and words over them place by place.
 pub mod Lists
 pub mod Elements
 pub mod Field
+pub mod Places
+-- what functions over lent tables, and functions that write buffers, give
 pub mod ByTables
+pub mod Buffers

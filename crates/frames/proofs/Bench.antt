@@ -4,8 +4,9 @@ use Prim.Native.Nat.{ℕ, _<_}
 use lib.Dec.{lit<}
 use lib.ListN.{replicate, length-replicate}
 use Rattle.fields.specs.Elements.{xor, scale, doubled, timesFrom, times}
-use Rattle.words.proofs.Places.Filling.{zeros-at}
-use Rattle.frames.specs.Frames.{outerWords, frameOf, parityPlace, payloadPlace}
+use Rattle.fields.proofs.Places.Filling.{zeros-at}
+use Rattle.words.specs.InnerWords.{parityPlace}
+use Rattle.frames.specs.Frames.{outerWords, frameOf, payloadPlace}
 use Rattle.frames.specs.BenchRows.{Holds, AllHold, benchRows, payload-bit, parity-bit, zero-payload}
 use Rattle.frames.proofs.FrameBits.{frame-parity, payload-bits}
 use Rattle.frames.proofs.ZeroFrame.{zero-frame}

@@ -9,17 +9,22 @@ use borrow.Author.Tests.{eq-eqb, ne-eqb, not-true, not-false}
 use lib.ListN.{length, getD, replicate}
 use mir.Syntax.{w8}
 use mir.Val.{Fits}
+use Rattle.fields.specs.Buffers.{copied}
 use Rattle.fields.specs.Lists.{tabulate}
+use Rattle.fields.specs.Places.{at}
 use Rattle.fields.proofs.Lists.{tabulate-at, tabulate-same}
-use Rattle.words.specs.Places.{at, bitAt, bytesOf}
+use Rattle.decoding.proofs.Steps.Symbols.{copied-same}
+use Rattle.words.specs.Bits.{bitAt, bytesOf}
 use Rattle.words.specs.Nearest.{nearest}
-use Rattle.words.proofs.Places.Numbers.{numberOf-same}
-use Rattle.frames.specs.Frames.{symbolAt, dataIn, withParity, frameOfWords}
-use Rattle.frames.specs.Correction.{innerPass, receivedBit, receivedSymbol, receivedWord, isPermitted, outerRestored, everyOf, outerPass, restoredFrame, reportOf, total}
+use Rattle.words.specs.InnerWords.{withParity, innerPass}
+use Rattle.words.proofs.Bits.Numbers.{numberOf-same}
+use Rattle.inner_words.specs.Passes.{innerCodes, InnerPassed}
+use Rattle.frames.specs.Frames.{symbolAt, dataIn, frameOfWords}
+use Rattle.frames.specs.Correction.{receivedBit, receivedSymbol, receivedWord, isPermitted, outerRestored, everyOf, outerPass, restoredFrame, reportOf, total}
 use Rattle.frames.specs.Answers.{Corrected, noCounts, refused, reported, frameCorrected, withoutReport}
-use Rattle.frames.specs.Received.{outerCodes, innerCodes}
+use Rattle.frames.specs.Received.{outerCodes}
 use Rattle.frames.specs.Symbols.{InRow, Sent, rowWord}
-use Rattle.frames.specs.Passes.{InnerPassed, provided, written, rowWords}
+use Rattle.frames.specs.Passes.{provided, written, rowWords}
 use Rattle.frames.proofs.ReceivedWords.{received-cases, received-first, received-padding, received-last, row-room}
 use Rattle.frames.proofs.FrameAnswers.{frame-written, is-block}
 use Rattle.frames.proofs.RestoredWords.{frame-kept}
@@ -59,10 +64,11 @@ row-words row long =
 
 -- a block that is a frame already
 pub pass-kept : (passed out o : List ℕ) (s t : Bool) → length passed ≡ 16320 → ((i : ℕ) → Fits w8 (getD passed i 0)) →
-    (s ≡ true → innerCodes (bitAt passed) ≡ true) → s ≡ true → t ≡ outerCodes (bitAt passed) → t ≡ true → out ≡ passed →
+    (s ≡ true → innerCodes (bitAt passed) ≡ true) → s ≡ true → t ≡ outerCodes (bitAt passed) → t ≡ true → length o ≡ 16320 → out ≡ copied passed o →
     _≡_ {A = Bool × List ℕ} (true, out) (written o (Option·map frameOfWords (outerPass (bitAt passed))))
 unfolding written
-pass-kept passed out o s t long bytes inner hs et h e = rw (frame-kept passed (is-block passed long bytes) (sym et ∙ h) (inner hs), e)
+pass-kept passed out o s t long bytes inner hs et h room e =
+    rw (frame-kept passed (is-block passed long bytes) (sym et ∙ h) (inner hs), e ∙ copied-same passed o (room ∙ sym long))
 
 module _ (passed next o : List ℕ) (t : Bool) (restored : provided t (rowWords next) ≡ outerPass (bitAt passed)) where
   pub pass-none : not t ≡ true → _≡_ {A = Bool × List ℕ} (false, o) (written o (Option·map frameOfWords (outerPass (bitAt passed))))
@@ -110,12 +116,12 @@ module _ (b o : List ℕ) where
     unfolding frameCorrected refused
     correct-space f n sum counts en ec es = rw (eq-eqb (length b) 16320 e, ne-eqb (length o) 16320 f, en, ec, es)
 
-    module _ (f : length o ≡ 16320) (t : Bool) (copy passed out : List ℕ) (ec : copy ≡ b) (p : InnerPassed copy passed)
+    module _ (f : length o ≡ 16320) (t : Bool) (blank copy passed out : List ℕ) (room : length blank ≡ 16320) (ec : copy ≡ copied b blank) (p : InnerPassed copy passed)
         (told : (t, out) ≡ written o (Option·map frameOfWords (outerPass (bitAt passed)))) where
       -- what was written is the restored frame, or there is none
       restored-is : (t, out) ≡ written o (restoredFrame b)
       unfolding restoredFrame
-      restored-is = rw (passes-done b copy passed ec p) at told
+      restored-is = rw (passes-done b copy passed (ec ∙ copied-same b blank (room ∙ sym e)) p) at told
 
       pub correct-none : not t ≡ true → (n sum : ℕ) (counts : List ℕ) → n ≡ 5 → counts ≡ noCounts → sum ≡ 0 →
           _≡_ {A = Corrected} (n, counts, sum, out) (frameCorrected b o)

@@ -7,15 +7,19 @@ use Prim.Native.Nat.{ℕ, _+_, _-_, _*_, _%_, _≤_, _<_, min}
 use native.Mathlib.Omega.{arith}
 use lib.Dec.{ltb}
 use lib.ListN.{length}
+use Rattle.fields.specs.Places.{sumTo, differs, apart}
 use Rattle.fields.proofs.Lists.{tabulate-at, tabulate-length}
-use Rattle.words.specs.Places.{bitAt, sumTo, differs, apart}
-use Rattle.words.proofs.Places.Counting.{differs-self, sum-mono, sum-same}
-use Rattle.frames.specs.Frames.{isPayload, dataIn, outerWord, outerWords, symbolAt, innerWord, frameOf, wrongBits}
+use Rattle.fields.proofs.Places.Counting.{differs-self, sum-mono, sum-same}
+use Rattle.fields.proofs.Places.Differences.{apart-tables}
+use Rattle.words.specs.Bits.{bitAt}
+use Rattle.words.specs.InnerWords.{innerWord}
+use Rattle.words.proofs.Bits.Numbers.{number-differs}
+use Rattle.inner_words.proofs.InterleavedBits.{word-to-bit}
+use Rattle.frames.specs.Frames.{isPayload, dataIn, outerWord, outerWords, symbolAt, frameOf, wrongBits}
 use Rattle.frames.specs.Correction.{receivedBit, receivedSymbol, receivedWord, reportOf, total}
 use Rattle.frames.specs.Answers.{frameCorrected}
 use Rattle.frames.specs.Demands.{Restored, wrongAt, wrongCounts, lostSymbols, Premise}
-use Rattle.frames.proofs.Differences.{number-differs, apart-tables}
-use Rattle.frames.proofs.FrameBits.{payload-is, word-to-bit, frame-inner, dataIn-le, outer-word-length}
+use Rattle.frames.proofs.FrameBits.{payload-is, frame-inner, dataIn-le, outer-word-length}
 use Rattle.frames.proofs.ReceivedWords.{received-own}
 use Rattle.frames.proofs.Permitted.{payload-permitted}
 use Rattle.frames.proofs.FarApart.{wrong-parts}

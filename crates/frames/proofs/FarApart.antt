@@ -5,12 +5,16 @@ use mathlib.Core.List.{List}
 use Prim.Native.Nat.{ℕ, _+_, _*_, _%_, _≤_, _<_}
 use native.Mathlib.Decide.{decLe}
 use native.Mathlib.Omega.{arith}
-use Rattle.words.specs.Places.{bitAt, sumTo, differs, apart}
-use Rattle.words.proofs.Places.Counting.{sum-same}
+use Rattle.fields.specs.Places.{sumTo, differs, apart}
+use Rattle.fields.proofs.Places.Counting.{sum-same}
+use Rattle.fields.proofs.Places.Differences.{sum-at, sum-grid, apart-tables}
+use Rattle.words.specs.Bits.{bitAt}
+use Rattle.words.specs.InnerWords.{innerWord}
 use Rattle.words.proofs.Codes.Proved.{codes}
-use Rattle.frames.specs.Frames.{isPayload, outerWords, innerWord, frameOf, payloadPlace, payloadOf, wrongBits}
-use Rattle.frames.proofs.Differences.{sum-at, sum-grid, apart-tables}
-use Rattle.frames.proofs.FrameBits.{bytes-same, payload-is, word-to-bit, frame-inner, payload-bits, payload-back}
+use Rattle.words.proofs.Bits.Bytes.{bytes-same}
+use Rattle.inner_words.proofs.InterleavedBits.{word-to-bit}
+use Rattle.frames.specs.Frames.{isPayload, outerWords, frameOf, payloadPlace, payloadOf, wrongBits}
+use Rattle.frames.proofs.FrameBits.{payload-is, frame-inner, payload-bits, payload-back}
 
 -- the wrong bits of a block are those of its inner words
 pub wrong-parts : (a b : List ℕ) → wrongBits a b ≡ sumTo 64 (λ k. apart (innerWord (bitAt a) k) (innerWord (bitAt b) k))

@@ -8,15 +8,19 @@ use borrow.Author.Tests.{eq-eqb, ne-eqb, not-true, not-false}
 use lib.ListN.{length, getD}
 use mir.Syntax.{w8}
 use mir.Val.{Fits}
-use Rattle.words.specs.Places.{at, bitAt, bytesOf}
+use Rattle.fields.specs.Places.{at}
+use Rattle.fields.proofs.Places.Tests.{below-all}
+use Rattle.words.specs.Bits.{bitAt, bytesOf}
 use Rattle.words.specs.InnerCode.{innerParity}
 use Rattle.words.specs.Answers.{answered}
-use Rattle.words.proofs.Places.Tests.{below-all}
-use Rattle.frames.specs.Frames.{isBlock, outerWords, sentBit, withParity, frameOfWords, frameOf}
+use Rattle.words.specs.InnerWords.{withParity}
+use Rattle.words.proofs.Bits.Bytes.{bits-same}
+use Rattle.inner_words.specs.Passes.{innerCodes}
+use Rattle.inner_words.proofs.InterleavedBits.{data-same, parity-before, parity-after, parity-cases}
+use Rattle.frames.specs.Frames.{isBlock, outerWords, sentBit, frameOfWords, frameOf}
 use Rattle.frames.specs.Answers.{isFrame, frameEncoded, frameChecked, payloadExtracted}
-use Rattle.frames.specs.Received.{receivedRow, outerCodes, innerCodes}
+use Rattle.frames.specs.Received.{receivedRow, outerCodes}
 use Rattle.frames.specs.Symbols.{InRow, Sent, payloadInRow}
-use Rattle.frames.proofs.FrameBits.{bits-same, data-same, parity-before, parity-after, parity-cases}
 use Rattle.frames.proofs.ReceivedWords.{is-frame}
 use Rattle.frames.proofs.RowWords.{received-payload, row-sent}
 

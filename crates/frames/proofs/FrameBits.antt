@@ -1,7 +1,7 @@
 -- The bits of a frame: which are data and which are parity, its inner words, and the outer words of a payload. Assumes nothing.
 use mathlib.Core.Path.{_≡_, sym, ap, ap₂, _∙_}
 use mathlib.Core.Bool.{true, and-eq-true-iff}
-use mathlib.Core.List.{List, [], _++_}
+use mathlib.Core.List.{List, []}
 use Prim.Native.Nat.{ℕ, _+_, _-_, _*_, _/_, _%_, _≤_, _<_}
 use native.Mathlib.Decide.{decLt}
 use native.Mathlib.Omega.{arith}
@@ -9,43 +9,18 @@ use borrow.Author.Tests.{lt-ltb, le-ltb, eqb-true}
 use lib.Dec.{eqb, lit<}
 use lib.ListN.{length, getD, length-append, List·getD-append}
 use Rattle.fields.specs.Lists.{tabulate}
-use Rattle.fields.proofs.Lists.{tabulate-at, tabulate-is, tabulate-length, tabulate-lt, tabulate-same, tabulate-append}
-use Rattle.words.specs.Places.{at, allBelow, bitOf, numberOf, bitAt, bytesOf}
+use Rattle.fields.specs.Places.{at, allBelow}
+use Rattle.fields.proofs.Lists.{tabulate-at, tabulate-length, tabulate-lt}
+use Rattle.fields.proofs.Places.Tests.{below-all}
+use Rattle.words.specs.Bits.{bitOf, numberOf, bitAt}
 use Rattle.words.specs.OuterCode.{isOuter}
 use Rattle.words.specs.InnerCode.{isInner, innerParity}
-use Rattle.words.proofs.Places.Tests.{below-at, below-all}
-use Rattle.words.proofs.Places.Numbers.{bitOf-lt, bitOf-number, numberOf-lt, numberOf-same}
-use Rattle.words.proofs.Places.Bytes.{bitAt-lt, bits-at, bytes-again, place-past}
-use Rattle.words.proofs.Codes.InnerParity.{parity-bits}
+use Rattle.words.specs.InnerWords.{innerData, innerWord, parityPlace, withParity}
+use Rattle.words.proofs.Bits.Numbers.{bitOf-lt, bitOf-number, numberOf-lt}
+use Rattle.words.proofs.Bits.Bytes.{bitAt-lt, place-past, bytes-length, bytes-below, bytes-bit, bytes-same}
 use Rattle.words.proofs.Codes.Proved.{codes}
-use Rattle.frames.specs.Frames.{symbolAt, isPayload, isBlock, dataIn, outerData, outerWord, outerWords, rowBit, rowPlace, sentBit, innerData, innerWord, parityPlace, withParity, frameOfWords, frameOf, payloadPlace, payloadOf}
-
--- ---- bytes and their bits
-
-module _ (n : ℕ) (b : ℕ → ℕ) where
-  pub bytes-length : length (bytesOf n b) ≡ n
-  unfolding bytesOf
-  bytes-length = tabulate-length n (λ k. numberOf 8 (λ j. b (8 * k + j)))
-
-  module _ (bits : (i : ℕ) → b i < 2) where
-    bytes-below : allBelow 256 (bytesOf n b) ≡ true
-    unfolding bytesOf
-    bytes-below = below-all 256 _ (λ i l. tabulate-lt 256 n _ (lit< tt) (λ k. numberOf-lt (λ j. b (8 * k + j)) (λ j. bits (8 * k + j)) 8) i)
-
-    pub bytes-bit : (i : ℕ) → i < 8 * n → bitAt (bytesOf n b) i ≡ b i
-    unfolding bitAt bytesOf
-    bytes-bit i l =
-        ap (λ (x : ℕ). bitOf 8 x (i % 8)) (tabulate-at n (λ k. numberOf 8 (λ j. b (8 * k + j))) (i / 8) 0 (omega arith))
-        ∙ bitOf-number (λ j. b (8 * (i / 8) + j)) (λ j. bits (8 * (i / 8) + j)) 8 (i % 8) (omega arith) ∙ ap b (omega arith)
-
-  -- bytes are known by their bits
-  pub bits-same : (c : ℕ → ℕ) → ((i : ℕ) → i < 8 * n → b i ≡ c i) → bytesOf n b ≡ bytesOf n c
-  unfolding bytesOf
-  bits-same c same = tabulate-same n _ _ (λ k l. numberOf-same 8 _ _ (λ j h. same (8 * k + j) (omega arith)))
-
-  pub bytes-same : (bytes : List ℕ) → length bytes ≡ n → allBelow 256 bytes ≡ true → ((i : ℕ) → i < 8 * n → b i ≡ bitAt bytes i) → bytesOf n b ≡ bytes
-  bytes-same bytes long small same =
-      bits-same _ (λ i l. same i l ∙ sym (bits-at bytes i)) ∙ sym (bytes-again n bytes long (below-at 256 bytes (lit< tt) small))
+use Rattle.inner_words.proofs.InterleavedBits.{data-same, places-code, parity-before, parity-after, withParity-lt}
+use Rattle.frames.specs.Frames.{symbolAt, isPayload, isBlock, dataIn, outerData, outerWord, outerWords, rowBit, rowPlace, sentBit, frameOfWords, frameOf, payloadPlace, payloadOf}
 
 pub payload-is : (p : List ℕ) → isPayload p ≡ true → (length p ≡ 15296) × (allBelow 256 p ≡ true)
 unfolding isPayload
@@ -71,79 +46,6 @@ payloadOf-below b = bytes-below 15296 _ (λ i. bitAt-lt b _)
 pub payloadOf-bit : (b : List ℕ) (i : ℕ) → i < 122368 → bitAt (payloadOf b) i ≡ bitAt b (payloadPlace i)
 unfolding payloadOf
 payloadOf-bit b i l = bytes-bit 15296 (λ i. bitAt b (payloadPlace i)) (λ i. bitAt-lt b (payloadPlace i)) i l
-
--- ---- inner words
-
--- places of inner words are bits, both ways
-pub place-to-bit : (b : ℕ → ℕ) (k p : ℕ) → p < 2040 → at (innerWord b k) p ≡ b (64 * p + k)
-unfolding innerWord
-place-to-bit b k p l = tabulate-at 2040 _ p 0 l
-
-pub bit-to-place : (b : ℕ → ℕ) (i : ℕ) → i < 130560 → b i ≡ at (innerWord b (i % 64)) (i / 64)
-bit-to-place b i l = sym (place-to-bit b (i % 64) (i / 64) (omega arith) ∙ ap b (omega arith))
-
--- bits are the same where their inner words are
-pub word-to-bit : (b c : ℕ → ℕ) (i : ℕ) → i < 130560 → innerWord b (i % 64) ≡ innerWord c (i % 64) → b i ≡ c i
-word-to-bit b c i l e = bit-to-place b i l ∙ ap (λ (w : List ℕ). at w (i / 64)) e ∙ sym (bit-to-place c i l)
-
-pub inner-word-length : (b : ℕ → ℕ) (k : ℕ) → length (innerWord b k) ≡ 2040
-unfolding innerWord
-inner-word-length b k = tabulate-length 2040 (λ p. b (64 * p + k))
-
--- the first 1,952 places of an inner word, and the last 88
-inner-parts : (b : ℕ → ℕ) (k : ℕ) → innerWord b k ≡ innerData b k ++ tabulate 88 (λ p. b (parityPlace p k))
-unfolding innerWord innerData parityPlace
-inner-parts b k = sym (tabulate-append 1952 88 (λ p. b (64 * p + k)) (λ p. b (124928 + 64 * p + k)) (λ p. ap b (omega arith)))
-
-pub data-length : (b : ℕ → ℕ) (k : ℕ) → length (innerData b k) ≡ 1952
-unfolding innerData
-data-length b k = tabulate-length 1952 (λ p. b (64 * p + k))
-
-pub data-same : (b c : ℕ → ℕ) → ((i : ℕ) → i < 124928 → b i ≡ c i) → (k : ℕ) → k < 64 → innerData b k ≡ innerData c k
-unfolding innerData
-data-same b c h k l = tabulate-same 1952 _ _ (λ p m. h (64 * p + k) (omega arith))
-
-pub data-below : (b : ℕ → ℕ) → ((i : ℕ) → b i < 2) → (k : ℕ) → allBelow 2 (innerData b k) ≡ true
-unfolding innerData
-data-below b bits k = below-all 2 _ (λ i l. tabulate-lt 2 1952 (λ p. b (64 * p + k)) (lit< tt) (λ p. bits (64 * p + k)) i)
-
--- an inner word is a code word where its parity places hold the parity bits of its data
-pub places-code : (b : ℕ → ℕ) → ((i : ℕ) → b i < 2) → (k : ℕ) → ((p : ℕ) → p < 88 → at (innerParity (innerData b k)) p ≡ b (parityPlace p k)) →
-    isInner (innerWord b k) ≡ true
-places-code b bits k h =
-    let d = innerData b k in
-    let parity : innerParity d ≡ tabulate 88 (λ p. b (parityPlace p k)) = tabulate-is 88 _ (innerParity d) 0 (codes .inner-length d) h in
-    rw (inner-parts b k, ← parity) (codes .inner-made d (data-length b k) (data-below b bits k))
-
-pub code-places : (b : ℕ → ℕ) (k : ℕ) → isInner (innerWord b k) ≡ true → (p : ℕ) → p < 88 → at (innerParity (innerData b k)) p ≡ b (parityPlace p k)
-code-places b k h p l =
-    let d = innerData b k in
-    let q = tabulate 88 (λ p. b (parityPlace p k)) in
-    let parity : q ≡ innerParity d = codes .inner-only d q (data-length b k) (ap isInner (sym (inner-parts b k)) ∙ h) in
-    ap (λ (x : List ℕ). at x p) (sym parity) ∙ tabulate-at 88 _ p 0 l
-
--- a bit with parity: below 124,928, and from there on
-pub parity-before : (b : ℕ → ℕ) (i : ℕ) → i < 124928 → withParity b i ≡ b i
-unfolding withParity
-parity-before b i l = rw (lt-ltb i 124928 l)
-
-pub parity-after : (b : ℕ → ℕ) (i : ℕ) → 124928 ≤ i → withParity b i ≡ at (innerParity (innerData b (i % 64))) (i / 64 - 1952)
-unfolding withParity
-parity-after b i g = rw (le-ltb i 124928 g)
-
--- both
-pub parity-cases : (P : ℕ → Type 0) (b : ℕ → ℕ) (i : ℕ) → (i < 124928 → P (b i)) →
-    (124928 ≤ i → P (at (innerParity (innerData b (i % 64))) (i / 64 - 1952))) → P (withParity b i)
-parity-cases P b i before after = go (decLt i 124928)
-  where
-    go : Dec (i < 124928) → P (withParity b i)
-    go (yes l) = rw (parity-before b i l) (before l)
-    go (no g) = let h : 124928 ≤ i = omega arith in rw (parity-after b i h) (after h)
-
-withParity-lt : (b : ℕ → ℕ) → ((i : ℕ) → b i < 2) → (i : ℕ) → withParity b i < 2
-withParity-lt b bits i =
-    let d = innerData b (i % 64) in
-    parity-cases (λ x. x < 2) b i (λ l. bits i) (λ g. below-at 2 (innerParity d) (lit< tt) (parity-bits d) (i / 64 - 1952))
 
 -- ---- the frame of outer words
 

@@ -11,13 +11,15 @@ use lib.Pow.{pow-add, shl-exact, shl-lt}
 use mir.Syntax.{w8, w64}
 use mir.Val.{Fits}
 use Rattle.fields.specs.Lists.{tabulate}
+use Rattle.fields.specs.Places.{at}
+use Rattle.fields.specs.Buffers.{Placed}
 use Rattle.fields.proofs.Lists.{tabulate-at, tabulate-append, tabulate-length, tabulate-same}
-use Rattle.words.specs.Places.{at, bitOf, numberOf, bitAt}
-use Rattle.words.proofs.Places.Numbers.{bitOf-lt, bitOf-number, numberOf-same, number-parts}
-use Rattle.words.proofs.Places.Bytes.{bitAt-lt, places-read, number-of-bits}
+use Rattle.fields.proofs.Places.Placing.{Placing, placing-start, placing-next, placing-end, placing-more, placed-append}
+use Rattle.words.specs.Bits.{bitOf, numberOf, bitAt}
+use Rattle.words.proofs.Bits.Numbers.{bitOf-lt, bitOf-number, numberOf-same, number-parts}
+use Rattle.words.proofs.Bits.Bytes.{bitAt-lt, places-read, number-of-bits}
 use Rattle.frames.specs.Frames.{symbolAt}
-use Rattle.frames.specs.Symbols.{Placed, symbolBit, numberAt, partsOf}
-use Rattle.frames.proofs.Placing.{Placing, placing-start, placing-next, placing-end, placing-more, placed-append}
+use Rattle.frames.specs.Symbols.{symbolBit, numberAt, partsOf}
 
 -- ---- a number of w bits made of digits of n bits each, the first the highest
 

@@ -1,25 +1,9 @@
 -- Laws of this crate that belong to no one function, in the order in which they rest on each other.
-pub mod Placing
+pub mod Parts
 pub mod Windows
 pub mod Groups
-pub mod Differences
 pub mod FrameBits
-pub mod SideBySide
-pub mod InnerResidues
-pub mod ResidueSteps
-pub mod ResidueCodes
-pub mod ParityMatrix
-pub mod ParitySteps
-pub mod ParityBits
-pub mod InnerSteps
-pub mod InnerPass
 pub mod ReportCounts
-pub mod LaneSteps
-pub mod LocatorSteps
-pub mod SearchSteps
-pub mod TakenProposals
-pub mod WordErrors
-pub mod SingleErrors
 pub mod ReceivedWords
 pub mod Options
 pub mod Permitted

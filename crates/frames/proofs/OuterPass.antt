@@ -12,22 +12,24 @@ use lib.Bits.{bitAnd, bitOr, and-mask}
 use lib.Dec.{eqb}
 use lib.ListN.{length, take, drop}
 use lib.Seq.{length-take-le}
+use Rattle.fields.specs.Places.{at, allBelow}
+use Rattle.fields.specs.Buffers.{Placed}
 use Rattle.fields.proofs.Lists.{tabulate-is, tabulate-same}
-use Rattle.words.specs.Places.{at, allBelow, bitAt}
+use Rattle.fields.proofs.Places.Differences.{apart-self}
+use Rattle.words.specs.Bits.{bitAt}
 use Rattle.words.specs.OuterCode.{isOuter}
 use Rattle.words.specs.Division.{outerRemainder}
 use Rattle.words.specs.SixSymbols.{Packs}
 use Rattle.words.specs.Nearest.{nearest}
-use Rattle.words.specs.Answers.{refusal, within, found, corrected, outerCorrected, refusalOf, changedOf}
+use Rattle.words.specs.Answers.{refusal, within, found, corrected, outerCorrected}
 use Rattle.words.specs.declared.Correction.{Correction}
 use Rattle.words.specs.declared.Correction.the-variants.{Corrected, Refused}
 use Rattle.words.proofs.Codes.Proved.{codes}
 use Rattle.frames.specs.Frames.{dataIn}
 use Rattle.frames.specs.Correction.{receivedSymbol, isPadded, isPermitted, outerRestored, outerPass}
-use Rattle.frames.specs.Symbols.{Placed, partFrom, rowWord}
+use Rattle.frames.specs.Symbols.{partFrom, rowWord}
 use Rattle.frames.specs.Passes.{provided, WordRestored, rowWords}
 use Rattle.frames.proofs.FrameBits.{dataIn-le, dataIn-is}
-use Rattle.frames.proofs.Differences.{apart-self, apart-none}
 use Rattle.frames.proofs.Options.{every-some, every-missing}
 use Rattle.frames.proofs.Permitted.{permitted-none, permitted-some, permitted-not}
 use Rattle.frames.proofs.RowWords.{word-length, row-word-part, part-is, word-tested, received-word, word-before, received-below}
@@ -80,8 +82,10 @@ module _ (row : List ℕ) (long : length row ≡ 12496) (w n : ℕ) (h : w < 16)
       let code : isOuter (rowWord row w) ≡ true = sym (word-tested row long w n h e below x y z p t test) ∙ is-code in
       word-kept w row r (code-nearest w (rowWord row w) r (word-short row w) code (q ∙ ap (isPadded w) (part-is row long w n h e)))
 
-  pub no-code : t ≡ false → isOuter (rowWord row w) ≡ false
-  no-code f = sym (word-tested row long w n h e below x y z p t test) ∙ f
+-- which case an answer is
+abbrev caseOf : Correction → ℕ
+caseOf (Corrected changed) = 0
+caseOf (Refused number) = 1
 
 -- the part of the row that is lent for correction is word w, and is not refused
 module _ (row : List ℕ) (long : length row ≡ 12496) (w : ℕ) (h : w < 16) (word : List ℕ) (fits : length word ≡ dataIn w + 16)
@@ -119,37 +123,31 @@ module _ (row : List ℕ) (long : length row ≡ 12496) (w : ℕ) (h : w < 16) (
       let least : 17 ≤ length u = omega (arith, word-length row w, dataIn-is w h) in
       rw (lent-is, le-leb 17 (length u) least, le-leb (length u) 1023 (word-short row w), eq-eqb (length word) (length u) (fits ∙ sym (word-length row w)), below)
 
-  module _ (r : Correction) (after : List ℕ) (told : _≡_ {A = ℕ × ℕ × List ℕ} (refusalOf r, changedOf r, after) (outerCorrected lent word)) (k : ℕ) where
+  module _ (r : Correction) (after : List ℕ) (told : _≡_ {A = Correction × List ℕ} (r, after) (outerCorrected lent word)) (k : ℕ) where
     -- what is told, if o is the nearest code word or none
-    abbrev Told : ℕ → ℕ → Option (List ℕ) → Type 0
-    Told number changed o = _≡_ {A = ℕ × ℕ × List ℕ} (number, changed, after) (found (λ c. c) u word o)
+    abbrev Told : Correction → Option (List ℕ) → Type 0
+    Told s o = _≡_ {A = Correction × List ℕ} (s, after) (found (λ c. c) u word o)
 
-    -- had a code word been found, it would differ from u, which is none, and `changed` would not be 0
-    outer-lost : r ≡ Refused k → isOuter u ≡ false → nearest isOuter 1024 8 u ≡ none
+    outer-lost : r ≡ Refused k → nearest isOuter 1024 8 u ≡ none
     unfolding found
-    outer-lost e f = go (nearest isOuter 1024 8 u) refl (rw e at told ∙ answer)
+    outer-lost e = go (nearest isOuter 1024 8 u) (rw e at told ∙ answer)
       where
-        go : (o : Option (List ℕ)) → nearest isOuter 1024 8 u ≡ o → Told k 0 o → o ≡ none
-        go none q t = refl
-        go (some c) q t =
-            let s = codes .outer-nearest (length u) (word-short row w) .sound u c refl q in
-            let same : u ≡ c = apart-none u c (sym (s .0)) (sym (ap (λ (a : ℕ × ℕ × List ℕ). a .1) t)) in
-            let code : isOuter c ≡ true = s .1 in
-            let z : _≡_ {A = ℕ} 0 1 = cc in
-            absurd (omega arith)
+        go : (o : Option (List ℕ)) → Told (Refused k) o → o ≡ none
+        go none t = refl
+        go (some c) t = let z : _≡_ {A = ℕ} 1 0 = ap (λ (a : Correction × List ℕ). caseOf (a .0)) t in absurd (omega arith)
 
-    pub restored-none : r ≡ Refused k → isOuter u ≡ false → WordRestored w row row false
+    pub restored-none : r ≡ Refused k → WordRestored w row row false
     unfolding provided
-    restored-none e f = word-kept w row false (sym (permitted-none w u (word-short row w) (outer-lost e f)))
+    restored-none e = word-kept w row false (sym (permitted-none w u (word-short row w) (outer-lost e)))
 
     module _ (e : r ≡ Corrected k) (t : Bool) (test : t ≡ isPadded w after) where
       outer-found : nearest isOuter 1024 8 u ≡ some after
       unfolding found
       outer-found = go (nearest isOuter 1024 8 u) (rw e at told ∙ answer)
         where
-          go : (o : Option (List ℕ)) → Told 0 k o → o ≡ some after
-          go none t = let z : _≡_ {A = ℕ} 0 5 = ap (λ (a : ℕ × ℕ × List ℕ). a .0) t in absurd (omega arith)
-          go (some c) t = ap some (sym (ap (λ (a : ℕ × ℕ × List ℕ). a .2) t))
+          go : (o : Option (List ℕ)) → Told (Corrected k) o → o ≡ some after
+          go none t = let z : _≡_ {A = ℕ} 0 1 = ap (λ (a : Correction × List ℕ). caseOf (a .0)) t in absurd (omega arith)
+          go (some c) t = ap some (sym (ap (λ (a : Correction × List ℕ). a .1) t))
 
       pub restored-not : not t ≡ true → WordRestored w row row false
       unfolding provided

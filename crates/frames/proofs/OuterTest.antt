@@ -15,14 +15,15 @@ use lib.Seq.{getD-take, length-take-le}
 use mir.Syntax.{w8}
 use mir.Val.{Fits}
 use Rattle.fields.specs.Elements.{xor, timesA}
+use Rattle.fields.specs.Places.{at, every, allBelow, horner}
 use Rattle.fields.proofs.Lists.{tabulate-lt}
 use Rattle.fields.proofs.Xor.{xor-shifted}
-use Rattle.words.specs.Places.{at, every, allBelow, bitOf, numberOf, bitAt, horner}
+use Rattle.fields.proofs.Places.Tests.{every-false, below-at, below-all}
+use Rattle.words.specs.Bits.{bitOf, numberOf, bitAt}
 use Rattle.words.specs.OuterCode.{isOuter, generator, divided, outerParity}
 use Rattle.words.specs.SixSymbols.{joined, joinedFrom, six, Packs, sixParity}
-use Rattle.words.proofs.Places.Bytes.{bitAt-lt, number-of-bits}
-use Rattle.words.proofs.Places.Numbers.{numberOf-lt, numberOf-same, number-parts}
-use Rattle.words.proofs.Places.Tests.{every-false, below-at, below-all}
+use Rattle.words.proofs.Bits.Bytes.{bitAt-lt, number-of-bits}
+use Rattle.words.proofs.Bits.Numbers.{numberOf-lt, numberOf-same, number-parts}
 use Rattle.words.proofs.Codes.Packing.{divided-same, joined-same, parity-joined}
 use Rattle.words.proofs.Steps.Loops.{dividedUpTo}
 use Rattle.words.proofs.Steps.Joining.{register-high, packs-next, packs-remainder, outer-zero}

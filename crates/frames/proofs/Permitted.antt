@@ -8,12 +8,13 @@ use native.Mathlib.Decide.{decLe, decLt, ℕ-discrete}
 use native.Mathlib.Omega.{arith}
 use borrow.Author.Tests.{lt-ltb, eqb-true, eq-eqb}
 use lib.ListN.{length, getD}
+use Rattle.fields.specs.Places.{at, apart}
 use Rattle.fields.proofs.Lists.{tabulate-at}
-use Rattle.words.specs.Places.{at, bitOf, numberOf, apart}
+use Rattle.fields.proofs.Places.Tests.{below-all}
+use Rattle.words.specs.Bits.{bitOf, numberOf}
 use Rattle.words.specs.OuterCode.{isOuter}
 use Rattle.words.specs.Nearest.{nearest, Decodes}
-use Rattle.words.proofs.Places.Tests.{below-all}
-use Rattle.words.proofs.Places.Bytes.{number-of-bits}
+use Rattle.words.proofs.Bits.Bytes.{number-of-bits}
 use Rattle.words.proofs.Codes.OuterWords.{outer-is}
 use Rattle.words.proofs.Codes.Nearest.{nearest-lost, decodes}
 use Rattle.words.proofs.Codes.Proved.{codes}

@@ -9,21 +9,25 @@ use borrow.Author.Tests.{lt-ltb, le-ltb, eqb-true, eq-eqb}
 use lib.Dec.{lit<}
 use lib.ListN.{length, getD}
 use Rattle.fields.specs.Lists.{tabulate}
+use Rattle.fields.specs.Places.{at, apart}
 use Rattle.fields.proofs.Lists.{tabulate-at, tabulate-is, tabulate-length, tabulate-same, tabulate-append}
-use Rattle.words.specs.Places.{at, bitOf, numberOf, bitAt, apart}
+use Rattle.fields.proofs.Places.Tests.{tests-agree, every-at, every-true}
+use Rattle.fields.proofs.Places.Differences.{apart-self, apart-none}
+use Rattle.words.specs.Bits.{bitOf, numberOf, bitAt}
 use Rattle.words.specs.OuterCode.{isOuter, outerParity}
 use Rattle.words.specs.InnerCode.{isInner, innerParity}
-use Rattle.words.proofs.Places.Tests.{tests-agree, every-at, every-true}
-use Rattle.words.proofs.Places.Numbers.{bitOf-number, numberOf-bits, numberOf-lt, numberOf-same}
-use Rattle.words.proofs.Places.Bytes.{bitAt-lt}
+use Rattle.words.specs.InnerWords.{innerWord, parityPlace, withParity}
+use Rattle.words.proofs.Bits.Numbers.{bitOf-number, numberOf-bits, numberOf-lt, numberOf-same}
+use Rattle.words.proofs.Bits.Bytes.{bitAt-lt, bytes-same}
 use Rattle.words.proofs.Codes.OuterWords.{outer-is}
 use Rattle.words.proofs.Codes.Proved.{codes}
-use Rattle.frames.specs.Frames.{symbolAt, isBlock, dataIn, outerData, outerWord, outerWords, rowBit, rowPlace, sentBit, innerWord, parityPlace, withParity, frameOfWords, frameOf, payloadPlace, payloadOf}
+use Rattle.inner_words.specs.Passes.{innerCodes}
+use Rattle.inner_words.proofs.InterleavedBits.{data-same, code-places, parity-cases}
+use Rattle.frames.specs.Frames.{symbolAt, isBlock, dataIn, outerData, outerWord, outerWords, rowBit, rowPlace, sentBit, frameOfWords, frameOf, payloadPlace, payloadOf}
 use Rattle.frames.specs.Answers.{isFrame}
 use Rattle.frames.specs.Correction.{receivedBit, receivedSymbol, receivedWord}
-use Rattle.frames.specs.Received.{outerCodes, innerCodes}
-use Rattle.frames.proofs.Differences.{apart-self, apart-none}
-use Rattle.frames.proofs.FrameBits.{bytes-same, block-is, payload-past, payloadOf-length, payloadOf-bit, data-same, code-places, parity-cases, frame-length, frame-data, frame-inner, dataIn-last, dataIn-le, dataIn-is, outer-data-length, outer-word-length, outer-code, place-first, place-last, place-near, row-bit, payload-row}
+use Rattle.frames.specs.Received.{outerCodes}
+use Rattle.frames.proofs.FrameBits.{block-is, payload-past, payloadOf-length, payloadOf-bit, frame-length, frame-data, frame-inner, dataIn-last, dataIn-le, dataIn-is, outer-data-length, outer-word-length, outer-code, place-first, place-last, place-near, row-bit, payload-row}
 
 -- ---- reading the row
 

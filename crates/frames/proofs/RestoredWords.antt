@@ -10,24 +10,28 @@ use native.Mathlib.Omega.{arith}
 use borrow.Author.Tests.{eq-eqb}
 use lib.Dec.{eqb}
 use lib.ListN.{length, getD}
+use Rattle.fields.specs.Places.{apart}
 use Rattle.fields.proofs.Lists.{tabulate-at, tabulate-is, tabulate-length}
-use Rattle.words.specs.Places.{bitAt, apart}
+use Rattle.fields.proofs.Places.Tests.{every-at}
+use Rattle.fields.proofs.Places.Differences.{apart-self}
+use Rattle.words.specs.Bits.{bitAt}
 use Rattle.words.specs.OuterCode.{isOuter}
 use Rattle.words.specs.InnerCode.{isInner}
 use Rattle.words.specs.Nearest.{Decodes}
-use Rattle.words.proofs.Places.Tests.{every-at}
+use Rattle.words.specs.InnerWords.{innerWord, innerRestored, innerPass}
 use Rattle.words.proofs.Codes.OuterWords.{outer-is}
 use Rattle.words.proofs.Codes.InnerWords.{inner-is}
 use Rattle.words.proofs.Codes.Nearest.{nearest-lost}
 use Rattle.words.proofs.Codes.Proved.{codes}
-use Rattle.frames.specs.Frames.{isBlock, dataIn, outerWord, outerWords, innerWord, frameOfWords, frameOf, payloadOf}
-use Rattle.frames.specs.Correction.{innerRestored, innerPass, receivedWord, isPermitted, outerRestored, outerPass, restoredFrame, reportOf, total}
+use Rattle.inner_words.specs.Passes.{innerCodes}
+use Rattle.inner_words.proofs.InterleavedBits.{inner-word-length}
+use Rattle.inner_words.proofs.InnerPass.{restored-none, restored-some, restored-length}
+use Rattle.frames.specs.Frames.{isBlock, dataIn, outerWord, outerWords, frameOfWords, frameOf, payloadOf}
+use Rattle.frames.specs.Correction.{receivedWord, isPermitted, outerRestored, outerPass, restoredFrame, reportOf, total}
 use Rattle.frames.specs.Answers.{isFrame, Corrected, refused, reported, frameCorrected}
-use Rattle.frames.specs.Received.{outerCodes, innerCodes}
+use Rattle.frames.specs.Received.{outerCodes}
 use Rattle.frames.specs.Demands.{Uncorrectable, Restored}
-use Rattle.frames.proofs.Differences.{apart-self}
-use Rattle.frames.proofs.FrameBits.{inner-word-length, frame-block, frame-inner, dataIn-le, outer-word-length, payloadOf-length}
-use Rattle.frames.proofs.InnerPass.{restored-none, restored-some, restored-length}
+use Rattle.frames.proofs.FrameBits.{frame-block, frame-inner, dataIn-le, outer-word-length, payloadOf-length}
 use Rattle.frames.proofs.ReceivedWords.{received-length, received-words, received-own, code-words-frame, same-frame}
 use Rattle.frames.proofs.Options.{every-some, every-missing, every-none, every-all}
 use Rattle.frames.proofs.Permitted.{permitted-is, permitted-nearest, padded-row, payload-permitted}

@@ -6,17 +6,20 @@ use native.Mathlib.Decide.{decLt}
 use native.Mathlib.Omega.{arith}
 use lib.Bits.{bitAnd, and-high}
 use lib.ListN.{length, set}
+use Rattle.fields.specs.Places.{at}
+use Rattle.fields.specs.Buffers.{Placed}
 use Rattle.fields.proofs.Lists.{tabulate-same}
-use Rattle.words.specs.Places.{at, bitOf, numberOf, bitAt}
-use Rattle.words.proofs.Places.Bytes.{bitAt-lt}
-use Rattle.words.proofs.Places.Filling.{Filled, filled-start, filled-next, filled-end}
-use Rattle.words.proofs.Places.Numbers.{bitOf-lt, bitOf-number, numberOf-lt, numberOf-same}
+use Rattle.fields.proofs.Places.Filling.{Filled, filled-start, filled-next, filled-end}
+use Rattle.fields.proofs.Places.Placing.{Placing, placed-append}
+use Rattle.words.specs.Bits.{bitOf, numberOf, bitAt}
+use Rattle.words.proofs.Bits.Bytes.{bitAt-lt}
+use Rattle.words.proofs.Bits.Numbers.{bitOf-lt, bitOf-number, numberOf-lt, numberOf-same}
 use Rattle.frames.specs.Frames.{symbolAt, dataIn, outerData, rowPlace}
 use Rattle.frames.specs.Correction.{receivedSymbol}
 use Rattle.frames.specs.Received.{receivedRow}
-use Rattle.frames.specs.Symbols.{Placed, Sent, byteAt, numberAt, partsOf, symbolBit, symbolByte, dataPlace, dataSymbol, payloadByte, partFrom, payloadInRow, startOf, endOf}
+use Rattle.frames.specs.Symbols.{Sent, byteAt, numberAt, partsOf, symbolBit, symbolByte, dataPlace, dataSymbol, payloadByte, partFrom, payloadInRow, startOf, endOf}
 use Rattle.frames.proofs.FrameBits.{dataIn-is, place-first, place-last}
-use Rattle.frames.proofs.Placing.{Placing, placed-append, part-length, part-next, part-filled, part-append}
+use Rattle.frames.proofs.Parts.{part-length, part-next, part-filled, part-append}
 use Rattle.frames.proofs.ReceivedWords.{received-first, received-padding, received-last}
 use Rattle.frames.proofs.Windows.{byte-of-symbols}
 use Rattle.frames.proofs.Groups.{parts-length, parts-at}

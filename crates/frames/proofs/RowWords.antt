@@ -11,21 +11,24 @@ use lib.Dec.{eqb, lit<}
 use lib.ListN.{length, take, drop, length-drop}
 use lib.Seq.{getD-take, getD-drop, length-take-le}
 use Rattle.fields.specs.Lists.{tabulate}
+use Rattle.fields.specs.Places.{at, allBelow}
+use Rattle.fields.specs.Buffers.{Placed}
 use Rattle.fields.proofs.Lists.{tabulate-at, tabulate-is, tabulate-length, tabulate-lt, tabulate-same}
-use Rattle.words.specs.Places.{at, allBelow, bitOf, bitAt, bytesOf}
+use Rattle.fields.proofs.Places.Tests.{below-all}
+use Rattle.fields.proofs.Places.Placing.{placed-append}
+use Rattle.words.specs.Bits.{bitOf, bitAt, bytesOf}
 use Rattle.words.specs.OuterCode.{isOuter, outerParity}
 use Rattle.words.specs.Division.{outerRemainder}
 use Rattle.words.specs.SixSymbols.{Packs}
-use Rattle.words.proofs.Places.Tests.{below-all}
-use Rattle.words.proofs.Places.Bytes.{bitAt-lt}
+use Rattle.words.proofs.Bits.Bytes.{bitAt-lt, bits-same}
 use Rattle.words.proofs.Codes.Proved.{codes}
 use Rattle.words.proofs.Steps.Joining.{outer-zero}
 use Rattle.frames.specs.Frames.{dataIn, outerData, outerWord, outerWords, rowBit, rowPlace, sentBit, payloadPlace, payloadOf}
 use Rattle.frames.specs.Correction.{receivedSymbol, receivedWord}
 use Rattle.frames.specs.Received.{receivedRow}
-use Rattle.frames.specs.Symbols.{Placed, partFrom, InRow, rowWord, symbolBit, symbolByte, dataPlace, dataSymbol, payloadByte, payloadInRow}
-use Rattle.frames.proofs.Placing.{placed-append, part-length, part-at}
-use Rattle.frames.proofs.FrameBits.{bits-same, dataIn-le, dataIn-is, outer-data-length, outer-word-length, outer-data-below, place-near}
+use Rattle.frames.specs.Symbols.{partFrom, InRow, rowWord, symbolBit, symbolByte, dataPlace, dataSymbol, payloadByte, payloadInRow}
+use Rattle.frames.proofs.Parts.{part-length, part-at}
+use Rattle.frames.proofs.FrameBits.{dataIn-le, dataIn-is, outer-data-length, outer-word-length, outer-data-below, place-near}
 use Rattle.frames.proofs.ReceivedWords.{received-first, symbol-lt, symbol-bit}
 
 -- a part of a list, place by place

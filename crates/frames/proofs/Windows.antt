@@ -5,13 +5,14 @@ use Prim.Native.Nat.{ℕ, suc, _+_, _-_, _*_, _/_, _%_, _^_, _<_}
 use native.Mathlib.Decide.{decLt}
 use native.Mathlib.Nat.{mod-lt}
 use native.Mathlib.Omega.{arith}
-use mir.Syntax.{w8, w16, w32}
+use mir.Syntax.{w16, w32}
 use mir.Val.{Fits}
 use lib.Bits.{bitAnd, and-mask}
 use lib.Pow.{pow-pos, high, low, field, mod-mod-pow, shr-shr}
-use Rattle.words.specs.Places.{at, bitOf, bitAt}
-use Rattle.words.proofs.Places.Numbers.{bitOf-lt, numberOf-same}
-use Rattle.words.proofs.Places.Bytes.{number-of-bits}
+use Rattle.fields.specs.Places.{at}
+use Rattle.words.specs.Bits.{bitOf, bitAt}
+use Rattle.words.proofs.Bits.Numbers.{bitOf-lt, numberOf-same, masked-bit}
+use Rattle.words.proofs.Bits.Bytes.{number-of-bits}
 use Rattle.frames.specs.Frames.{symbolAt}
 use Rattle.frames.specs.Symbols.{byteAt, symbolBit, symbolByte}
 
@@ -42,24 +43,11 @@ module _ (m n x y i : ℕ) where
       ap (λ (s : ℕ). z / 2 ^ s % 2) e ∙ sym (bit-rest n z i l)
       ∙ ap (λ (s : ℕ). bitOf n s i) (low x n (mod-lt y (pow-pos n))) ∙ bit-rest n y i l
 
--- what a mask leaves fits
-pub one-fit : (x : ℕ) → Fits w8 (bitAnd x 1)
-one-fit x = record { fits = omega (arith, and-mask x 1) }
-
 pub ten-fit : (x : ℕ) → Fits w16 (bitAnd x 1023)
 ten-fit x = record { fits = omega (arith, and-mask x 10) }
 
-pub eight-fit : (x : ℕ) → Fits w8 (bitAnd x 255)
-eight-fit x = record { fits = omega (arith, and-mask x 8) }
-
 pub twenty-fit : (x y : ℕ) → x < 65536 → Fits w32 (x * 2 ^ 10 % 2 ^ 32 + bitAnd y 1023)
 twenty-fit x y h = record { fits = omega (arith, and-mask y 10) }
-
--- ---- one bit, by a shift and a mask
-
-pub masked-bit : (n x k s : ℕ) → s ≡ n - suc k → bitAnd (x / 2 ^ s) 1 ≡ bitOf n x k
-unfolding bitOf
-masked-bit n x k s e = and-mask (x / 2 ^ s) 1 ∙ ap (λ (j : ℕ). x / 2 ^ j % 2) e
 
 pub bit-read : (bytes : List ℕ) (i a : ℕ) → a ≡ at bytes (i / 8) →
     (bitAnd (a / 2 ^ (7 - i % 8)) 1 ≡ bitAt bytes i) × (bitAnd (a / 2 ^ (7 - i % 8)) 1 < 2)

@@ -9,18 +9,20 @@ use lib.Dec.{lit<}
 use lib.ListN.{length}
 use Rattle.fields.specs.Elements.{doubled, timesA}
 use Rattle.fields.specs.Lists.{tabulate}
+use Rattle.fields.specs.Places.{at, allBelow}
 use Rattle.fields.proofs.Doubling.{doubled-sum}
 use Rattle.fields.proofs.Instances.{field-a}
 use Rattle.fields.proofs.Lists.{tabulate-length, tabulate-lt}
-use Rattle.words.specs.Places.{at, allBelow, bitOf, bitAt}
+use Rattle.fields.proofs.Places.Tests.{below-all, every-true}
+use Rattle.words.specs.Bits.{bitOf, bitAt}
 use Rattle.words.specs.OuterCode.{powerA, outerValue, isOuter}
 use Rattle.words.specs.InnerCode.{divisor, isInner}
-use Rattle.words.proofs.Places.Tests.{below-all, every-true}
-use Rattle.words.proofs.Places.Numbers.{bitOf-zero, numberOf-bits, numberOf-same}
+use Rattle.words.specs.InnerWords.{innerWord}
+use Rattle.words.proofs.Bits.Numbers.{bitOf-zero, numberOf-bits, numberOf-same}
 use Rattle.words.proofs.Codes.Horner.{horner-zero}
-use Rattle.frames.specs.Frames.{symbolAt, isBlock, dataIn, innerWord, frameOf, payloadPlace, payloadOf}
+use Rattle.words.proofs.Bits.Bytes.{bytes-same}
+use Rattle.frames.specs.Frames.{symbolAt, isBlock, dataIn, frameOf, payloadPlace, payloadOf}
 use Rattle.frames.specs.Correction.{receivedBit, receivedSymbol, receivedWord}
-use Rattle.frames.proofs.FrameBits.{bytes-same}
 use Rattle.frames.proofs.ReceivedWords.{received-cases, code-words-frame}
 
 -- zero in every place, past the end too

@@ -6,7 +6,7 @@ use Prim.Native.Nat.{ℕ}
 use lib.Dec.{eqb}
 use lib.ListN.{length}
 use Rattle.fields.specs.Lists.{tabulate}
-use Rattle.words.specs.Places.{apart}
+use Rattle.fields.specs.Places.{apart}
 use Rattle.words.specs.Answers.{unless, answered}
 use Rattle.frames.specs.Frames.{frameOf, payloadOf}
 use Rattle.frames.specs.Correction.{restoredFrame, reportOf, total}

@@ -5,9 +5,11 @@ use mathlib.Core.List.{List, [], _∷_}
 use Prim.Native.Nat.{ℕ}
 use lib.ListN.{replicate}
 use Rattle.fields.specs.Elements.{timesA, timesB}
-use Rattle.words.specs.Places.{at, bitAt}
+use Rattle.fields.specs.Places.{at}
+use Rattle.words.specs.Bits.{bitAt}
 use Rattle.words.specs.InnerCode.{innerParity}
-use Rattle.frames.specs.Frames.{isPayload, innerData, frameOf}
+use Rattle.words.specs.InnerWords.{innerData}
+use Rattle.frames.specs.Frames.{isPayload, frameOf}
 
 pub data Row : Type 0 where
   product-a : ℕ → ℕ → ℕ → Row

@@ -2,23 +2,17 @@
 -- in Frames.
 use mathlib.Core.Bool.{Bool, _&&_, _||_, cond}
 use mathlib.Core.List.{List, [], _∷_}
-use mathlib.Core.Option.{Option, none, some, Option·getD, Option·map}
-use Prim.Native.Nat.{ℕ, _+_, _-_, _*_, _/_, _%_}
+use mathlib.Core.Option.{Option, none, some, Option·map}
+use Prim.Native.Nat.{ℕ, _+_, _-_, _*_, _%_}
 use lib.Dec.{eqb, ltb}
 use lib.ListN.{length}
 use Rattle.fields.specs.Lists.{tabulate}
-use Rattle.words.specs.Places.{at, bitAt, sumTo, apart}
+use Rattle.fields.specs.Places.{at, sumTo, apart}
+use Rattle.words.specs.Bits.{bitAt}
 use Rattle.words.specs.OuterCode.{isOuter}
-use Rattle.words.specs.InnerCode.{isInner}
 use Rattle.words.specs.Nearest.{nearest}
-use Rattle.frames.specs.Frames.{dataIn, symbolAt, innerWord, frameOfWords}
-
--- inner pass: a word with an inner code word within eight places becomes that code word; any other is left as received
-unfoldable pub innerRestored : List ℕ → List ℕ
-innerRestored w = Option·getD (nearest isInner 2 8 w) w
-
-unfoldable pub innerPass : (ℕ → ℕ) → ℕ → ℕ
-innerPass b i = at (innerRestored (innerWord b (i % 64))) (i / 64)
+use Rattle.words.specs.InnerWords.{innerWord, innerPass}
+use Rattle.frames.specs.Frames.{dataIn, symbolAt, frameOfWords}
 
 -- bit r of the row of outer words; the two padding bits, which are not sent, count as zeros
 unfoldable pub receivedBit : (ℕ → ℕ) → ℕ → ℕ

@@ -7,11 +7,13 @@ use Prim.Native.Nat.{ℕ, _+_, _*_, _%_, _≤_, _<_, min}
 use lib.ListN.{length, getD}
 use Rattle.fields.specs.Lists.{tabulate}
 use Rattle.fields.specs.Field.{Field}
-use Rattle.words.specs.Places.{bitAt, sumTo, differs, apart}
+use Rattle.fields.specs.Places.{sumTo, differs, apart}
+use Rattle.words.specs.Bits.{bitAt}
 use Rattle.words.specs.InnerCode.{isInner}
 use Rattle.words.specs.Codes.{Codes}
-use Rattle.frames.specs.Frames.{isPayload, isBlock, dataIn, innerWord, frameOfWords, frameOf, wrongBits}
-use Rattle.frames.specs.Correction.{innerPass, receivedBit, receivedWord, isPermitted, reportOf, total}
+use Rattle.words.specs.InnerWords.{innerWord, innerPass}
+use Rattle.frames.specs.Frames.{isPayload, isBlock, dataIn, frameOfWords, frameOf, wrongBits}
+use Rattle.frames.specs.Correction.{receivedBit, receivedWord, isPermitted, reportOf, total}
 use Rattle.frames.specs.Answers.{isFrame, refused, frameCorrected}
 use Rattle.frames.specs.FrameLaws.{FrameLaws}
 

@@ -3,10 +3,12 @@ use mathlib.Core.Path.{_≡_}
 use mathlib.Core.Bool.{true}
 use mathlib.Core.List.{List}
 use Prim.Native.Nat.{ℕ, _+_, _*_, _/_, _%_, _<_}
-use Rattle.words.specs.Places.{at, bitAt}
+use Rattle.fields.specs.Places.{at}
+use Rattle.words.specs.Bits.{bitAt}
 use Rattle.words.specs.OuterCode.{isOuter}
 use Rattle.words.specs.InnerCode.{isInner, innerParity}
-use Rattle.frames.specs.Frames.{isPayload, isBlock, outerWord, innerData, innerWord, parityPlace, frameOf, payloadPlace, payloadOf}
+use Rattle.words.specs.InnerWords.{innerData, innerWord, parityPlace}
+use Rattle.frames.specs.Frames.{isPayload, isBlock, outerWord, frameOf, payloadPlace, payloadOf}
 use Rattle.frames.specs.Answers.{isFrame}
 use Rattle.frames.specs.BenchRows.{AllHold, benchRows}
 

@@ -2,13 +2,14 @@
 -- Frame bits are given by a function b: bit i is b i. Bytes are lists, and `bitAt` reads their bits, the first bit of a byte its highest.
 use mathlib.Core.Bool.{Bool, _&&_, cond}
 use mathlib.Core.List.{List, [], _++_}
-use Prim.Native.Nat.{ℕ, _+_, _-_, _*_, _/_, _%_}
+use Prim.Native.Nat.{ℕ, _+_, _*_, _/_, _%_}
 use lib.Dec.{eqb, ltb}
 use lib.ListN.{length, getD}
 use Rattle.fields.specs.Lists.{tabulate}
-use Rattle.words.specs.Places.{at, allBelow, bitOf, numberOf, bitAt, bytesOf, sumTo, differs}
+use Rattle.fields.specs.Places.{at, allBelow, sumTo, differs}
+use Rattle.words.specs.Bits.{bitOf, numberOf, bitAt, bytesOf}
 use Rattle.words.specs.OuterCode.{outerParity}
-use Rattle.words.specs.InnerCode.{innerParity}
+use Rattle.words.specs.InnerWords.{withParity}
 
 -- a payload is 15,296 bytes, a block 16,320
 unfoldable pub isPayload : List ℕ → Bool
@@ -46,21 +47,6 @@ rowPlace i = cond (ltb i 124768) i (i + 2)
 
 unfoldable pub sentBit : List (List ℕ) → ℕ → ℕ
 sentBit words i = rowBit words (rowPlace i)
-
--- frame bit 64 p + k is place p of inner word k: 1,952 data places, and with the parity places 2,040
-unfoldable pub innerData : (ℕ → ℕ) → ℕ → List ℕ
-innerData b k = tabulate 1952 (λ p. b (64 * p + k))
-
-unfoldable pub innerWord : (ℕ → ℕ) → ℕ → List ℕ
-innerWord b k = tabulate 2040 (λ p. b (64 * p + k))
-
--- parity bit p of inner word k stands at frame bit 124,928 + 64 p + k
-unfoldable pub parityPlace : ℕ → ℕ → ℕ
-parityPlace p k = 124928 + 64 * p + k
-
--- the bits b below 124,928, and after them the parity bits of their inner words
-unfoldable pub withParity : (ℕ → ℕ) → ℕ → ℕ
-withParity b i = cond (ltb i 124928) (b i) (at (innerParity (innerData b (i % 64))) (i / 64 - 1952))
 
 -- the frame of sixteen outer words, and of a payload
 unfoldable pub frameOfWords : List (List ℕ) → List ℕ

@@ -8,9 +8,4 @@ pub mod Demands
 -- what the functions below the entries give
 pub mod Received
 pub mod Symbols
-pub mod SideBySide
-pub mod InnerResidues
-pub mod ParityMatrix
 pub mod Passes
-pub mod Proposals
-pub mod LaneSteps

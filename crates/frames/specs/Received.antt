@@ -4,10 +4,8 @@ use mathlib.Core.List.{List}
 use Prim.Native.Nat.{ℕ}
 use Rattle.fields.specs.Lists.{tabulate}
 use Rattle.fields.specs.Elements.{timesA}
-use Rattle.words.specs.Places.{at, every}
+use Rattle.fields.specs.Places.{at, every}
 use Rattle.words.specs.OuterCode.{generator, divided, isOuter}
-use Rattle.words.specs.InnerCode.{isInner}
-use Rattle.frames.specs.Frames.{innerWord}
 use Rattle.frames.specs.Correction.{receivedSymbol, receivedWord}
 
 -- the row
@@ -21,6 +19,3 @@ dividedTo b w n = divided timesA 16 (at generator) (at (receivedWord b w)) n
 -- each outer word, and each inner word, is a code word
 unfoldable pub outerCodes : (ℕ → ℕ) → Bool
 outerCodes b = every 16 (λ w. isOuter (receivedWord b w))
-
-unfoldable pub innerCodes : (ℕ → ℕ) → Bool
-innerCodes b = every 64 (λ k. isInner (innerWord b k))

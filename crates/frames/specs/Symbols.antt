@@ -1,10 +1,11 @@
 -- What the functions on bits and on the row of outer words give.
 use mathlib.Core.Path.{_≡_}
 use mathlib.Core.List.{List, []}
-use Prim.Native.Nat.{ℕ, _+_, _*_, _/_, _%_, _≤_, _<_}
+use Prim.Native.Nat.{ℕ, _+_, _*_, _/_, _%_, _<_}
 use lib.ListN.{length, getD}
 use Rattle.fields.specs.Lists.{tabulate}
-use Rattle.words.specs.Places.{at, bitOf, numberOf, bitAt}
+use Rattle.fields.specs.Places.{at}
+use Rattle.words.specs.Bits.{bitOf, numberOf, bitAt}
 use Rattle.frames.specs.Frames.{dataIn, rowPlace}
 
 -- the byte that eight of the twenty bits of two symbols make, from bit i on
@@ -17,13 +18,6 @@ numberAt n b i = numberOf n (λ j. b (i + j))
 
 unfoldable pub partsOf : ℕ → ℕ → (ℕ → ℕ) → ℕ → List ℕ
 partsOf n m b i = tabulate m (λ s. numberAt n b (i + n * s))
-
--- the list xs stands in a buffer from place i on, and the other places are as they were
-pub record Placed (i : ℕ) (xs before after : List ℕ) : Type 0 where
-  pub long : length after ≡ length before
-  pub inside : (j : ℕ) → j < length xs → at after (i + j) ≡ at xs j
-  pub below : (j : ℕ) → j < i → at after j ≡ at before j
-  pub above : (j : ℕ) → i + length xs ≤ j → at after j ≡ at before j
 
 -- n of the numbers f 0, f 1, .., from f k on
 unfoldable pub partFrom : (ℕ → ℕ) → ℕ → ℕ → List ℕ

@@ -1,7 +1,7 @@
 // Frames of G.975.1, appendix I.4: the frame of a payload, whether a block is a frame, the payload of a frame, and the frame restored from a received block.
 //
 //     encode   the payload's bits, ten to a symbol, make sixteen outer words with their parity symbols, which stand in a row (module outer_words); the row's
-//              bits, but for the two padding bits, are the frame's first bytes; the parity bits of the 64 inner words follow (module inner_words)
+//              bits, but for the two padding bits, are the frame's first bytes; the parity bits of the 64 inner words follow (crate inner_words)
 //     check    a frame is a block whose outer words (module outer_test) and inner words are all code words
 //     extract  after the same test, the block's bytes make the row again, and its data symbols are the payload
 //     correct  inner pass: the inner words of a copy of the block that are no code words become the code words within eight places, those that have none
@@ -12,29 +12,25 @@
 // Every input is answered: an entry returns 0, or the number of the refusal; a refusal leaves the output buffer as it was. Where there is more than one
 // fault, the order is 1 (length of the payload) or 2 (length of the block), 3 (size of the output buffer), then 4 (no frame) or 5
 // (uncorrectable).
-use words::bch;
+use decoding::symbols;
+use inner_words::Interleaved;
 ghost use mathlib.Core.Path.{_≡_};
 ghost use mathlib.Core.Bool.{true, _&&_};
 ghost use mathlib.Core.Option.{Option·map};
 ghost use lib.ListN.{length};
-ghost use Rattle.words.specs.Places.{bitAt};
+ghost use Rattle.words.specs.Bits.{bitAt};
+ghost use Rattle.inner_words.specs.Passes.{innerCodes};
 ghost use Rattle.frames.specs.Frames.{frameOfWords};
 ghost use Rattle.frames.specs.Correction.{outerPass};
-ghost use Rattle.frames.specs.Received.{outerCodes, innerCodes};
+ghost use Rattle.frames.specs.Received.{outerCodes};
 ghost use Rattle.frames.specs.Passes.{written};
 ghost use Rattle.frames.specs.Answers.{frameEncoded, frameChecked, payloadExtracted, noCounts, frameCorrected};
 
 mod bits;
 pub mod c_entries;
 mod comparison;
-mod inner_words;
 mod outer_test;
 mod outer_words;
-mod parity;
-mod parity_rows;
-mod proposals;
-mod residues;
-mod side_by_side;
 
 // The frame and its parts.
 pub struct Frame;
@@ -60,17 +56,12 @@ impl Frame {
 
     pub const PAYLOAD_BYTES: usize = 15_296;
 
-    // Inner words: as many as a number has bits, so that eight bytes hold one place of them all.
-    pub const INNER_WORDS: usize = 64;
+    pub const INNER_WORDS: usize = Interleaved::WORDS;
 
-    pub const PLACE_BYTES: usize = Frame::INNER_WORDS / 8;
+    // The bytes of the data places of all inner words, and of all their places.
+    pub const DATA_BYTES: usize = Interleaved::DATA_BYTES;
 
-    // Data places of an inner word, and the bytes of all of them.
-    pub const DATA_PLACES: usize = words::Inner::PLACES - words::Inner::PARITY;
-
-    pub const DATA_BYTES: usize = Frame::PLACE_BYTES * Frame::DATA_PLACES;
-
-    pub const BYTES: usize = Frame::PLACE_BYTES * words::Inner::PLACES;
+    pub const BYTES: usize = Interleaved::BYTES;
 }
 
 // Writes the frame of the payload and returns 0; 1 or 3.
@@ -158,7 +149,7 @@ fn outer_pass(passed: &[u8], inner: bool, out: &mut [u8]) -> bool
 {
     if inner {
         if outer_test::are_code_words(passed) {
-            bch::copy(passed, out);
+            symbols::copy_bytes(passed, out);
             return true;
         }
     }
@@ -182,7 +173,7 @@ pub fn correct_frame(block: &[u8], out: &mut [u8]) -> Report
         return refused(3);
     }
     let mut passed = inner_words::blank();
-    bch::copy(block, &mut passed);
+    symbols::copy_bytes(block, &mut passed);
     let inner = inner_words::correct(&mut passed);
     if !outer_pass(&passed, inner, out) {
         return refused(5);

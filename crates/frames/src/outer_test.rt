@@ -8,7 +8,7 @@ ghost use mathlib.Core.Path.{_≡_};
 ghost use mathlib.Core.Bool.{_&&_};
 ghost use Prim.Native.Nat.{_+_, _^_, _≤_, _<_};
 ghost use lib.ListN.{length};
-ghost use Rattle.words.specs.Places.{bitAt};
+ghost use Rattle.words.specs.Bits.{bitAt};
 ghost use Rattle.words.specs.OuterCode.{isOuter};
 ghost use Rattle.words.specs.SixSymbols.{joinedFrom, Packs, parities};
 ghost use Rattle.frames.specs.Frames.{dataIn};

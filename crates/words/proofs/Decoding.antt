@@ -1,16 +1,4 @@
--- The decoder: a polynomial that annihilates the syndromes, its roots, the values of the errors there; that up to eight errors are found, and that what
--- is found is the nearest code word.
-pub mod Elimination
-pub mod RootPlaces
-pub mod Search
-pub mod LinearRoot
-pub mod RowSearch
-pub mod RowSums
-pub mod Values
-pub mod Changes
-pub mod Completeness
-pub mod Uniqueness
-pub mod Flips
+-- What the decoder finds for a word of each code is the nearest code word.
 pub mod Outer
 pub mod InnerSyndromes
 pub mod Inner

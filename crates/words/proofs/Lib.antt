@@ -1,6 +1,5 @@
 -- Laws of this crate that belong to no one function, in the order in which they rest on each other.
-pub mod Places
-pub mod Algebra
+pub mod Bits
 pub mod Codes
 pub mod Decoding
 pub mod Steps

@@ -6,14 +6,6 @@ pub mod Shifting
 pub mod Limbs
 pub mod LimbProducts
 pub mod FourPlaces
-pub mod Rows
-pub mod Massey
-pub mod Search
-pub mod RootsFound
-pub mod Errors
-pub mod Flips
-pub mod RowSearch
-pub mod RowRoots
 pub mod Inner
 pub mod Refusals
 pub mod Entries

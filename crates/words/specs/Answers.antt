@@ -5,9 +5,10 @@ use mathlib.Core.Option.{Option, none, some}
 use Prim.Native.Nat.{ℕ}
 use lib.Dec.{eqb, leb}
 use lib.ListN.{length}
+use Rattle.fields.specs.Places.{at, allBelow, apart}
 use Rattle.words.specs.declared.Correction.{Correction}
 use Rattle.words.specs.declared.Correction.the-variants.{Corrected, Refused}
-use Rattle.words.specs.Places.{at, allBelow, bitsOf, bytesOf, apart}
+use Rattle.words.specs.Bits.{bitsOf, bytesOf}
 use Rattle.words.specs.OuterCode.{isOuter, outerParity}
 use Rattle.words.specs.InnerCode.{isInner, innerParity}
 use Rattle.words.specs.Nearest.{nearest}
@@ -46,7 +47,7 @@ innerChecked w = firstOf (refusal (eqb (length w) 255) true true) (unless (isInn
 unfoldable pub innerEncoded : List ℕ → List ℕ → ℕ × List ℕ
 innerEncoded d buffer = answered (refusal (eqb (length d) 244) (eqb (length buffer) 11) true) (bytesOf 11 (at (innerParity (bitsOf d)))) buffer
 
--- a correction's number, 0 or the refusal's, and how many symbols or places it changed
+-- document 01's numbers for each case of a correction's answer: 0 or the refusal's number, and how many symbols or places were changed
 abbrev pub refusalOf : Correction → ℕ
 refusalOf (Corrected changed) = 0
 refusalOf (Refused number) = number
@@ -55,23 +56,23 @@ abbrev pub changedOf : Correction → ℕ
 changedOf (Corrected changed) = changed
 changedOf (Refused number) = 0
 
--- the answer for the word w: the code word that was found, as the buffer's content; or 5, none within the radius ("beyond reach")
-unfoldable pub found : (List ℕ → List ℕ) → List ℕ → List ℕ → Option (List ℕ) → ℕ × ℕ × List ℕ
-found content w buffer none = (5, 0, buffer)
-found content w buffer (some c) = (0, apart w c, content c)
+-- the answer for the word w, and the buffer: the code word that was found, with the number of changes; or refusal 5, none within the radius ("beyond reach")
+unfoldable pub found : (List ℕ → List ℕ) → List ℕ → List ℕ → Option (List ℕ) → Correction × List ℕ
+found content w buffer none = (Refused 5, buffer)
+found content w buffer (some c) = (Corrected (apart w c), content c)
 
 -- the refusal n, if it is not 0; else the answer
-unfoldable pub corrected : ℕ → List ℕ → ℕ × ℕ × List ℕ → ℕ × ℕ × List ℕ
-corrected n buffer answer = cond (eqb n 0) answer (n, 0, buffer)
+unfoldable pub corrected : ℕ → List ℕ → Correction × List ℕ → Correction × List ℕ
+corrected n buffer answer = cond (eqb n 0) answer (Refused n, buffer)
 
--- number, changes and buffer: the outer code word within eight symbols
-unfoldable pub outerCorrected : List ℕ → List ℕ → ℕ × ℕ × List ℕ
+-- the outer code word within eight symbols
+unfoldable pub outerCorrected : List ℕ → List ℕ → Correction × List ℕ
 outerCorrected w buffer =
     corrected (refusal (within 17 1023 (length w)) (eqb (length buffer) (length w)) (allBelow 1024 w)) buffer
     (found (λ c. c) w buffer (nearest isOuter 1024 8 w))
 
 -- the inner code word within eight places
-unfoldable pub innerCorrected : List ℕ → List ℕ → ℕ × ℕ × List ℕ
+unfoldable pub innerCorrected : List ℕ → List ℕ → Correction × List ℕ
 innerCorrected w buffer =
     corrected (refusal (eqb (length w) 255) (eqb (length buffer) 255) true) buffer
     (found (λ c. bytesOf 255 (at c)) (bitsOf w) buffer (nearest isInner 2 8 (bitsOf w)))

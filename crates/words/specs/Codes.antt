@@ -4,7 +4,7 @@ use mathlib.Core.Bool.{true}
 use mathlib.Core.List.{List, _++_}
 use Prim.Native.Nat.{ℕ, _+_, _*_, _≤_, _<_}
 use lib.ListN.{length}
-use Rattle.words.specs.Places.{at, allBelow, apart}
+use Rattle.fields.specs.Places.{at, allBelow, apart}
 use Rattle.words.specs.OuterCode.{isOuter, outerParity}
 use Rattle.words.specs.InnerCode.{valueB, factors, isInner, innerParity}
 use Rattle.words.specs.Nearest.{Decodes}

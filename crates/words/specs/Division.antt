@@ -4,7 +4,7 @@ use Prim.Native.Nat.{ℕ, suc, _+_, _-_, _*_, _/_, _%_}
 use lib.ListN.{length, take}
 use Rattle.fields.specs.Lists.{tabulate}
 use Rattle.fields.specs.Elements.{xor, timesA}
-use Rattle.words.specs.Places.{at}
+use Rattle.fields.specs.Places.{at}
 use Rattle.words.specs.OuterCode.{generator, outerParity}
 
 -- sixteen symbols for each digit k below 32: unit times k times the generator, without the leading coefficient

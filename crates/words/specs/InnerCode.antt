@@ -7,7 +7,8 @@ use lib.Dec.{eqb}
 use lib.ListN.{length}
 use Rattle.fields.specs.Lists.{tabulate}
 use Rattle.fields.specs.Elements.{xor, scale, doubled, power, timesB}
-use Rattle.words.specs.Places.{at, allBelow, bitOf, horner}
+use Rattle.fields.specs.Places.{at, allBelow, horner}
+use Rattle.words.specs.Bits.{bitOf}
 
 -- the binary polynomial r of degree below n at the point that f multiplies by, times y
 unfoldable pub valueOf : (ℕ → ℕ) → ℕ → ℕ → ℕ → ℕ

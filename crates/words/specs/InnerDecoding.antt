@@ -8,9 +8,10 @@ use lib.ListN.{length}
 use Rattle.fields.specs.Lists.{tabulate}
 use Rattle.fields.specs.Elements.{xor, powersB, exponentsB}
 use Rattle.fields.specs.ByTables.{tableProduct, tablePower}
-use Rattle.words.specs.Places.{at, every, allBelow, bitOf, bitAt, differs}
+use Rattle.fields.specs.Places.{at, every, allBelow, differs}
+use Rattle.decoding.specs.Decoder.{locator, xorTo, Decoded}
+use Rattle.words.specs.Bits.{bitOf, bitAt}
 use Rattle.words.specs.InnerCode.{divisor, remainder}
-use Rattle.words.specs.Decoder.{locator, xorTo, Decoded}
 
 -- the value at a^e of the binary polynomial r of degree below 88, over a lent field: the sum of a^(e i) over its coefficients i that are 1
 unfoldable pub powersValue : List ℕ → ℕ → ℕ → ℕ

@@ -4,7 +4,7 @@ use mathlib.Core.List.{List}
 use Prim.Native.Nat.{ℕ, _+_, _*_, _^_, _<_}
 use lib.ListN.{length, getD}
 use Rattle.words.specs.declared.bch.Polynomial.{Polynomial}
-use Rattle.words.specs.Places.{bitOf}
+use Rattle.words.specs.Bits.{bitOf}
 use Rattle.words.specs.InnerCode.{remainder}
 
 unfoldable pub number : ℕ → ℕ → ℕ

@@ -6,7 +6,7 @@ use mathlib.Core.Option.{Option, none, some}
 use Prim.Native.Nat.{ℕ, zero, suc, _≤_, _<_}
 use lib.Dec.{leb}
 use lib.ListN.{length}
-use Rattle.words.specs.Places.{apart}
+use Rattle.fields.specs.Places.{apart}
 
 -- the first answer of two, of f 0, .. f (q - 1), and of f at the words of n symbols below q
 unfoldable pub orElse : {A : Type 0} → Option A → Option A → Option A

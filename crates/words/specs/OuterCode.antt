@@ -6,7 +6,7 @@ use lib.Dec.{eqb}
 use lib.ListN.{length}
 use Rattle.fields.specs.Lists.{tabulate}
 use Rattle.fields.specs.Elements.{xor, power, timesA}
-use Rattle.words.specs.Places.{at, every, allBelow, value}
+use Rattle.fields.specs.Places.{at, every, allBelow, value}
 
 -- a to the i-th in field A
 abbrev pub powerA : ℕ → ℕ

@@ -5,7 +5,7 @@ use Prim.Native.Nat.{ℕ, zero, suc, _+_, _-_, _*_, _/_, _%_, _^_, _<_}
 use lib.ListN.{length}
 use Rattle.fields.specs.Lists.{tabulate}
 use Rattle.fields.specs.Elements.{timesA}
-use Rattle.words.specs.Places.{at, horner}
+use Rattle.fields.specs.Places.{at, horner}
 use Rattle.words.specs.OuterCode.{generator, divided}
 
 -- the number that the n symbols b 0, b 1, .. are, the first the highest; that of n symbols of a word from place i on; and symbol i of six

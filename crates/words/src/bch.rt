@@ -1,22 +1,22 @@
-// Inner words: binary polynomials, the divisor that the eight factors make, the remainder of a word after division by it, and correction: the syndromes
-// from the remainder, the errors that explain them, and the places inverted. `copy`, `flip`, `errors_by_rows`, `explains` and `invert` are for the crates
-// above too.
+// Inner words: binary polynomials, the divisor that the eight factors make, the remainder of a word after division by it, and correction: the values of the
+// remainder give the wrong places (module wrong_places), which are inverted.
 use crate::Inner;
-use crate::decoder;
-use crate::decoder::Errors;
-use crate::reed_solomon;
+use crate::wrong_places;
+use crate::wrong_places::OddValues;
+use decoding::decoder;
+use decoding::decoder::Errors;
+use decoding::symbols;
 ghost use mathlib.Core.Path.{_≡_};
-ghost use mathlib.Core.Bool.{cond};
-ghost use Prim.Native.Nat.{ℕ, _+_, _*_, _/_, _%_, _^_, _≤_, _<_};
+ghost use Prim.Native.Nat.{_*_, _/_, _%_, _+_, _^_, _≤_, _<_};
 ghost use lib.ListN.{length};
 ghost use lib.Dec.{eqb};
 ghost use Rattle.fields.specs.Elements.{xor, scale, doubled, powersB, exponentsB};
-ghost use Rattle.words.specs.Places.{at, differs, bitAt, bitsOf, numberOf, bitOf, bytesOf};
+ghost use Rattle.fields.specs.Places.{at};
+ghost use Rattle.decoding.specs.Decoder.{withErrors};
+ghost use Rattle.words.specs.Bits.{bitAt, bitsOf, numberOf, bitOf, bytesOf};
 ghost use Rattle.words.specs.InnerCode.{valueOf, factors, divisor, remainder};
 ghost use Rattle.words.specs.Limbs.{number, Holds, residue, Residues};
-ghost use Rattle.words.specs.Decoder.{withErrors};
-ghost use Rattle.words.specs.RowSearch.{Rows};
-ghost use Rattle.words.specs.InnerDecoding.{oddValues, plusTerm, Syndromes, isBit, isBinary, flips, ErrorsOf, InnerErrors, inverted, explains};
+ghost use Rattle.words.specs.InnerDecoding.{oddValues, plusTerm, flips, InnerErrors};
 
 // Coefficients below z^48, the low ones, stand in one number, the others in another.
 const LOW_BITS: usize = 48;
@@ -100,7 +100,7 @@ fn times(f: u16, v: Polynomial) -> Polynomial
 }
 
 // The product of the eight factors, of degree 88.
-pub fn divisor() -> Polynomial
+pub(crate) fn divisor() -> Polynomial
     ensures { λ r. ⌜ Holds (r .high) (r .low) divisor ⌝ }
 {
     let mut d = constant(1);
@@ -195,7 +195,7 @@ fn four_places(bytes: &[u8], i: usize) -> u8
 
 // The remainder of 2,040 places after division by the divisor d; places past the end of the bytes are 0. It takes four places a step, and so a
 // quarter of the steps: for the terms that come to z^88 and above, a step adds their remainder, which the table has.
-pub fn remainder(d: Polynomial, bytes: &[u8]) -> Polynomial
+pub(crate) fn remainder(d: Polynomial, bytes: &[u8]) -> Polynomial
     requires { ⌜ Holds (d .high) (d .low) divisor ⌝ }
     ensures { λ r. ⌜ Holds (r .high) (r .low) (remainder 88 divisor (bitAt (now (bytes .entry))) 2040) ⌝ }
 {
@@ -209,7 +209,7 @@ pub fn remainder(d: Polynomial, bytes: &[u8]) -> Polynomial
     v
 }
 
-pub fn is_zero(v: Polynomial) -> bool
+pub(crate) fn is_zero(v: Polynomial) -> bool
     ensures { λ r. ⌜ r ≡ eqb (number (v .high) (v .low)) 0 ⌝ }
 {
     if v.high == 0 { v.low == 0 } else { false }
@@ -228,7 +228,7 @@ fn byte(v: Polynomial, k: usize) -> u8
 }
 
 // Writes the 88 coefficients of v as eleven bytes.
-pub fn store(v: Polynomial, out: &mut [u8])
+pub(crate) fn store(v: Polynomial, out: &mut [u8])
     requires { ⌜ (v .low < 2 ^ 48) × (length (now out) ≡ 11) ⌝ }
     ensures { λ _. ⌜ now (out .exit) ≡ bytesOf 11 (bitOf 88 (number (v .high) (v .low))) ⌝ }
 {
@@ -251,11 +251,6 @@ fn coefficient(v: Polynomial, k: usize) -> u16
     ((v.high >> (shift - LOW_BITS)) % 2) as u16
 }
 
-// The values of a polynomial, or of a word, at a, a^3, .. a^15.
-pub struct OddValues {
-    pub at: [u16; decoder::RADIUS],
-}
-
 // The values w with those of the term c z^i added. A product by the bit c, not a branch on it: coefficients cannot be predicted.
 fn plus_term(exp: &[u16], w: OddValues, c: u16, i: usize) -> OddValues
     requires { ⌜ (c < 2) × (i < 88) ⌝ }
@@ -265,7 +260,7 @@ fn plus_term(exp: &[u16], w: OddValues, c: u16, i: usize) -> OddValues
     let mut j: usize = 0;
     while j < decoder::RADIUS {
         let x = fields::power(exp, (2 * (j as u16) + 1) * (i as u16));
-        at[j] = reed_solomon::sum(w.at[j], c * x);
+        at[j] = symbols::sum(w.at[j], c * x);
         j += 1;
     }
     OddValues { at }
@@ -287,134 +282,20 @@ fn odd_values(exp: &[u16], v: Polynomial) -> OddValues
     w
 }
 
-// The values of a word at a, a^2, .. a^16, from those at the odd powers: at the even powers they are squares.
-fn syndromes(exp: &[u16], log: &[u16], odd: OddValues) -> [u16; decoder::SYNDROMES]
-    ensures { λ r. ⌜ Syndromes (now (exp .entry)) (now (log .entry)) (odd .at) 8 r ⌝ }
-{
-    let mut t = [0u16; decoder::SYNDROMES];
-    let mut i: usize = 0;
-    while i < decoder::RADIUS {
-        t[2 * i] = odd.at[i];
-        t[2 * i + 1] = fields::product(exp, log, t[i], t[i]);
-        i += 1;
-    }
-    t
-}
-
-// The value of an error in a place, where a wrong place is one with the value 1: its locator, or 0 for none.
-fn is_bit(value: u16, x: u16) -> bool
-    ensures { λ r. ⌜ r ≡ isBit value x ⌝ }
-{
-    if value == 0 { true } else { value == x }
-}
-
-// Each error's value is that of a wrong place.
-fn is_binary(exp: &[u16], e: Errors) -> bool
-    requires { ⌜ e .places .count ≤ 8 ⌝ }
-    ensures { λ r. ⌜ r ≡ isBinary (now (exp .entry)) (e .places .at) (e .values) (e .places .count) ⌝ }
-{
-    let places = e.places;
-    let mut k: usize = 0;
-    while k < places.count {
-        let x = decoder::locator(exp, Inner::PLACES, places.at[k] as usize);
-        if !is_bit(e.values[k], x) {
-            return false;
-        }
-        k += 1;
-    }
-    true
-}
-
-// The errors in a word that has these values, which is a code word with at most eight places wrong only if they explain it.
-fn errors_of(exp: &[u16], log: &[u16], odd: OddValues) -> Errors
-    requires { ⌜ (now exp ≡ powersB) × (now log ≡ exponentsB) ⌝ }
-    ensures { λ r. ⌜ ErrorsOf (odd .at) (r .places .at) (r .values) (r .places .count) (r .left) ⌝ }
-{
-    let t = syndromes(exp, log, odd);
-    decoder::decode_bits(exp, log, t, Inner::PLACES)
-}
-
-// The same by rows of powers, which the caller lends from word to word.
-pub fn errors_by_rows(exp: &[u16], log: &[u16], rows: &mut [u16], odd: OddValues) -> Errors
-    requires { ⌜ (now exp ≡ powersB) × (now log ≡ exponentsB) × Rows (now exp) (now rows) ⌝ }
-    ensures errors { λ r. ⌜ ErrorsOf (odd .at) (r .places .at) (r .values) (r .places .count) (r .left) ⌝ }
-    ensures rows { λ _. ⌜ Rows (now (exp .entry)) (now (rows .exit)) ⌝ }
-{
-    let t = syndromes(exp, log, odd);
-    decoder::decode_bits_by_rows(exp, log, rows, t, Inner::PLACES)
-}
-
 // The errors in a word: the values of its remainder are those of the word.
-pub fn errors(exp: &[u16], log: &[u16], word: &[u8]) -> Errors
+pub(crate) fn errors(exp: &[u16], log: &[u16], word: &[u8]) -> Errors
     requires { ⌜ (now exp ≡ powersB) × (now log ≡ exponentsB) ⌝ }
     ensures { λ r. ⌜ InnerErrors (now (word .entry)) (r .places .at) (r .values) (r .places .count) (r .left) ⌝ }
 {
     let odd = odd_values(exp, remainder(divisor(), word));
-    errors_of(exp, log, odd)
-}
-
-// The errors leave nothing of the syndromes, and each has the value of a wrong place.
-pub fn explains(exp: &[u16], e: Errors) -> bool
-    requires { ⌜ e .places .count ≤ 8 ⌝ }
-    ensures { λ r. ⌜ r ≡ explains (now (exp .entry)) (e .places .at) (e .values) (e .places .count) (e .left) ⌝ }
-{
-    let left = e.left;
-    if reed_solomon::all_below(&left, 1) {
-        is_binary(exp, e)
-    } else {
-        false
-    }
-}
-
-pub fn copy(word: &[u8], out: &mut [u8])
-    requires { ⌜ length (now out) ≡ length (now word) ⌝ }
-    ensures { λ _. ⌜ now (out .exit) ≡ now (word .entry) ⌝ }
-{
-    let mut i = 0;
-    while i < word.len() {
-        out[i] = word[i];
-        i += 1;
-    }
-}
-
-// Inverts place i, if the value is not zero; a place past the end changes nothing.
-pub fn flip(out: &mut [u8], i: usize, value: u16)
-    ensures { λ _. ⌜ ((l : ℕ) → l < 8 * length (now (out .entry)) → bitAt (now (out .exit)) l ≡ xor (bitAt (now (out .entry)) l) (cond (eqb i l) (differs value 0) 0)) ⌝ }
-{
-    if value == 0 {
-        return;
-    }
-    if i / 8 < out.len() {
-        out[i / 8] = out[i / 8] ^ (128 >> (i % 8));
-    }
-}
-
-// The bit at which place i of a word stands.
-fn bit_place(step: usize, i: u16, first: usize) -> usize
-    requires { ⌜ (step ≤ 64) × (first < 64) ⌝ }
-    ensures { λ r. ⌜ r ≡ step * i + first ⌝ }
-{
-    step * (i as usize) + first
-}
-
-// Inverts the wrong places in bytes in which place i of the word stands at bit `step * i + first`.
-pub fn invert(e: Errors, step: usize, first: usize, out: &mut [u8])
-    requires { ⌜ (e .places .count ≤ 8) × (step ≤ 64) × (first < 64) ⌝ }
-    ensures { λ _. ⌜ ((l : ℕ) → l < 8 * length (now (out .entry)) → bitAt (now (out .exit)) l ≡ xor (bitAt (now (out .entry)) l) (inverted step first (e .places .at) (e .values) (e .places .count) l)) ⌝ }
-{
-    let places = e.places;
-    let mut k: usize = 0;
-    while k < places.count {
-        flip(out, bit_place(step, places.at[k], first), e.values[k]);
-        k += 1;
-    }
+    wrong_places::errors_of(exp, log, odd)
 }
 
 // Writes the word with the wrong places inverted.
-pub fn correct(word: &[u8], e: Errors, out: &mut [u8])
+pub(crate) fn correct(word: &[u8], e: Errors, out: &mut [u8])
     requires { ⌜ (length (now out) ≡ length (now word)) × (e .places .count ≤ 8) ⌝ }
     ensures { λ _. ⌜ bitsOf (now (out .exit)) ≡ withErrors (bitAt (now (word .entry))) (e .places .at) (flips (e .values)) (e .places .count) (8 * length (now (word .entry))) ⌝ }
 {
-    copy(word, out);
-    invert(e, 1, 0, out);
+    symbols::copy_bytes(word, out);
+    wrong_places::invert(e, 1, 0, out);
 }

@@ -2,13 +2,13 @@
 // of a low and a high digit of five bits, so a step adds a row of sixteen symbols for each digit, from two tables that are made once, and multiplies nothing.
 use crate::Outer;
 use crate::reed_solomon;
-use crate::reed_solomon::sum;
+use decoding::symbols::sum;
 ghost use mathlib.Core.Path.{_≡_};
 ghost use mathlib.Core.Bool.{true};
 ghost use Prim.Native.Nat.{_≤_, _<_};
 ghost use Rattle.fields.specs.Lists.{tabulate};
 ghost use Rattle.fields.specs.Elements.{timesA};
-ghost use Rattle.words.specs.Places.{at, allBelow};
+ghost use Rattle.fields.specs.Places.{at, allBelow};
 ghost use Rattle.words.specs.OuterCode.{generator, shiftedIn, outerParity};
 ghost use Rattle.words.specs.Division.{multiples};
 
@@ -36,14 +36,14 @@ fn multiples(unit: u16) -> [u16; CELLS]
 }
 
 // The multiples by the low digits.
-pub fn low_multiples() -> [u16; CELLS]
+pub(crate) fn low_multiples() -> [u16; CELLS]
     ensures { λ r. ⌜ r ≡ multiples 1 ⌝ }
 {
     multiples(1)
 }
 
 // The multiples by the high digits.
-pub fn high_multiples() -> [u16; CELLS]
+pub(crate) fn high_multiples() -> [u16; CELLS]
     ensures { λ r. ⌜ r ≡ multiples 32 ⌝ }
 {
     multiples(DIGITS)
@@ -57,7 +57,7 @@ pub struct Register {
 impl Register {
     const LAST: usize = Outer::PARITY - 1;
 
-    pub fn empty() -> Self
+    pub(crate) fn empty() -> Self
         ensures { λ r. ⌜ r .cells ≡ tabulate 16 (λ i. 0) ⌝ }
     {
         Register {
@@ -66,7 +66,7 @@ impl Register {
     }
 
     // The register after one more symbol.
-    pub fn next(mut self, low: &[u16], high: &[u16], s: u16) -> Self
+    pub(crate) fn next(mut self, low: &[u16], high: &[u16], s: u16) -> Self
         requires { ⌜ (now low ≡ multiples 1) × (now high ≡ multiples 32) ⌝ }
         requires { ⌜ (at (self .cells) 0 < 1024) × (s < 1024) ⌝ }
         ensures { λ r. ⌜ r .cells ≡ shiftedIn timesA 16 (at generator) (self .cells) s ⌝ }
@@ -85,7 +85,7 @@ impl Register {
 }
 
 // The register after all symbols of data: the parity symbols.
-pub fn divide(low: &[u16], high: &[u16], data: &[u16]) -> Register
+pub(crate) fn divide(low: &[u16], high: &[u16], data: &[u16]) -> Register
     requires { ⌜ (now low ≡ multiples 1) × (now high ≡ multiples 32) ⌝ }
     requires { ⌜ allBelow 1024 (now «data») ≡ true ⌝ }
     ensures { λ r. ⌜ r .cells ≡ outerParity (now («data» .entry)) ⌝ }

@@ -1,27 +1,30 @@
 // Single words of the two codes of an I.4 frame: whether a word is a code word, the parity that completes data to one, and the code word within eight
 // symbols or places of a word.
 //
-// Outer words (modules reed_solomon, division and packed), Reed-Solomon over field A, lent as 16-bit symbols:
+// Outer words (modules reed_solomon, division, packed and corrector), Reed-Solomon over field A, lent as 16-bit symbols:
 //     check    length and symbols, then the word's values at the sixteen roots, those of its remainder, all zero for a code word
 //     encode   the data goes symbol by symbol through the division register; what the register then holds is the parity
 //     correct  the values of the remainder at the sixteen roots are the syndromes, from which the decoder finds the errors
-// Inner words (module bch), binary BCH over field B, lent as bytes, place 0 the highest bit of the first:
+// Inner words (modules bch and wrong_places), binary BCH over field B, lent as bytes, place 0 the highest bit of the first:
 //     check    the remainder of the 2,040 places after division by the divisor, zero for a code word
 //     encode   the same remainder of the data followed by 88 zeros is the parity
 //     correct  the remainder gives the syndromes, from which the decoder finds the wrong places
-// The decoder (module decoder) is one for both codes.
+// The decoder (crate decoding) is one for both codes.
 //
 // Every input is answered: an entry returns 0, or the number of the refusal; a refusal leaves the output buffer as it was. Where a word has more
 // than one fault, the order is 6 (its length), 3 (the size of the output buffer), 7 (a symbol above 1,023), then 4 (no code word) or 5 (no code word
 // within eight).
+use decoding::decoder;
+use decoding::symbols;
 ghost use mathlib.Core.Path.{_≡_};
-ghost use Rattle.words.specs.Answers.{outerChecked, outerEncoded, innerChecked, innerEncoded, refusalOf, changedOf, outerCorrected, innerCorrected};
+ghost use Rattle.words.specs.Answers.{outerChecked, outerEncoded, innerChecked, innerEncoded, outerCorrected, innerCorrected};
 
-pub mod bch;
-pub mod decoder;
+mod bch;
+pub mod corrector;
 mod division;
 pub mod packed;
-pub mod reed_solomon;
+mod reed_solomon;
+pub mod wrong_places;
 
 // The outer code. Lengths are counted in symbols.
 pub struct Outer;
@@ -84,11 +87,7 @@ pub fn check_outer(word: &[u16]) -> u8
     let table = packed::table();
     let rest = packed::remainder(&table, word);
     let values = packed::root_values(&exp, &log, rest);
-    if reed_solomon::all_below(&values, 1) {
-        0
-    } else {
-        4
-    }
+    if symbols::all_below(&values, 1) { 0 } else { 4 }
 }
 
 // Writes the parity symbols of data and returns 0; 6, 3 or 7.
@@ -110,7 +109,7 @@ pub fn encode_outer(data: &[u16], out: &mut [u16]) -> u8
 
 // Writes the code word within eight symbols of the word; 6, 3, 7 or 5.
 pub fn correct_outer(word: &[u16], out: &mut [u16]) -> Correction
-    ensures { λ r. ⌜ (refusalOf r, changedOf r, now (out .exit)) ≡ outerCorrected (now (word .entry)) (now (out .entry)) ⌝ }
+    ensures { λ r. ⌜ (r, now (out .exit)) ≡ outerCorrected (now (word .entry)) (now (out .entry)) ⌝ }
 {
     let fits = out.len() == word.len();
     let number = reed_solomon::refusal(word, Outer::SHORTEST, Outer::LONGEST, fits);
@@ -119,7 +118,7 @@ pub fn correct_outer(word: &[u16], out: &mut [u16]) -> Correction
     }
     let table = packed::table();
     let rest = packed::remainder(&table, word);
-    reed_solomon::correct_from(rest, word, out)
+    corrector::correct_from(rest, word, out)
 }
 
 // 0 for an inner code word; 6 or 4.
@@ -152,7 +151,7 @@ pub fn encode_inner(data: &[u8], out: &mut [u8]) -> u8
 
 // Writes the code word within eight places of the word; 6, 3 or 5.
 pub fn correct_inner(word: &[u8], out: &mut [u8]) -> Correction
-    ensures { λ r. ⌜ (refusalOf r, changedOf r, now (out .exit)) ≡ innerCorrected (now (word .entry)) (now (out .entry)) ⌝ }
+    ensures { λ r. ⌜ (r, now (out .exit)) ≡ innerCorrected (now (word .entry)) (now (out .entry)) ⌝ }
 {
     if word.len() != Inner::BYTES {
         return Correction::Refused { number: 6 };
@@ -163,7 +162,7 @@ pub fn correct_inner(word: &[u8], out: &mut [u8]) -> Correction
     let exp = fields::exp_b();
     let log = fields::log_b();
     let e = bch::errors(&exp, &log, word);
-    if !bch::explains(&exp, e) {
+    if !wrong_places::explains(&exp, e) {
         return Correction::Refused { number: 5 };
     }
     bch::correct(word, e, out);

@@ -10,9 +10,9 @@ ghost use lib.Bits.{bitOr};
 ghost use lib.Dec.{eqb};
 ghost use lib.ListN.{length};
 ghost use Rattle.fields.specs.Elements.{xor};
-ghost use Rattle.words.specs.Places.{at, allBelow};
+ghost use Rattle.fields.specs.Places.{at, allBelow};
+ghost use Rattle.decoding.specs.ByTables.{rootValues};
 ghost use Rattle.words.specs.OuterCode.{outerParity};
-ghost use Rattle.words.specs.ByTables.{rootValues};
 ghost use Rattle.words.specs.Division.{outerRemainder};
 ghost use Rattle.words.specs.SixSymbols.{joinedFrom, symbolOf, six, Packs, numberAt, unpacked, sixParity, parityEntry, parities, unitParities, Stored};
 
@@ -462,7 +462,7 @@ pub fn remainder(table: &[u64], word: &[u16]) -> Packed
 }
 
 // The values at the sixteen roots of a remainder, which are those of the word: the generator vanishes there.
-pub fn root_values(exp: &[u16], log: &[u16], rest: Packed) -> [u16; Outer::PARITY]
+pub(crate) fn root_values(exp: &[u16], log: &[u16], rest: Packed) -> [u16; Outer::PARITY]
     ensures { λ r. ⌜ r ≡ rootValues (now (exp .entry)) (now (log .entry)) (unpacked (rest .high) (rest .middle) (rest .low)) ⌝ }
 {
     let cells = unpacked(rest);

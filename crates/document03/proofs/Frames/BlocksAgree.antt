@@ -9,18 +9,19 @@ use lib.Dec.{lit<}
 use lib.ListN.{length, take, drop, length-append, length-drop}
 use lib.Seq.{ext-getD, getD-take, getD-drop, length-take-le}
 use Rattle.fields.specs.Lists.{tabulate}
+use Rattle.fields.specs.Places.{at}
 use Rattle.fields.proofs.Lists.{tabulate-same}
-use Rattle.words.specs.Places.{at, numberOf, bitAt, bitsOf, bytesOf}
-use Rattle.words.proofs.Places.Tests.{below-at}
-use Rattle.words.proofs.Places.Bytes.{bits-length, bits-at}
+use Rattle.fields.proofs.Places.Tests.{below-at}
+use Rattle.fields.proofs.Places.Placing.{append-at}
+use Rattle.words.specs.Bits.{numberOf, bitAt, bitsOf, bytesOf}
+use Rattle.words.specs.InnerWords as InnerWords
+use Rattle.words.proofs.Bits.Bytes.{bits-length, bits-at, bytes-length, bytes-bit}
+use Rattle.frames.specs.Frames.{symbolAt, dataIn}
+use Rattle.frames.specs.Correction.{receivedBit, receivedSymbol, receivedWord}
+use Rattle.frames.proofs.FrameBits.{dataIn-first}
+use Rattle.frames.proofs.ReceivedWords.{received-first, received-padding, received-last}
 use Rattle.document03.proofs.Words.Statements.{allBits}
 use Rattle.document03.proofs.Words.WordsAgree.{all-below}
-use Rattle.frames.specs.Frames.{symbolAt, dataIn}
-use Rattle.frames.specs.Frames as Frames
-use Rattle.frames.specs.Correction.{receivedBit, receivedSymbol, receivedWord}
-use Rattle.frames.proofs.Placing.{append-at}
-use Rattle.frames.proofs.FrameBits.{bytes-length, bytes-bit, dataIn-first}
-use Rattle.frames.proofs.ReceivedWords.{received-first, received-padding, received-last}
 use Rattle.document03.proofs.Frames.Statements.{innerWord, outerOf}
 use Rattle.document03.proofs.Frames.ListsAgree.{pick-lt, filled-at}
 use Rattle.document03.proofs.Frames.OuterWordsAgree.{symbols-agree}
@@ -28,8 +29,8 @@ use Rattle.document03.proofs.Frames.ParityBitsAgree.{every-agrees}
 
 -- a list that holds the bits b 0, b 1, .. of a block
 module _ (fs : List ℕ) (b : ℕ → ℕ) (same : (i : ℕ) → i < 130560 → at fs i ≡ b i) where
-  pub inner-word-agrees : (k : ℕ) → k < 64 → innerWord k fs ≡ Frames.innerWord b k
-  unfolding Frames.innerWord
+  pub inner-word-agrees : (k : ℕ) → k < 64 → innerWord k fs ≡ InnerWords.innerWord b k
+  unfolding InnerWords.innerWord
   inner-word-agrees k h = every-agrees 2040 k fs ∙ tabulate-same 2040 _ _ (λ p l. same (64 * p + k) (omega arith))
 
   module _ (long : 130560 ≤ length fs) where

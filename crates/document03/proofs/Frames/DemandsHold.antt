@@ -6,23 +6,25 @@ use mathlib.Core.Logic.{_⊎_, inl, inr}
 use Prim.Native.Nat.{ℕ, _≤_, _<_}
 use native.Mathlib.Omega.{arith}
 use lib.ListN.{length}
-use Rattle.document03.proofs.Fields.{isIn, fields}
-use Rattle.words.specs.Places.{at, bitAt, bitsOf, bytesOf}
-use Rattle.words.specs.Places as Places
+use Rattle.fields.specs.Places.{at}
+use Rattle.fields.specs.Places as Places
+use Rattle.words.specs.Bits.{bitAt, bitsOf, bytesOf}
 use Rattle.words.specs.InnerCode as Inner
-use Rattle.words.proofs.Places.Bytes.{bits-at}
+use Rattle.words.specs.InnerWords as InnerWords
+use Rattle.words.specs.InnerWords.{innerPass}
+use Rattle.words.proofs.Bits.Bytes.{bits-at, bytes-length}
+use Rattle.inner_words.proofs.InterleavedBits.{inner-word-length}
+use Rattle.frames.specs.Frames.{wrongBits}
+use Rattle.frames.specs.Frames as Frames
+use Rattle.frames.specs.Answers.{Corrected, refused, frameCorrected}
+use Rattle.frames.specs.Demands.{Restored, wrongCounts, Premise}
+use Rattle.frames.proofs.ReportCounts.{wrong-in}
+use Rattle.frames.proofs.Demands as Ours
+use Rattle.document03.proofs.Fields.{isIn, fields}
 use Rattle.document03.proofs.Words.Statements.{isInner, apart, allBits}
 use Rattle.document03.proofs.Words.InnerAgrees.{inner-length, inner-agrees}
 use Rattle.document03.proofs.Words.StatementsHold.{codes}
 use Rattle.document03.proofs.Words.SaysHold.{far-is}
-use Rattle.frames.specs.Frames.{wrongBits}
-use Rattle.frames.specs.Frames as Frames
-use Rattle.frames.specs.Correction.{innerPass}
-use Rattle.frames.specs.Answers.{Corrected, refused, frameCorrected}
-use Rattle.frames.specs.Demands.{Restored, wrongCounts, Premise}
-use Rattle.frames.proofs.FrameBits.{bytes-length, inner-word-length}
-use Rattle.frames.proofs.ReportCounts.{wrong-in}
-use Rattle.frames.proofs.Demands as Ours
 use Rattle.document03.proofs.Frames.Statements.{innerWord, frameOfWords, frameOf, allBytes}
 use Rattle.document03.proofs.Frames.Menders.{Mends, Beyond, Two-passes, Lost, wrongSymbols, symbolsIn, Demand-3}
 use Rattle.document03.proofs.Frames.Says.{Demands}
@@ -67,10 +69,10 @@ module _ (block : List ℕ) (long : length block ≡ 130560) (bits : allBits blo
     same-sent : (i : ℕ) → at (frameOf payload) i ≡ bitAt frame i
     same-sent i = ap (λ (xs : List ℕ). at xs i) (frame-agrees payload payload-long) ∙ bits-at frame i
 
-    lost-beyond : (k : ℕ) → k < 64 → isIn k lost ≡ true → (c : List ℕ) → Inner.isInner c ≡ true → 8 < Places.apart (Frames.innerWord (bitAt bytes) k) c
+    lost-beyond : (k : ℕ) → k < 64 → isIn k lost ≡ true → (c : List ℕ) → Inner.isInner c ≡ true → 8 < Places.apart (InnerWords.innerWord (bitAt bytes) k) c
     lost-beyond k l t c h =
         let code : isInner c ≡ true = inner-agrees c ∙ h in
-        let e : innerWord k block ≡ Frames.innerWord (bitAt bytes) k = inner-word-agrees block (bitAt bytes) (λ i l. same i) k l in
+        let e : innerWord k block ≡ InnerWords.innerWord (bitAt bytes) k = inner-word-agrees block (bitAt bytes) (λ i l. same i) k l in
         subst (λ (w : List ℕ). 8 < Places.apart w c) e
         (far-is (innerWord k block) c (beyond k l t c code) (inner-length c code ∙ sym (ap length e ∙ inner-word-length (bitAt bytes) k)))
 

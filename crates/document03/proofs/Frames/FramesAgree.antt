@@ -8,18 +8,20 @@ use native.Mathlib.Numerals.{one-add}
 use native.Mathlib.Omega.{arith}
 use lib.Dec.{eqb, eqb·suc-zero}
 use lib.ListN.{length, getD}
-use Rattle.words.specs.Places.{at, sumTo, differs}
-use Rattle.words.specs.Places as Places
-use Rattle.words.proofs.Places.Bytes.{bits-length, bits-at}
-use Rattle.words.proofs.Places.Counting.{sum-same}
+use Rattle.fields.specs.Places.{at, sumTo, differs}
+use Rattle.fields.specs.Places as Places
+use Rattle.fields.proofs.Places.Counting.{sum-same}
+use Rattle.words.specs.Bits as Bits
+use Rattle.words.specs.InnerWords.{withParity}
+use Rattle.words.proofs.Bits.Bytes.{bits-length, bits-at, bits-same}
+use Rattle.frames.specs.Frames.{dataIn, sentBit, wrongBits}
+use Rattle.frames.specs.Frames as Frames
+use Rattle.frames.specs.Answers as Answers
+use Rattle.frames.proofs.FrameBits.{payloadOf-length, sentBit-lt, frame-length}
 use Rattle.document03.proofs.Words.Statements.{when, same, apart}
 use Rattle.document03.proofs.Words.Says.{bytesOf}
 use Rattle.document03.proofs.Words.WordsAgree.{apart-agrees}
 use Rattle.document03.proofs.Words.BytesAgree.{bytes-agree}
-use Rattle.frames.specs.Frames.{dataIn, sentBit, withParity, wrongBits}
-use Rattle.frames.specs.Frames as Frames
-use Rattle.frames.specs.Answers as Answers
-use Rattle.frames.proofs.FrameBits.{bits-same, payloadOf-length, sentBit-lt, frame-length}
 use Rattle.document03.proofs.Frames.Statements.{sentFrom, frameOfWords}
 use Rattle.document03.proofs.Frames.Says.{frameBytes, isFrame}
 use Rattle.document03.proofs.Frames.OuterWordsAgree.{words-agree, words-long, word-long}
@@ -56,11 +58,11 @@ unfolding Frames.frameOf
 bytes-long p = frame-length (Frames.outerWords p)
 
 -- in how many bits blocks differ
-pub apart-bits : (b c : List ℕ) → length b ≡ 16320 → length c ≡ 16320 → apart (Places.bitsOf b) (Places.bitsOf c) ≡ wrongBits b c
+pub apart-bits : (b c : List ℕ) → length b ≡ 16320 → length c ≡ 16320 → apart (Bits.bitsOf b) (Bits.bitsOf c) ≡ wrongBits b c
 unfolding wrongBits Places.apart
 apart-bits b c eb ec =
-    let xs = Places.bitsOf b in
-    let ys = Places.bitsOf c in
+    let xs = Bits.bitsOf b in
+    let ys = Bits.bitsOf c in
     apart-agrees xs ys (bits-length b ∙ ap (λ (n : ℕ). 8 * n) (eb ∙ sym ec) ∙ sym (bits-length c))
     ∙ ap (λ (n : ℕ). sumTo n (λ i. differs (at xs i) (at ys i))) (bits-length b ∙ omega arith)
     ∙ sum-same 130560 _ _ (λ i l. ap₂ differs (bits-at b i) (bits-at c i))

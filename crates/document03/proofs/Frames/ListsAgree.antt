@@ -8,10 +8,11 @@ use lib.Dec.{ltb}
 use lib.ListN.{length}
 use lib.Seq.{append-snoc}
 use Rattle.fields.specs.Lists.{tabulate}
+use Rattle.fields.specs.Places.{at}
 use Rattle.fields.proofs.Lists.{tabulate-same}
+use Rattle.words.specs.Bits.{bitAt}
+use Rattle.words.proofs.Bits.Bytes.{bits-length, bits-at}
 use Rattle.document03.proofs.Fields.{pick}
-use Rattle.words.specs.Places.{at, bitAt}
-use Rattle.words.proofs.Places.Bytes.{bits-length, bits-at}
 use Rattle.document03.proofs.Words.Says.{bitsOf}
 use Rattle.document03.proofs.Words.WordsAgree.{padded-at}
 use Rattle.document03.proofs.Words.BytesAgree.{bits-agree}

@@ -7,16 +7,17 @@ use native.Mathlib.Decide.{ℕ-discrete, decLt}
 use native.Mathlib.Omega.{arith}
 use borrow.Author.Tests.{lt-ltb, le-leb, lt-leb, ne-eqb}
 use lib.Dec.{eqb}
-use Rattle.document03.proofs.Fields.{isIn}
-use Rattle.words.specs.Places.{at, bitAt, sumTo, differs}
-use Rattle.words.proofs.Places.Counting.{sum-same}
-use Rattle.document03.proofs.Words.Statements.{when}
-use Rattle.document03.proofs.Words.WordsAgree.{sum-first}
+use Rattle.fields.specs.Places.{at, sumTo, differs}
+use Rattle.fields.proofs.Places.Counting.{sum-same}
+use Rattle.words.specs.Bits.{bitAt}
 use Rattle.frames.specs.Frames.{dataIn}
 use Rattle.frames.specs.Correction.{receivedBit}
 use Rattle.frames.specs.Demands.{wrongAt, lostSymbols}
 use Rattle.frames.proofs.FrameBits.{dataIn-le}
 use Rattle.frames.proofs.ReceivedWords.{received-first, received-padding, received-last}
+use Rattle.document03.proofs.Fields.{isIn}
+use Rattle.document03.proofs.Words.Statements.{when}
+use Rattle.document03.proofs.Words.WordsAgree.{sum-first}
 use Rattle.document03.proofs.Frames.Menders.{wrongFrom, bitsBefore, bitsHeld, wrongSymbols, symbolsIn}
 use Rattle.document03.proofs.Frames.PassesAgree.{symbols-in}
 

@@ -7,16 +7,17 @@ use native.Mathlib.Omega.{arith}
 use lib.ListN.{length, getD, drop, length-append, length-drop}
 use lib.Seq.{getD-drop}
 use Rattle.fields.specs.Lists.{tabulate}
+use Rattle.fields.specs.Places.{at}
 use Rattle.fields.proofs.Lists.{tabulate-length, tabulate-at, tabulate-same}
-use Rattle.words.specs.Places.{at, numberOf, bitAt}
-use Rattle.words.proofs.Places.Numbers.{numberOf-same}
+use Rattle.words.specs.Bits.{numberOf, bitAt}
+use Rattle.words.proofs.Bits.Numbers.{numberOf-same}
+use Rattle.frames.specs.Frames.{symbolAt, dataIn, outerData}
+use Rattle.frames.specs.Frames as Frames
+use Rattle.frames.proofs.FrameBits.{dataIn-first, outer-data-below, outer-word-length}
 use Rattle.document03.proofs.Words.Statements.{outerChecks}
 use Rattle.document03.proofs.Words.Says.{bitsOf, groupsFrom}
 use Rattle.document03.proofs.Words.OuterAgrees.{parity-agrees}
 use Rattle.document03.proofs.Words.BytesAgree.{groups-agree}
-use Rattle.frames.specs.Frames.{symbolAt, dataIn, outerData}
-use Rattle.frames.specs.Frames as Frames
-use Rattle.frames.proofs.FrameBits.{dataIn-first, outer-data-below, outer-word-length}
 use Rattle.document03.proofs.Frames.Statements.{dataSymbols, outerWord, wordsFrom, outerWords}
 use Rattle.document03.proofs.Frames.ListsAgree.{bits-long, bit-at, pick-lt, filled-at, all-agree}
 

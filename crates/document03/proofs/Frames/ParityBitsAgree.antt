@@ -7,16 +7,16 @@ use native.Mathlib.Omega.{arith}
 use lib.ListN.{length, getD, drop, length-append, List·getD-append}
 use lib.Seq.{getD-append-add, getD-drop}
 use Rattle.fields.specs.Lists.{tabulate}
+use Rattle.fields.specs.Places.{at}
 use Rattle.fields.proofs.Lists.{tabulate-length, tabulate-at, tabulate-same}
-use Rattle.words.specs.Places.{at}
+use Rattle.fields.proofs.Places.Placing.{append-at}
 use Rattle.words.specs.InnerCode.{innerParity}
+use Rattle.words.specs.InnerWords.{withParity}
+use Rattle.words.specs.InnerWords as InnerWords
+use Rattle.inner_words.proofs.InterleavedBits.{data-length, data-below, parity-before, parity-after}
 use Rattle.document03.proofs.Words.Statements.{innerChecks}
 use Rattle.document03.proofs.Words.WordsAgree.{dropped-at}
 use Rattle.document03.proofs.Words.InnerAgrees.{parity-agrees}
-use Rattle.frames.specs.Frames.{withParity}
-use Rattle.frames.specs.Frames as Frames
-use Rattle.frames.proofs.Placing.{append-at}
-use Rattle.frames.proofs.FrameBits.{data-length, data-below, parity-before, parity-after}
 use Rattle.document03.proofs.Frames.Statements.{everyFrom, innerData, checksFrom, heads, tails, woven, withChecks}
 use Rattle.document03.proofs.Frames.ListsAgree.{all-agree}
 
@@ -66,16 +66,16 @@ woven-at (suc n) cs (suc p) k hp hk =
 
 -- the bits b below 124,928, as a list
 module _ (bs : List ℕ) (b : ℕ → ℕ) (long : length bs ≡ 124928) (same : (i : ℕ) → i < 124928 → at bs i ≡ b i) (bits : (i : ℕ) → b i < 2) where
-  data-agrees : (k : ℕ) → k < 64 → innerData k bs ≡ Frames.innerData b k
-  unfolding Frames.innerData
+  data-agrees : (k : ℕ) → k < 64 → innerData k bs ≡ InnerWords.innerData b k
+  unfolding InnerWords.innerData
   data-agrees k h = every-agrees 1952 k bs ∙ tabulate-same 1952 _ _ (λ p l. same (64 * p + k) (omega arith))
 
   parity : ℕ → List ℕ
-  parity k = innerParity (Frames.innerData b k)
+  parity k = innerParity (InnerWords.innerData b k)
 
   word-agrees : (k : ℕ) → k < 64 → innerChecks (innerData k bs) ≡ parity k
   unfolding parity
-  word-agrees k h = ap innerChecks (data-agrees k h) ∙ parity-agrees (Frames.innerData b k) (data-length b k) (data-below b bits k)
+  word-agrees k h = ap innerChecks (data-agrees k h) ∙ parity-agrees (InnerWords.innerData b k) (data-length b k) (data-below b bits k)
 
   checks-agree : checksFrom 64 0 bs ≡ tabulate 64 parity
   checks-agree = all-agree (λ n k. checksFrom n k bs) (λ k. innerChecks (innerData k bs)) parity 64 (λ k. refl) (λ n k. refl) word-agrees

@@ -12,26 +12,28 @@ use lib.Dec.{eqb, ltb}
 use lib.ListN.{length, getD}
 use lib.Seq.{ext-getD}
 use Rattle.fields.specs.Lists.{tabulate}
+use Rattle.fields.specs.Places.{at, apart}
 use Rattle.fields.proofs.Lists.{tabulate-length, tabulate-at}
-use Rattle.document03.proofs.Fields.{pick}
-use Rattle.words.specs.Places.{at, apart}
 use Rattle.words.specs.InnerCode as Inner
 use Rattle.words.specs.Nearest.{nearest}
+use Rattle.words.specs.InnerWords as InnerWords
+use Rattle.words.specs.InnerWords.{innerPass}
 use Rattle.words.proofs.Codes.Proved.{codes}
+use Rattle.inner_words.proofs.InterleavedBits.{word-to-bit, inner-word-length}
+use Rattle.frames.specs.Frames.{dataIn}
+use Rattle.frames.specs.Correction.{receivedWord, isPadded}
+use Rattle.frames.specs.Correction as Correction
+use Rattle.frames.specs.Demands.{Uncorrectable, Restored}
+use Rattle.frames.proofs.FrameBits.{dataIn-le}
+use Rattle.frames.proofs.ReceivedWords.{received-length}
+use Rattle.frames.proofs.Permitted.{permitted-is, is-permitted, permitted-nearest}
+use Rattle.frames.proofs.Demands.{two-passes}
+use Rattle.document03.proofs.Fields.{pick}
 use Rattle.document03.proofs.Words.Statements.{isOuter, isInner, isNear}
 use Rattle.document03.proofs.Words.WordsAgree.{same-refl, same-is}
 use Rattle.document03.proofs.Words.OuterAgrees.{outer-agrees}
 use Rattle.document03.proofs.Words.InnerAgrees.{inner-length, inner-agrees}
 use Rattle.document03.proofs.Words.SaysHold.{near-says, far-says, near-is, far-is}
-use Rattle.frames.specs.Frames.{dataIn}
-use Rattle.frames.specs.Frames as Frames
-use Rattle.frames.specs.Correction.{innerPass, receivedWord, isPadded}
-use Rattle.frames.specs.Correction as Correction
-use Rattle.frames.specs.Demands.{Uncorrectable, Restored}
-use Rattle.frames.proofs.FrameBits.{word-to-bit, inner-word-length, dataIn-le}
-use Rattle.frames.proofs.ReceivedWords.{received-length}
-use Rattle.frames.proofs.Permitted.{permitted-is, is-permitted, permitted-nearest}
-use Rattle.frames.proofs.Demands.{two-passes}
 use Rattle.document03.proofs.Frames.Statements.{innerWord, outerOf, frameOfWords}
 use Rattle.document03.proofs.Frames.Menders.{InnerDone, InnerPass, fillZero, isPermitted, nthW, countW, OuterPass, Mends, Beyond, symbolsIn}
 use Rattle.document03.proofs.Frames.BlocksAgree.{inner-word-agrees, outer-of-agrees}
@@ -86,15 +88,15 @@ Outcome b = ((words : List (List ℕ)) × Restored b words) ⊎ ((w : ℕ) × (w
 
 module _ (b : ℕ → ℕ) (k : ℕ) (l : k < 64) where
   abbrev w : List ℕ
-  w = Frames.innerWord b k
+  w = InnerWords.innerWord b k
 
   w-long : length w ≡ 2040
   w-long = inner-word-length b k
 
-  word-done : InnerDone w (Frames.innerWord (innerPass b) k)
+  word-done : InnerDone w (InnerWords.innerWord (innerPass b) k)
   word-done = go (nearest Inner.isInner 2 8 w) refl
     where
-      go : (o : Option (List ℕ)) → nearest Inner.isInner 2 8 w ≡ o → InnerDone w (Frames.innerWord (innerPass b) k)
+      go : (o : Option (List ℕ)) → nearest Inner.isInner 2 8 w ≡ o → InnerDone w (InnerWords.innerWord (innerPass b) k)
       go none e =
           let far : (c : List ℕ) → Inner.isInner c ≡ true → 8 < apart w c =
           λ c h. codes .inner-nearest .none-means-none w c w-long e (inner-length c (inner-agrees c ∙ h)) h in
@@ -104,7 +106,7 @@ module _ (b : ℕ → ℕ) (k : ℕ) (l : k < 64) where
           let s = codes .inner-nearest .sound w c w-long e in
           done-same refl (two-passes .inner-near b k c l (s .1) (s .2)) (inl (inner-agrees c ∙ s .1, near-says w c (s .0 ∙ sym w-long) (s .2)))
 
-  done-word : (x : List ℕ) → InnerDone w x → x ≡ Frames.innerWord (innerPass b) k
+  done-word : (x : List ℕ) → InnerDone w x → x ≡ InnerWords.innerWord (innerPass b) k
   done-word x (inl (code, near)) = sym (two-passes .inner-near b k x l (sym (inner-agrees x) ∙ code) (near-is w x near .1))
   done-word x (inr kept) =
       let far : (c : List ℕ) → Inner.isInner c ≡ true → 8 < apart w c =

@@ -7,14 +7,15 @@ use native.Mathlib.Omega.{arith}
 use lib.Dec.{ltb}
 use lib.ListN.{length, take, drop, length-append, length-drop}
 use lib.Seq.{getD-take, getD-drop, length-take-le}
-use Rattle.document03.proofs.Fields.{pick}
-use Rattle.words.specs.Places.{at, bitAt}
-use Rattle.document03.proofs.Words.Says.{bitsOf}
-use Rattle.document03.proofs.Words.BytesAgree.{bytes-agree}
+use Rattle.fields.specs.Places.{at}
+use Rattle.fields.proofs.Places.Placing.{append-at}
+use Rattle.words.specs.Bits.{bitAt}
+use Rattle.words.proofs.Bits.Bytes.{bits-same}
 use Rattle.frames.specs.Frames.{payloadPlace}
 use Rattle.frames.specs.Frames as Frames
-use Rattle.frames.proofs.Placing.{append-at}
-use Rattle.frames.proofs.FrameBits.{bits-same}
+use Rattle.document03.proofs.Fields.{pick}
+use Rattle.document03.proofs.Words.Says.{bitsOf}
+use Rattle.document03.proofs.Words.BytesAgree.{bytes-agree}
 use Rattle.document03.proofs.Frames.Statements.{payloadFrom, payloadOf}
 use Rattle.document03.proofs.Frames.ListsAgree.{bits-long, bit-at, pick-lt, pick-le}
 

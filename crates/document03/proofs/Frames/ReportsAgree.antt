@@ -3,13 +3,14 @@ use mathlib.Core.Path.{_≡_, refl, sym, ap, ap₂, _∙_}
 use mathlib.Core.List.{List, [], _∷_}
 use Prim.Native.Nat.{ℕ, _+_, _<_}
 use lib.ListN.{length}
-use Rattle.words.specs.Places.{at, bitAt, sumTo}
-use Rattle.words.specs.Places as Places
+use Rattle.fields.specs.Places.{at, sumTo}
+use Rattle.fields.specs.Places as Places
+use Rattle.words.specs.Bits.{bitAt}
+use Rattle.words.specs.InnerWords as InnerWords
+use Rattle.inner_words.proofs.InterleavedBits.{inner-word-length}
+use Rattle.frames.specs.Correction as Correction
 use Rattle.document03.proofs.Words.Statements.{apart}
 use Rattle.document03.proofs.Words.WordsAgree.{sum-first, apart-agrees}
-use Rattle.frames.specs.Frames as Frames
-use Rattle.frames.specs.Correction as Correction
-use Rattle.frames.proofs.FrameBits.{inner-word-length}
 use Rattle.document03.proofs.Frames.Statements.{innerWord}
 use Rattle.document03.proofs.Frames.Menders.{reportFrom, reportOf, total}
 use Rattle.document03.proofs.Frames.ListsAgree.{all-agree}
@@ -18,10 +19,10 @@ use Rattle.document03.proofs.Frames.BlocksAgree.{inner-word-agrees}
 -- the bits of two blocks, and their bytes
 module _ (block frame b f : List ℕ) (same : (i : ℕ) → at block i ≡ bitAt b i) (same′ : (i : ℕ) → at frame i ≡ bitAt f i) where
   pub count-agrees : (k : ℕ) → k < 64 →
-      apart (innerWord k block) (innerWord k frame) ≡ Places.apart (Frames.innerWord (bitAt b) k) (Frames.innerWord (bitAt f) k)
+      apart (innerWord k block) (innerWord k frame) ≡ Places.apart (InnerWords.innerWord (bitAt b) k) (InnerWords.innerWord (bitAt f) k)
   count-agrees k l =
       ap₂ apart (inner-word-agrees block (bitAt b) (λ i l. same i) k l) (inner-word-agrees frame (bitAt f) (λ i l. same′ i) k l)
-      ∙ apart-agrees (Frames.innerWord (bitAt b) k) (Frames.innerWord (bitAt f) k) (inner-word-length (bitAt b) k ∙ sym (inner-word-length (bitAt f) k))
+      ∙ apart-agrees (InnerWords.innerWord (bitAt b) k) (InnerWords.innerWord (bitAt f) k) (inner-word-length (bitAt b) k ∙ sym (inner-word-length (bitAt f) k))
 
   pub report-agrees : reportOf block frame ≡ Correction.reportOf b f
   unfolding Correction.reportOf

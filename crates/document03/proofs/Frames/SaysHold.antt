@@ -9,18 +9,19 @@ use borrow.Author.Tests.{eqb-true}
 use lib.Dec.{eqb}
 use lib.ListN.{length}
 use Rattle.fields.specs.Lists.{tabulate}
-use Rattle.words.specs.Places.{at, bitAt}
+use Rattle.fields.specs.Places.{at}
+use Rattle.words.specs.Bits.{bitAt}
 use Rattle.words.specs.Answers.{unless}
-use Rattle.words.proofs.Places.Bytes.{bits-at}
-use Rattle.document03.proofs.Words.Statements.{when}
-use Rattle.document03.proofs.Words.Says.{firstOf, bitsOf}
-use Rattle.document03.proofs.Words.SaysHold.{answered-says}
+use Rattle.words.specs.InnerWords.{innerPass}
+use Rattle.words.proofs.Bits.Bytes.{bits-at}
 use Rattle.frames.specs.Frames as Frames
-use Rattle.frames.specs.Correction.{innerPass}
 use Rattle.frames.specs.Correction as Correction
 use Rattle.frames.specs.Answers.{frameEncoded, frameChecked, payloadExtracted, Corrected, refused, frameCorrected}
 use Rattle.frames.specs.Answers as Answers
 use Rattle.frames.proofs.Demands.{two-passes}
+use Rattle.document03.proofs.Words.Statements.{when}
+use Rattle.document03.proofs.Words.Says.{firstOf, bitsOf}
+use Rattle.document03.proofs.Words.SaysHold.{answered-says}
 use Rattle.document03.proofs.Frames.Statements.{frameOfWords}
 use Rattle.document03.proofs.Frames.Menders.{reportOf}
 use Rattle.document03.proofs.Frames.Says.{MakeSays, isFrame, CheckSays, ReadSays, mendFault, Refused, MendWith, MendSays}

@@ -5,12 +5,13 @@ use Prim.Native.Nat.{ℕ, suc, _+_, _-_, _*_, _/_, _%_, _≤_, _<_}
 use native.Mathlib.Omega.{arith}
 use lib.ListN.{length, getD, take, drop, length-append, length-drop}
 use lib.Seq.{getD-take, getD-drop, length-take-le}
-use Rattle.words.specs.Places.{at, bitOf}
+use Rattle.fields.specs.Places.{at}
+use Rattle.fields.proofs.Places.Placing.{append-at}
+use Rattle.words.specs.Bits.{bitOf}
+use Rattle.frames.specs.Frames.{dataIn, rowBit, rowPlace, sentBit}
+use Rattle.frames.proofs.FrameBits.{dataIn-first, place-first, place-last, place-near}
 use Rattle.document03.proofs.Words.Statements.{bitsFrom}
 use Rattle.document03.proofs.Words.BitRegister.{bits-length, bits-at}
-use Rattle.frames.specs.Frames.{dataIn, rowBit, rowPlace, sentBit}
-use Rattle.frames.proofs.Placing.{append-at}
-use Rattle.frames.proofs.FrameBits.{dataIn-first, place-first, place-last, place-near}
 use Rattle.document03.proofs.Frames.Statements.{symbolBits, sentBits, sentFrom}
 use Rattle.document03.proofs.Frames.ListsAgree.{pick-lt}
 

@@ -8,17 +8,17 @@ use borrow.Author.Tests.{eq-eqb}
 use lib.Dec.{eqb}
 use lib.ListN.{length}
 use lib.Seq.{ext-getD}
-use Rattle.words.specs.Places.{allBelow}
-use Rattle.words.specs.Places as Places
-use Rattle.words.proofs.Places.Bytes.{bits-length, bits-at}
-use Rattle.document03.proofs.Words.Statements.{same, apart}
-use Rattle.document03.proofs.Words.Says.{bitsOf}
-use Rattle.document03.proofs.Words.WordsAgree.{all-below, same-refl}
+use Rattle.fields.specs.Places.{allBelow}
+use Rattle.words.specs.Bits as Bits
+use Rattle.words.proofs.Bits.Bytes.{bits-length, bits-at}
 use Rattle.frames.specs.Frames.{isPayload}
 use Rattle.frames.specs.Frames as Frames
 use Rattle.frames.proofs.FrameBits.{frame-length, frame-bit}
 use Rattle.frames.proofs.FarApart.{far}
 use Rattle.frames.proofs.Proved.{frame-laws}
+use Rattle.document03.proofs.Words.Statements.{same, apart}
+use Rattle.document03.proofs.Words.Says.{bitsOf}
+use Rattle.document03.proofs.Words.WordsAgree.{all-below, same-refl}
 use Rattle.document03.proofs.Frames.Statements.{frameOfWords, frameOf, payloadOf, allBytes}
 use Rattle.document03.proofs.Frames.Says.{payloadLong, frameBytes}
 use Rattle.document03.proofs.Frames.OuterWordsAgree.{words-agree}
@@ -37,13 +37,13 @@ differ p q other e =
     let z : _≡_ {A = ℕ} 0 1 = cc in
     omega arith
 
-pub words-frame-agrees : (ws : List (List ℕ)) → Words 0 ws → frameOfWords ws ≡ Places.bitsOf (Frames.frameOfWords ws)
+pub words-frame-agrees : (ws : List (List ℕ)) → Words 0 ws → frameOfWords ws ≡ Bits.bitsOf (Frames.frameOfWords ws)
 words-frame-agrees ws h =
     let f = Frames.frameOfWords ws in
-    ext-getD 0 (frameOfWords ws) (Places.bitsOf f) (frame-long ws h ∙ sym (bits-length f ∙ omega (arith, frame-length ws)))
+    ext-getD 0 (frameOfWords ws) (Bits.bitsOf f) (frame-long ws h ∙ sym (bits-length f ∙ omega (arith, frame-length ws)))
     (λ i l. let n : i < 130560 = rw (frame-long ws h) at l in frame-at ws h i n ∙ sym (bits-at f i ∙ frame-bit ws i n))
 
-pub frame-agrees : (p : List ℕ) → length p ≡ 15296 → frameOf p ≡ Places.bitsOf (Frames.frameOf p)
+pub frame-agrees : (p : List ℕ) → length p ≡ 15296 → frameOf p ≡ Bits.bitsOf (Frames.frameOf p)
 unfolding Frames.frameOf
 frame-agrees p long = ap frameOfWords (words-agree p long) ∙ words-frame-agrees (Frames.outerWords p) (payload-words p)
 

@@ -10,17 +10,18 @@ use lib.ListN.{length, replicate, length-replicate}
 use Rattle.fields.specs.Elements.{scale, doubled}
 use Rattle.fields.specs.Elements as E
 use Rattle.fields.specs.Lists.{tabulate}
+use Rattle.fields.specs.Places.{at}
 use Rattle.fields.proofs.Doubling.{scale-lt, doubled-sum}
 use Rattle.fields.proofs.Lists.{tabulate-is, tabulate-lt}
-use Rattle.document03.proofs.Fields.{xor}
-use Rattle.words.specs.Places.{at, bitOf}
+use Rattle.fields.proofs.Places.Filling.{zeros-at}
+use Rattle.words.specs.Bits.{bitOf}
 use Rattle.words.specs.OuterCode.{shiftedIn, divided}
 use Rattle.words.specs.InnerCode.{remainder}
-use Rattle.words.proofs.Places.Filling.{zeros-at}
-use Rattle.words.proofs.Places.Numbers.{bitOf-lt}
+use Rattle.words.proofs.Bits.Numbers.{bitOf-lt}
 use Rattle.words.proofs.Codes.Horner.{iter, horner-zeros}
 use Rattle.words.proofs.Codes.BinaryRegister.{divided-bits}
 use Rattle.words.proofs.Codes.Division.{divided-length}
+use Rattle.document03.proofs.Fields.{xor}
 use Rattle.document03.proofs.Words.Statements.{bitsFrom, bitScaled, bitIn, bitRegister}
 use Rattle.document03.proofs.Words.WordsAgree.{runs, sum-agrees, register-is}
 

@@ -7,10 +7,11 @@ use native.Mathlib.Omega.{arith}
 use lib.ListN.{length, take, drop, length-drop}
 use lib.Seq.{getD-take, getD-drop, length-take-le}
 use Rattle.fields.specs.Lists.{tabulate}
+use Rattle.fields.specs.Places.{at}
 use Rattle.fields.proofs.Lists.{tabulate-append, tabulate-is, tabulate-same}
-use Rattle.words.specs.Places.{at, bitOf, numberOf, bitAt}
-use Rattle.words.specs.Places as Places
-use Rattle.words.proofs.Places.Numbers.{numberOf-same}
+use Rattle.words.specs.Bits.{bitOf, numberOf, bitAt}
+use Rattle.words.specs.Bits as Bits
+use Rattle.words.proofs.Bits.Numbers.{numberOf-same}
 use Rattle.document03.proofs.Words.Statements.{bitsFrom}
 use Rattle.document03.proofs.Words.Says.{bitsOf, numberFrom, groupsFrom, bytesOf}
 use Rattle.document03.proofs.Words.WordsAgree.{runs}
@@ -32,8 +33,8 @@ module _ (b : ℕ) (bs : List ℕ) (i : ℕ) where
       let r : (8 + i) % 8 ≡ i % 8 = omega arith in
       rw (q, r)
 
-pub bits-agree : (bytes : List ℕ) → bitsOf bytes ≡ Places.bitsOf bytes
-unfolding Places.bitsOf tabulate
+pub bits-agree : (bytes : List ℕ) → bitsOf bytes ≡ Bits.bitsOf bytes
+unfolding Bits.bitsOf tabulate
 bits-agree [] = refl
 bits-agree (b ∷ bs) =
     let f = bitAt (b ∷ bs) in
@@ -58,6 +59,6 @@ groups-agree n (suc k) bs h =
     (groups-agree n k (drop n bs) (omega (arith, length-drop n bs))
     ∙ tabulate-same k _ _ (λ i m. numberOf-same n _ _ (λ j g. getD-drop n bs (n * i + j) 0 ∙ ap (at bs) (omega (arith, mul-suc n i)))))
 
-pub bytes-agree : (n : ℕ) (bs : List ℕ) → length bs ≡ 8 * n → bytesOf bs ≡ Places.bytesOf n (at bs)
-unfolding Places.bytesOf
+pub bytes-agree : (n : ℕ) (bs : List ℕ) → length bs ≡ 8 * n → bytesOf bs ≡ Bits.bytesOf n (at bs)
+unfolding Bits.bytesOf
 bytes-agree n bs e = let q : length bs / 8 ≡ n = omega arith in ap (λ (k : ℕ). groupsFrom k 8 bs) q ∙ groups-agree 8 n bs (omega arith)

@@ -8,15 +8,15 @@ use lib.Dec.{eqb, lit<, lit≤}
 use lib.ListN.{length, drop, replicate, length-drop}
 use Rattle.fields.specs.Elements as E
 use Rattle.fields.specs.Lists.{tabulate}
+use Rattle.fields.specs.Places.{at, every, allBelow, value}
 use Rattle.fields.proofs.Instances.{field-a}
-use Rattle.document03.proofs.Fields.{xor, timesA, powA, timesA-agrees, powA-agrees}
-use Rattle.words.specs.Places.{at, every, allBelow, value}
+use Rattle.fields.proofs.Places.Tests.{below-at}
 use Rattle.words.specs.OuterCode.{powerA, outerValue, divided, outerParity}
 use Rattle.words.specs.OuterCode as Outer
-use Rattle.words.proofs.Places.Tests.{below-at}
 use Rattle.words.proofs.Codes.Lent.{divided-lt}
 use Rattle.words.proofs.Codes.Division.{divided-length}
 use Rattle.words.proofs.Codes.OuterWords.{generator-lt}
+use Rattle.document03.proofs.Fields.{xor, timesA, powA, timesA-agrees, powA-agrees}
 use Rattle.document03.proofs.Words.WordsAgree.{all-below, runs, sum-agrees, value-agrees, dropped-at, register-is}
 use Rattle.document03.proofs.Words.Statements.{scaledA, withRoot, generatorFrom, generator, shiftedIn, registerFrom, outerChecks, valueAt, rootsFrom, allSymbols, isOuter}
 

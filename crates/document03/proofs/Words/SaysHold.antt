@@ -9,19 +9,21 @@ use native.Mathlib.Omega.{arith}
 use borrow.Author.Tests.{eq-eqb, eqb-true, leb-true, leb-false, lt-ltb, le-ltb, le-leb, lt-leb}
 use lib.Dec.{eqb, ltb, leb, eqb·suc-zero}
 use lib.ListN.{length}
-use Rattle.document03.proofs.Fields.{pick}
-use Rattle.words.specs.Places.{at, allBelow}
-use Rattle.words.specs.Places as Places
+use Rattle.fields.specs.Places.{at, allBelow}
+use Rattle.fields.specs.Places as Places
+use Rattle.words.specs.Bits as Bits
 use Rattle.words.specs.OuterCode.{outerParity}
 use Rattle.words.specs.OuterCode as Outer
 use Rattle.words.specs.InnerCode.{innerParity}
 use Rattle.words.specs.InnerCode as Inner
 use Rattle.words.specs.Nearest.{nearest, Decodes}
-use Rattle.words.specs.Answers.{unless, refusal, within, answered, outerChecked, outerEncoded, innerChecked, innerEncoded, found, corrected, outerCorrected, innerCorrected}
+use Rattle.words.specs.Answers.{unless, refusal, within, answered, outerChecked, outerEncoded, innerChecked, innerEncoded, refusalOf, changedOf, found, corrected, outerCorrected, innerCorrected}
+use Rattle.words.specs.declared.Correction.{Correction}
 use Rattle.words.specs.Answers as Answers
-use Rattle.words.proofs.Places.Bytes.{bits-below, bits-length}
+use Rattle.words.proofs.Bits.Bytes.{bits-below, bits-length}
 use Rattle.words.proofs.Codes.InnerParity.{inner-length}
 use Rattle.words.proofs.Codes.Proved.{codes}
+use Rattle.document03.proofs.Fields.{pick}
 use Rattle.document03.proofs.Words.Statements.{when, outerChecks, isOuter, innerChecks, isInner, apart, isNear}
 use Rattle.document03.proofs.Words.Says.{firstOf, bitsOf, bytesOf, outerLong, OuterCheckSays, OuterMakeSays, InnerCheckSays, InnerMakeSays, Nearest, MendedWith, OuterMendSays, InnerMendSays}
 use Rattle.document03.proofs.Words.WordsAgree.{apart-agrees}
@@ -46,7 +48,7 @@ outer-check-says w r e =
 pub inner-check-says : (w : List ℕ) (r : ℕ) → r ≡ innerChecked w → InnerCheckSays w r
 unfolding innerChecked
 inner-check-says w r e =
-    e ∙ check-says (eqb (length w) 255) true (Inner.isInner (Places.bitsOf w))
+    e ∙ check-says (eqb (length w) 255) true (Inner.isInner (Bits.bitsOf w))
     ∙ ap (λ (c : Bool). firstOf (when (not (eqb (length w) 255)) 6) (when (not c) 4)) (ap Inner.isInner (sym (bits-agree w)) ∙ sym (InnerAgrees.inner-agrees (bitsOf w)))
 
 -- encoding: the refusal
@@ -105,9 +107,9 @@ firstOf-zero zero = refl
 firstOf-zero (suc n) = refl
 
 -- the parity bits of 244 bytes, in bytes
-bytes-says : (d : List ℕ) → length d ≡ 244 → Places.bytesOf 11 (at (innerParity (Places.bitsOf d))) ≡ bytesOf (innerChecks (bitsOf d))
+bytes-says : (d : List ℕ) → length d ≡ 244 → Bits.bytesOf 11 (at (innerParity (Bits.bitsOf d))) ≡ bytesOf (innerChecks (bitsOf d))
 bytes-says d long =
-    let bits = Places.bitsOf d in
+    let bits = Bits.bitsOf d in
     sym (ap bytesOf (ap innerChecks (bits-agree d) ∙ InnerAgrees.parity-agrees bits (bits-length d ∙ omega arith) (bits-below d)) ∙ bytes-agree 11 (innerParity bits) (inner-length bits))
 
 pub inner-make-says : (d o o′ : List ℕ) (r : ℕ) → _≡_ {A = ℕ × List ℕ} (r, o′) (innerEncoded d o) → InnerMakeSays d o o′ r
@@ -146,7 +148,7 @@ module _ (isCode isCode′ : List ℕ → Bool) (agree : (c : List ℕ) → isCo
   abbrev Ready : Type 0
   Ready = Decodes isCode q 8 (length w) × ((c : List ℕ) → length c ≡ length w → content c ≡ out c)
 
-  nearest-says : Ready → (a : Option (List ℕ)) → nearest isCode q 8 w ≡ a → (let r = found content w o a in Nearest isCode′ w o (r .2) out (r .0) (r .1))
+  nearest-says : Ready → (a : Option (List ℕ)) → nearest isCode q 8 w ≡ a → (let r = found content w o a in Nearest isCode′ w o (r .1) out (refusalOf (r .0)) (changedOf (r .0)))
   unfolding found
   nearest-says (D, stores) none e = inr (λ c h. far-says w c (λ l. D .none-means-none w c refl e l (sym (agree c) ∙ h)), refl, refl, refl)
   nearest-says (D, stores) (some c) e =
@@ -154,37 +156,37 @@ module _ (isCode isCode′ : List ℕ → Bool) (agree : (c : List ℕ) → isCo
       inl (c, agree c ∙ s .1, near-says w c (s .0) (s .2), refl, sym (apart-agrees w c (sym (s .0))), stores c (s .0))
 
   mended-says : (long fits symbols : Bool) → (long ≡ true → Ready) →
-      (let f = refusal long fits symbols in let r = corrected f o (found content w o (nearest isCode q 8 w)) in MendedWith f isCode′ w o (r .2) out (r .0) (r .1))
+      (let f = refusal long fits symbols in let r = corrected f o (found content w o (nearest isCode q 8 w)) in MendedWith f isCode′ w o (r .1) out (refusalOf (r .0)) (changedOf (r .0)))
   unfolding refusal corrected
   mended-says true true true h = nearest-says (h refl) (nearest isCode q 8 w) refl
   mended-says true true false h = (refl, refl, refl)
   mended-says true false symbols h = (refl, refl, refl)
   mended-says false fits symbols h = (refl, refl, refl)
 
-  mend-says : (long fits symbols : Bool) → (long ≡ true → Ready) → (f : ℕ) → refusal long fits symbols ≡ f → (o′ : List ℕ) (number changed : ℕ) →
-      _≡_ {A = ℕ × ℕ × List ℕ} (number, changed, o′) (corrected (refusal long fits symbols) o (found content w o (nearest isCode q 8 w))) → MendedWith f isCode′ w o o′ out number changed
-  mend-says long fits symbols h f same o′ number changed e =
-      subst (λ (f : ℕ). MendedWith f isCode′ w o o′ out number changed) same
-      (subst (λ (r : ℕ × ℕ × List ℕ). MendedWith (refusal long fits symbols) isCode′ w o (r .2) out (r .0) (r .1)) (sym e) (mended-says long fits symbols h))
+  mend-says : (long fits symbols : Bool) → (long ≡ true → Ready) → (f : ℕ) → refusal long fits symbols ≡ f → (o′ : List ℕ) (r : Correction) →
+      _≡_ {A = Correction × List ℕ} (r, o′) (corrected (refusal long fits symbols) o (found content w o (nearest isCode q 8 w))) → MendedWith f isCode′ w o o′ out (refusalOf r) (changedOf r)
+  mend-says long fits symbols h f same o′ r e =
+      subst (λ (f : ℕ). MendedWith f isCode′ w o o′ out (refusalOf r) (changedOf r)) same
+      (subst (λ (a : Correction × List ℕ). MendedWith (refusal long fits symbols) isCode′ w o (a .1) out (refusalOf (a .0)) (changedOf (a .0))) (sym e) (mended-says long fits symbols h))
 
-pub outer-mend-says : (w o o′ : List ℕ) (number changed : ℕ) → _≡_ {A = ℕ × ℕ × List ℕ} (number, changed, o′) (outerCorrected w o) → OuterMendSays w o o′ number changed
+pub outer-mend-says : (w o o′ : List ℕ) (r : Correction) → _≡_ {A = Correction × List ℕ} (r, o′) (outerCorrected w o) → OuterMendSays w o o′ (refusalOf r) (changedOf r)
 unfolding outerCorrected within
-outer-mend-says w o o′ number changed e =
+outer-mend-says w o o′ r e =
     let fits = eqb (length o) (length w) in
     let symbols = allBelow 1024 w in
     mend-says Outer.isOuter isOuter outer-agrees 1024 (λ c. c) (λ c. c) w o (outerLong w) fits symbols
     (λ l. (codes .outer-nearest (length w) (leb-true (length w) 1023 (and-eq-true-iff (leb 17 (length w)) (leb (length w) 1023) .0 l .1)), λ c same. refl)) _
     (refusal-says (outerLong w) fits symbols ∙ ap (λ (s : Bool). firstOf (when (not (outerLong w)) 6) (firstOf (when (not fits) 3) (when (not s) 7))) (sym (symbols-agree w)))
-    o′ number changed e
+    o′ r e
 
-pub inner-mend-says : (w o o′ : List ℕ) (number changed : ℕ) → _≡_ {A = ℕ × ℕ × List ℕ} (number, changed, o′) (innerCorrected w o) → InnerMendSays w o o′ number changed
+pub inner-mend-says : (w o o′ : List ℕ) (r : Correction) → _≡_ {A = Correction × List ℕ} (r, o′) (innerCorrected w o) → InnerMendSays w o o′ (refusalOf r) (changedOf r)
 unfolding innerCorrected
-inner-mend-says w o o′ number changed e =
+inner-mend-says w o o′ r e =
     let long = eqb (length w) 255 in
     let fits = eqb (length o) 255 in
-    let bits = Places.bitsOf w in
-    subst (λ (b : List ℕ). MendedWith (firstOf (when (not long) 6) (when (not fits) 3)) isInner b o o′ bytesOf number changed) (sym (bits-agree w))
-    (mend-says Inner.isInner isInner InnerAgrees.inner-agrees 2 (λ c. Places.bytesOf 255 (at c)) bytesOf bits o long fits true
+    let bits = Bits.bitsOf w in
+    subst (λ (b : List ℕ). MendedWith (firstOf (when (not long) 6) (when (not fits) 3)) isInner b o o′ bytesOf (refusalOf r) (changedOf r)) (sym (bits-agree w))
+    (mend-says Inner.isInner isInner InnerAgrees.inner-agrees 2 (λ c. Bits.bytesOf 255 (at c)) bytesOf bits o long fits true
     (λ l. let k : length bits ≡ 2040 = bits-length w ∙ omega (arith, eqb-true (length w) 255 l) in
     (rw k (codes .inner-nearest), λ c same. sym (bytes-agree 255 c (same ∙ k)))) _
-    (refusal-says long fits true ∙ ap (firstOf (when (not long) 6)) (firstOf-zero (when (not fits) 3))) o′ number changed e)
+    (refusal-says long fits true ∙ ap (firstOf (when (not long) 6)) (firstOf-zero (when (not fits) 3))) o′ r e)

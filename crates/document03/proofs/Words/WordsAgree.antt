@@ -13,11 +13,11 @@ use Rattle.fields.specs.Elements.{times}
 use Rattle.fields.specs.Elements as E
 use Rattle.fields.specs.Field.{Field}
 use Rattle.fields.specs.Lists.{tabulate}
+use Rattle.fields.specs.Places.{at, every, allBelow, horner, value, sumTo, differs}
+use Rattle.fields.specs.Places as Places
 use Rattle.fields.proofs.Lists.{tabulate-is}
+use Rattle.decoding.proofs.Algebra.Values.{value-lt}
 use Rattle.document03.proofs.Fields.{xor, xor-agrees}
-use Rattle.words.specs.Places.{at, every, allBelow, horner, value, sumTo, differs}
-use Rattle.words.specs.Places as Places
-use Rattle.words.proofs.Algebra.Values.{value-lt}
 use Rattle.document03.proofs.Words.Statements.{when, sums, same, apart}
 
 -- a test of all symbols, first symbol first

@@ -7,11 +7,11 @@ use Rattle.exports.proofs.exports_correct_frame.Tie as tie
 correct-frame-requires : tie.Need-correct-frame-requires
 correct-frame-requires c κs = search needs
 
-slice-aggregate-hand-out : tie.Need-slice-aggregate-hand-out
-slice-aggregate-hand-out c = search needs
+slice-aggregate-copy : tie.Need-slice-aggregate-copy
+slice-aggregate-copy c = search needs
 
-hand-out-requires : tie.Need-hand-out-requires
-hand-out-requires c κs = search needs
+copy-requires : tie.Need-copy-requires
+copy-requires c κs = search needs
 
 cast-result : tie.Need-cast-result
 cast-result c = search needs
@@ -39,8 +39,8 @@ exports-correct-frame-spec =
     tie.close
     (tie.spec
     correct-frame-requires
-    slice-aggregate-hand-out
-    hand-out-requires
+    slice-aggregate-copy
+    copy-requires
     cast-result
     mul-result
     cast-result-2

@@ -19,11 +19,11 @@ returns-2 c = search (needs, correct-space)
 blank-requires : tie.Need-blank-requires
 blank-requires c κs = search needs
 
-slice-aggregate-copy : tie.Need-slice-aggregate-copy
-slice-aggregate-copy c = search needs
+slice-aggregate-copy-bytes : tie.Need-slice-aggregate-copy-bytes
+slice-aggregate-copy-bytes c = search needs
 
-copy-requires : tie.Need-copy-requires
-copy-requires c κs = search needs
+copy-bytes-requires : tie.Need-copy-bytes-requires
+copy-bytes-requires c κs = search needs
 
 slice-aggregate-correct : tie.Need-slice-aggregate-correct
 slice-aggregate-correct c = search needs
@@ -70,8 +70,8 @@ correct-frame-spec =
     refused-requires-2
     returns-2
     blank-requires
-    slice-aggregate-copy
-    copy-requires
+    slice-aggregate-copy-bytes
+    copy-bytes-requires
     slice-aggregate-correct
     correct-requires
     slice-aggregate-outer-pass

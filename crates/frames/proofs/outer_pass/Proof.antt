@@ -7,8 +7,8 @@ use Rattle.frames.proofs.outer_pass.Tie as tie
 are-code-words-requires : tie.Need-are-code-words-requires
 are-code-words-requires c κs = search needs
 
-copy-requires : tie.Need-copy-requires
-copy-requires c κs = search needs
+copy-bytes-requires : tie.Need-copy-bytes-requires
+copy-bytes-requires c κs = search needs
 
 same-length : tie.Need-same-length
 same-length c = search needs
@@ -48,7 +48,7 @@ outer-pass-spec =
     tie.close
     (tie.spec
     are-code-words-requires
-    copy-requires
+    copy-bytes-requires
     same-length
     returns
     blank-requires

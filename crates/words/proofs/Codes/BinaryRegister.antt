@@ -10,13 +10,14 @@ use lib.ListN.{List·getD-eq-default}
 use lib.Pow.{pow-lt}
 use Rattle.fields.specs.Elements.{xor, scale, doubled}
 use Rattle.fields.specs.Lists.{tabulate}
+use Rattle.fields.specs.Places.{at, horner}
 use Rattle.fields.proofs.Xor.{xor-zero-r, xor-comm, additive-zero}
 use Rattle.fields.proofs.Doubling.{doubled-sum, doubled-below}
 use Rattle.fields.proofs.Lists.{tabulate-length, tabulate-at, tabulate-same}
-use Rattle.words.specs.Places.{at, bitOf, horner}
+use Rattle.words.specs.Bits.{bitOf}
 use Rattle.words.specs.OuterCode.{shiftedIn, divided}
 use Rattle.words.specs.InnerCode.{remainder}
-use Rattle.words.proofs.Places.Numbers.{bitOf-zero, bitOf-last}
+use Rattle.words.proofs.Bits.Numbers.{bitOf-zero, bitOf-last}
 use Rattle.words.proofs.Codes.Horner.{iter, iter-in, iter-sum}
 use Rattle.words.proofs.Codes.ShiftedBits.{bitOf-sum, bitOf-scale, bitOf-twice, bitOf-top, bitOf-first, bitOf-other}
 

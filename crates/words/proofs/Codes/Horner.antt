@@ -10,9 +10,9 @@ use lib.ListN.{length, List·getD-append, List·getD-eq-default}
 use lib.Pow.{pow-pos}
 use lib.Seq.{getD-append-add}
 use Rattle.fields.specs.Elements.{xor, scale, doubled}
+use Rattle.fields.specs.Places.{at, horner}
 use Rattle.fields.proofs.Xor.{xor-zero-l, xor-zero-r, xor-comm, xor-self, xor-assoc, xor-four, xor-half, xor-bit, xor-lt, additive-zero}
 use Rattle.fields.proofs.Doubling.{two-le, bits-scale, doubled-lt}
-use Rattle.words.specs.Places.{at, horner}
 use Rattle.words.specs.InnerCode.{valueOf, remainder}
 
 abbrev pub Additive : (ℕ → ℕ) → Type 0

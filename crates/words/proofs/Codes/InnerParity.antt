@@ -11,13 +11,14 @@ use lib.Pow.{pow-mono}
 use lib.Seq.{getD-append-add}
 use Rattle.fields.specs.Elements.{xor, doubled}
 use Rattle.fields.specs.Lists.{tabulate}
+use Rattle.fields.specs.Places.{at, allBelow, horner}
 use Rattle.fields.proofs.Xor.{xor-zero-r, xor-self, xor-shifted, xor-cancel}
 use Rattle.fields.proofs.Doubling.{doubled-sum, doubled-below}
 use Rattle.fields.proofs.Lists.{tabulate-length, tabulate-at, tabulate-is}
-use Rattle.words.specs.Places.{at, allBelow, bitOf, numberOf, horner}
+use Rattle.fields.proofs.Places.Tests.{below-at, below-all, below-append}
+use Rattle.words.specs.Bits.{bitOf, numberOf}
 use Rattle.words.specs.InnerCode.{divisor, remainder, isInner, innerRemainder, innerParity}
-use Rattle.words.proofs.Places.Tests.{below-at, below-all, below-append}
-use Rattle.words.proofs.Places.Numbers.{bitOf-lt, numberOf-lt, numberOf-bits, bitOf-number}
+use Rattle.words.proofs.Bits.Numbers.{bitOf-lt, numberOf-lt, numberOf-bits, bitOf-number}
 use Rattle.words.proofs.Codes.Horner.{horner-same, horner-append, remainder-lt}
 use Rattle.words.proofs.Codes.LeastPolynomials.{divisor-degree}
 use Rattle.words.proofs.Codes.InnerWords.{inner-is}

@@ -10,15 +10,16 @@ use lib.Dec.{eqb, lit<}
 use lib.ListN.{length}
 use lib.Pow.{pow-pos}
 use Rattle.fields.specs.Elements.{xor, exponent}
+use Rattle.fields.specs.Places.{at, every, allBelow, horner, value}
 use Rattle.fields.proofs.Instances.{field-b}
-use Rattle.words.specs.Places.{at, every, allBelow, bitOf, horner, value}
+use Rattle.fields.proofs.Places.Tests.{every-at, below-at}
+use Rattle.decoding.proofs.Algebra.Field.{all-map, upto, upto-lt, upto-apart}
+use Rattle.decoding.proofs.Algebra.Locators.{vanishes}
+use Rattle.decoding.proofs.Algebra.Elements.{ops, laws}
+use Rattle.decoding.proofs.Algebra.Values.{value-abstract}
+use Rattle.words.specs.Bits.{bitOf}
 use Rattle.words.specs.InnerCode.{valueOf, powerB, divisor, remainder, isInner}
-use Rattle.words.proofs.Places.Tests.{every-at, below-at}
-use Rattle.words.proofs.Places.Numbers.{bitOf-lt, bitOf-zero, bitOf-half, bitOf-last, numberOf-same, numberOf-bits}
-use Rattle.words.proofs.Algebra.Field.{all-map, upto, upto-lt, upto-apart}
-use Rattle.words.proofs.Algebra.Locators.{vanishes}
-use Rattle.words.proofs.Algebra.Elements.{ops, laws}
-use Rattle.words.proofs.Algebra.Values.{value-abstract}
+use Rattle.words.proofs.Bits.Numbers.{bitOf-lt, bitOf-zero, bitOf-half, bitOf-last, numberOf-same, numberOf-bits}
 use Rattle.words.proofs.Codes.Horner.{scale-one, horner-same, valueOf-more}
 use Rattle.words.proofs.Codes.LeastPolynomials.{divisor-degree, divisor-vanishes, times-power-sum}
 use Rattle.words.proofs.Codes.InnerWords.{remainder-value, Root, root-twice}

@@ -8,10 +8,10 @@ use borrow.Author.Tests.{eqb-true}
 use lib.Arith.{bin-ind}
 use lib.Dec.{eqb, lit<}
 use lib.ListN.{length}
+use Rattle.fields.specs.Places.{at, allBelow, value}
 use Rattle.fields.proofs.Instances.{field-b}
-use Rattle.words.specs.Places.{at, allBelow, value}
+use Rattle.fields.proofs.Places.Tests.{below-at}
 use Rattle.words.specs.InnerCode.{powerB, valueB, divisor, remainder, isInner}
-use Rattle.words.proofs.Places.Tests.{below-at}
 use Rattle.words.proofs.Codes.Horner.{scale-one, horner-same, valueOf-zero, value-remainder}
 use Rattle.words.proofs.Codes.LeastPolynomials.{divisor-degree, divisor-vanishes, times-power-sum}
 use Rattle.words.proofs.Codes.Squares.{squares}

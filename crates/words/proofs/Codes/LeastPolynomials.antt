@@ -11,11 +11,11 @@ use lib.Arith.{lt-one}
 use lib.Dec.{eqb}
 use lib.Pow.{pow-pos}
 use Rattle.fields.specs.Elements.{xor, scale, doubled, timesFrom, times, power, timesB}
+use Rattle.fields.specs.Places.{at, every}
 use Rattle.fields.proofs.Xor.{xor-shifted, additive-zero}
 use Rattle.fields.proofs.Times.{sum-times}
-use Rattle.words.specs.Places.{at, every}
+use Rattle.fields.proofs.Places.Tests.{every-at}
 use Rattle.words.specs.InnerCode.{valueOf, powerB, valueB, factors, productOf, divisor}
-use Rattle.words.proofs.Places.Tests.{every-at}
 use Rattle.words.proofs.Codes.Horner.{Additive, valueOf-sum}
 
 pub divisor-is : divisor ≡ 317645624157077156049808851

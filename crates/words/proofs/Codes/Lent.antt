@@ -9,12 +9,12 @@ use lib.Pow.{pow-pos}
 use Rattle.fields.specs.Elements.{xor, times, powers, exponents}
 use Rattle.fields.specs.Field.{Field}
 use Rattle.fields.specs.ByTables.{tableProduct}
+use Rattle.fields.specs.Places.{at, horner, value}
 use Rattle.fields.proofs.ByTables.{table-product}
 use Rattle.fields.proofs.Lists.{tabulate-lt}
-use Rattle.words.specs.Places.{at, horner, value}
+use Rattle.decoding.specs.ByTables.{lentValue}
+use Rattle.decoding.proofs.Algebra.Values.{value-lt}
 use Rattle.words.specs.OuterCode.{shiftedIn, divided}
-use Rattle.words.specs.ByTables.{lentValue}
-use Rattle.words.proofs.Algebra.Values.{value-lt}
 
 module _ (m p : ℕ) (F : Field m p) where
   pub product-same : (x y : ℕ) → x < 2 ^ m → y < 2 ^ m → tableProduct (powers m p) (exponents m p) x y ≡ times m p x y

@@ -10,10 +10,10 @@ use native.Mathlib.Omega.{arith}
 use borrow.Author.Tests.{leb-true, leb-false}
 use lib.Dec.{leb}
 use lib.ListN.{length}
-use Rattle.words.specs.Places.{at, allBelow, apart}
+use Rattle.fields.specs.Places.{at, allBelow, apart}
+use Rattle.fields.proofs.Places.Tests.{below-lt}
+use Rattle.fields.proofs.Places.Counting.{apart-two}
 use Rattle.words.specs.Nearest.{orElse, firstAt, firstWord, nearest, Decodes}
-use Rattle.words.proofs.Places.Tests.{below-lt}
-use Rattle.words.proofs.Places.Counting.{apart-two}
 
 -- ---- the search through all words
 

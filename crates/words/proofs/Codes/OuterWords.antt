@@ -11,20 +11,20 @@ use lib.ListN.{length, take, drop, length-append, length-drop, take-append-drop,
 use lib.Seq.{drop-append-seam, ext-getD, getD-drop, getD-take, length-take-le}
 use Rattle.fields.specs.Elements.{xor, scale, doubled, timesFrom, times, power, timesA, powersA, exponentsA}
 use Rattle.fields.specs.Lists.{tabulate}
+use Rattle.fields.specs.Places.{at, every, allBelow, horner, value, apart}
 use Rattle.fields.proofs.ByTables.{table-power}
 use Rattle.fields.proofs.Instances.{field-a}
 use Rattle.fields.proofs.Lists.{tabulate-at, tabulate-length, tabulate-lt, tabulate-same}
 use Rattle.fields.proofs.Xor.{xor-zero-r, xor-self, xor-cancel}
-use Rattle.words.specs.Places.{at, every, allBelow, horner, value, apart}
+use Rattle.fields.proofs.Places.Tests.{every-at, every-true, below-at, below-all, below-append, below-take}
+use Rattle.fields.proofs.Places.Counting.{apart-append}
+use Rattle.decoding.specs.ByTables.{lentValue, rootValue, rootValues}
+use Rattle.decoding.proofs.Algebra.MinimumDistance.{far-lists}
 use Rattle.words.specs.OuterCode.{powerA, outerValue, isOuter, withRoot, withRoots, generator, outerParity}
-use Rattle.words.specs.ByTables.{lentValue, rootValue, rootValues}
 use Rattle.words.specs.Division.{outerRemainder}
-use Rattle.words.proofs.Places.Tests.{every-at, every-true, below-at, below-all, below-append, below-take}
 use Rattle.words.proofs.Codes.Lent.{value-lent, divided-lt}
 use Rattle.words.proofs.Codes.Division.{divided-length, register-value, completed-value}
 use Rattle.words.proofs.Codes.Horner.{Additive, iter, horner-same, horner-sum, horner-parts}
-use Rattle.words.proofs.Places.Counting.{apart-append}
-use Rattle.words.proofs.Algebra.MinimumDistance.{far-lists}
 
 pub record Outer (w : List ℕ) : Type 0 where
   pub symbols : (i : ℕ) → at w i < 1024

@@ -13,13 +13,13 @@ use lib.ListN.{length, List·getD-eq-default}
 use lib.Pow.{pow-pos, pow-add, pow-mono, shr-shr, shl-lt, mod-pow-add}
 use Rattle.fields.specs.Elements.{xor, timesA}
 use Rattle.fields.specs.Lists.{tabulate}
+use Rattle.fields.specs.Places.{at, allBelow, horner}
 use Rattle.fields.proofs.Instances.{field-a}
 use Rattle.fields.proofs.Lists.{tabulate-at, tabulate-is, tabulate-same, tabulate-length}
 use Rattle.fields.proofs.Xor.{xor-zero-l, xor-zero-r, xor-self, xor-assoc, xor-comm, xor-four, xor-lt, xor-high, xor-shifted, additive-zero}
-use Rattle.words.specs.Places.{at, allBelow, horner}
+use Rattle.fields.proofs.Places.Tests.{below-at}
 use Rattle.words.specs.OuterCode.{generator, shiftedIn, divided}
 use Rattle.words.specs.SixSymbols.{joined, joinedFrom, symbolOf, six, Packs, numberAt, unpacked, sixParity, parityEntry, parities}
-use Rattle.words.proofs.Places.Tests.{below-at}
 use Rattle.words.proofs.Codes.Horner.{Additive, horner-same, horner-sum, horner-zero}
 use Rattle.words.proofs.Codes.Lent.{divided-lt}
 use Rattle.words.proofs.Codes.Division.{divided-length}

@@ -5,14 +5,14 @@ use mathlib.Core.List.{List}
 use Prim.Native.Nat.{ℕ, _+_, _≤_, _<_}
 use native.Mathlib.Omega.{arith}
 use lib.ListN.{length}
+use Rattle.fields.specs.Places.{at, apart, value}
 use Rattle.fields.proofs.Instances.{field-b}
-use Rattle.words.specs.Places.{at, apart, value}
+use Rattle.fields.proofs.Places.Tests.{below-all}
+use Rattle.decoding.proofs.Algebra.MinimumDistance.{far-lists}
 use Rattle.words.specs.OuterCode.{isOuter}
 use Rattle.words.specs.InnerCode.{powerB, isInner}
 use Rattle.words.specs.Nearest.{Decodes}
 use Rattle.words.specs.Codes.{Codes}
-use Rattle.words.proofs.Places.Tests.{below-all}
-use Rattle.words.proofs.Algebra.MinimumDistance.{far-lists}
 use Rattle.words.proofs.Codes.OuterWords.{outer-is, outer-length, outer-made, outer-only, outer-far}
 use Rattle.words.proofs.Codes.LeastPolynomials.{factor-vanishes, none-lower}
 use Rattle.words.proofs.Codes.InnerWords.{Inner, inner-is, inner-roots}

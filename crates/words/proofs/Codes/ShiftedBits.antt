@@ -7,8 +7,8 @@ use native.Mathlib.Omega.{arith}
 use lib.Pow.{pow-add, shl-shr, shr-shr}
 use Rattle.fields.specs.Elements.{scale}
 use Rattle.fields.proofs.Xor.{xor-high, xor-bit}
-use Rattle.words.specs.Places.{bitOf}
-use Rattle.words.proofs.Places.Numbers.{bitOf-zero}
+use Rattle.words.specs.Bits.{bitOf}
+use Rattle.words.proofs.Bits.Numbers.{bitOf-zero}
 use Rattle.words.proofs.Codes.Horner.{Additive}
 
 pub bitOf-sum : (n i : ℕ) → Additive (λ x. bitOf n x i)

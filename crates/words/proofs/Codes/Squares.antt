@@ -4,9 +4,9 @@ use Prim.Native.Nat.{ℕ, zero, suc, _^_, _<_}
 use native.Mathlib.Omega.{arith}
 use Rattle.fields.specs.Elements.{xor, times}
 use Rattle.fields.specs.Field.{Field}
+use Rattle.fields.specs.Places.{horner, value}
 use Rattle.fields.proofs.Doubling.{two-le}
-use Rattle.words.specs.Places.{horner, value}
-use Rattle.words.proofs.Algebra.Values.{value-lt}
+use Rattle.decoding.proofs.Algebra.Values.{value-lt}
 
 module _ (m p : ℕ) (F : Field m p) where
   bit-lt : (t : ℕ) → t < 2 → t < 2 ^ m

@@ -11,14 +11,14 @@ use lib.ListN.{length}
 use lib.Pow.{pow-add, pow-lt, shr-shr}
 use Rattle.fields.specs.Elements.{xor, scale, doubled, timesFrom, times, power, timesA}
 use Rattle.fields.specs.Lists.{tabulate}
+use Rattle.fields.specs.Places.{at, every, horner}
 use Rattle.fields.proofs.Instances.{field-a}
 use Rattle.fields.proofs.Lists.{tabulate-at, tabulate-is, tabulate-same}
 use Rattle.fields.proofs.Rows.{rows, look, look-is, once, once-is}
 use Rattle.fields.proofs.Xor.{xor-zero-l, additive-zero}
-use Rattle.words.specs.Places.{at, every, horner}
+use Rattle.fields.proofs.Places.Tests.{every-at}
 use Rattle.words.specs.OuterCode.{withRoot, withRoots, generator, shiftedIn, divided}
 use Rattle.words.specs.SixSymbols.{joined, joinedFrom, symbolOf, six, sixParity, unitParities}
-use Rattle.words.proofs.Places.Tests.{every-at}
 use Rattle.words.proofs.Codes.Lent.{divided-lt}
 use Rattle.words.proofs.Codes.Packing.{symbol-at, divided-same, divided-late, parity-joined, no-cells}
 use Rattle.words.proofs.Codes.OuterWords.{generator-lt}

@@ -12,25 +12,26 @@ use lib.ListN.{length}
 use Rattle.fields.specs.Elements.{xor, times, power, powersB, exponentsB}
 use Rattle.fields.specs.Field.{Field}
 use Rattle.fields.specs.ByTables.{tableProduct, tablePower}
+use Rattle.fields.specs.Places.{at, horner, value, differs}
 use Rattle.fields.proofs.ByTables.{table-power}
-use Rattle.fields.proofs.Instances.{field-b, lent-b}
+use Rattle.fields.proofs.Instances.{field-b}
 use Rattle.fields.proofs.Lists.{tabulate-at}
 use Rattle.fields.proofs.Xor.{xor-comm, additive-zero}
-use Rattle.words.specs.Places.{at, bitOf, horner, value, differs}
+use Rattle.decoding.specs.Decoder.{Tables, locator, xorTo, syndrome}
+use Rattle.decoding.proofs.Algebra.Field.{mul-comm, mul-add, mul-zero}
+use Rattle.decoding.proofs.Algebra.PowerSums.{powerSum}
+use Rattle.decoding.proofs.Algebra.Values.{value-lt}
+use Rattle.decoding.proofs.Algebra.Tables.{lentOps, lent-laws, lent-powers, exponents-length, syndrome-is, xorTo-same, tables-b}
+use Rattle.decoding.proofs.Decoding.Changes.{value-syndrome}
+use Rattle.words.specs.Bits.{bitOf}
 use Rattle.words.specs.InnerCode.{powerB, divisor, remainder}
-use Rattle.words.specs.Decoder.{Tables, locator, xorTo, syndrome}
 use Rattle.words.specs.InnerDecoding.{powersValue, oddValues, Syndromes, isBit}
-use Rattle.words.proofs.Places.Numbers.{bitOf-lt}
-use Rattle.words.proofs.Algebra.Field.{mul-comm, mul-add, mul-zero}
-use Rattle.words.proofs.Algebra.PowerSums.{powerSum}
-use Rattle.words.proofs.Algebra.Values.{value-lt}
-use Rattle.words.proofs.Algebra.Tables.{lentOps, lent-laws, lent-powers, exponents-length, syndrome-is, xorTo-same}
+use Rattle.words.proofs.Bits.Numbers.{bitOf-lt}
 use Rattle.words.proofs.Codes.Horner.{Additive, iter, iter-sum, horner-front}
 use Rattle.words.proofs.Codes.Lent.{product-same, horner-lent}
 use Rattle.words.proofs.Codes.Squares.{squares}
 use Rattle.words.proofs.Codes.InnerWords.{by-doubling}
 use Rattle.words.proofs.Codes.InnerRoots.{remainder-bits}
-use Rattle.words.proofs.Decoding.Changes.{value-syndrome}
 
 -- bits times locators
 module _ (es ls : List ℕ) (T : Tables es ls) where
@@ -68,9 +69,6 @@ module _ (es ls : List ℕ) (T : Tables es ls) where
   syndrome-next : (n : ℕ) (e : ℕ → ℕ) (j : ℕ) → syndrome es ls n e (suc j) ≡ syndrome es ls n (λ i. tableProduct es ls (locator es n i) (e i)) j
   unfolding powerSum
   syndrome-next n e j = syndrome-is es ls T n e (suc j) ∙ sym (syndrome-is es ls T n (λ i. tableProduct es ls (locator es n i) (e i)) j)
-
-pub tables-b : Tables powersB exponentsB
-tables-b = (11, 2053, lent-b)
 
 log-length : length exponentsB ≡ 2048
 log-length = exponents-length 11 2053 field-b

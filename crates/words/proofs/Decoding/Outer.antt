@@ -10,20 +10,20 @@ use borrow.Author.Tests.{eq-eqb}
 use lib.Dec.{lit<}
 use lib.ListN.{length}
 use Rattle.fields.specs.Elements.{xor, powersA, exponentsA}
+use Rattle.fields.specs.Places.{at, allBelow, apart}
 use Rattle.fields.proofs.Instances.{field-a, lent-a}
 use Rattle.fields.proofs.Lists.{tabulate-at}
 use Rattle.fields.proofs.Xor.{xor-lt, xor-self, xor-zero-r}
-use Rattle.words.specs.Places.{at, allBelow, apart}
+use Rattle.fields.proofs.Places.Tests.{every-true, below-at, below-all}
+use Rattle.decoding.specs.ByTables.{lentValue, rootValue, rootValues}
+use Rattle.decoding.specs.Decoder.{Tables, syndrome, errorAt, Decoded, weightOf, withErrors}
+use Rattle.decoding.proofs.Algebra.Tables.{exponents-length}
+use Rattle.decoding.proofs.Decoding.Changes.{sum-weight, error-lt, weight-most, errors-length, errors-at, apart-errors, syndrome-same, syndrome-add, value-syndrome, none-left, few-leave-none}
 use Rattle.words.specs.OuterCode.{outerValue, isOuter}
 use Rattle.words.specs.Nearest.{nearest}
-use Rattle.words.specs.ByTables.{lentValue, rootValue, rootValues}
-use Rattle.words.specs.Decoder.{Tables, syndrome, errorAt, Decoded, weightOf, withErrors}
-use Rattle.words.proofs.Places.Tests.{every-true, below-at, below-all}
-use Rattle.words.proofs.Algebra.Tables.{exponents-length}
 use Rattle.words.proofs.Codes.OuterWords.{outer-is, root-is}
 use Rattle.words.proofs.Codes.Nearest.{nearest-lost}
 use Rattle.words.proofs.Codes.Proved.{codes}
-use Rattle.words.proofs.Decoding.Changes.{sum-weight, error-lt, weight-most, errors-length, errors-at, apart-errors, syndrome-same, syndrome-add, value-syndrome, none-left, few-leave-none}
 
 pub tables-a : Tables powersA exponentsA
 tables-a = (10, 1033, lent-a)

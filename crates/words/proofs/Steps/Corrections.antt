@@ -10,19 +10,23 @@ use borrow.Author.Tests.{eq-eqb, eqb-true, le-leb, ne-eqb, not-false, not-true}
 use lib.Dec.{eqb, lit<}
 use lib.ListN.{length, getD, set, length-set}
 use lib.Seq.{getD-set-same, getD-set-other}
+use Rattle.fields.specs.Buffers.{copied}
 use Rattle.fields.specs.Elements.{xor, powersA, exponentsA}
+use Rattle.fields.specs.Places.{at, allBelow}
 use Rattle.fields.proofs.Instances.{field-a}
 use Rattle.fields.proofs.Lists.{tabulate-is, tabulate-same}
 use Rattle.fields.proofs.Xor.{xor-assoc, xor-zero-r}
-use Rattle.words.specs.Places.{at, allBelow}
+use Rattle.fields.proofs.Places.Tests.{below-at, below-all}
+use Rattle.decoding.specs.ByTables.{rootValues}
+use Rattle.decoding.specs.Decoder.{Tables, xorTo, errorAt, Decoded, weightOf, withError, withErrors}
+use Rattle.decoding.proofs.Steps.Symbols.{copied-same}
+use Rattle.decoding.proofs.Algebra.Tables.{powers-length}
+use Rattle.decoding.proofs.Decoding.Changes.{errors-length, errors-at}
+use Rattle.words.specs.declared.Correction.{Correction}
+use Rattle.words.specs.declared.Correction.the-variants.{Corrected, Refused}
 use Rattle.words.specs.Answers.{refusal, within, found, corrected, outerCorrected}
-use Rattle.words.specs.ByTables.{rootValues}
 use Rattle.words.specs.Division.{outerRemainder}
 use Rattle.words.specs.SixSymbols.{Packs, unpacked}
-use Rattle.words.specs.Decoder.{Tables, xorTo, errorAt, Decoded, weightOf, withError, withErrors}
-use Rattle.words.proofs.Places.Tests.{below-at, below-all}
-use Rattle.words.proofs.Algebra.Tables.{powers-length}
-use Rattle.words.proofs.Decoding.Changes.{errors-length, errors-at}
 use Rattle.words.proofs.Decoding.Outer.{tables-a, outer-changes, outer-found, outer-lost}
 use Rattle.words.proofs.Steps.Joining.{root-values-made}
 use Rattle.words.proofs.Steps.Entries.{passed}
@@ -46,9 +50,9 @@ unfoldable pub errorsAdded : List ℕ → List ℕ → List ℕ → ℕ → List
 errorsAdded w places values k = withErrors (at w) places values k (length w)
 
 module _ (w places values out : List ℕ) where
-  pub errors-start : out ≡ w → out ≡ errorsAdded w places values 0
+  pub errors-start : (buffer : List ℕ) → length buffer ≡ length w → out ≡ copied w buffer → out ≡ errorsAdded w places values 0
   unfolding errorsAdded withErrors errorAt xorTo
-  errors-start e = e ∙ tabulate-is (length w) _ w 0 refl (λ i l. sym (xor-zero-r (at w i)))
+  errors-start buffer long e = e ∙ copied-same w buffer long ∙ tabulate-is (length w) _ w 0 refl (λ i l. sym (xor-zero-r (at w i)))
 
   module _ (k : ℕ) (so-far : out ≡ errorsAdded w places values k) where
     long : length out ≡ length w
@@ -76,7 +80,7 @@ pub tables-lent : (es ls : List ℕ) → es ≡ powersA → ls ≡ exponentsA �
 tables-lent es ls exp log = rw (exp, log) tables-a
 
 module _ (w o : List ℕ) (r : ℕ) (told : r ≡ refusal (within 17 1023 (length w)) (eqb (length o) (length w)) (allBelow 1024 w)) where
-  pub correct-outer-refused : (r ≡ 0 → ⊥) → _≡_ {A = ℕ × ℕ × List ℕ} (r, 0, o) (outerCorrected w o)
+  pub correct-outer-refused : (r ≡ 0 → ⊥) → _≡_ {A = Correction × List ℕ} (Refused r, o) (outerCorrected w o)
   unfolding outerCorrected corrected
   correct-outer-refused n = rw (← told, ne-eqb r 0 n)
 
@@ -106,12 +110,12 @@ module _ (w o : List ℕ) (least : 17 ≤ length w) (most : length w ≤ 1023) (
           go false e = refl
           go true e = sym (below-all q left (λ i l. omega (arith, below-at 1 left (lit< tt) e i))) ∙ f
 
-      pub correct-outer-lost : (q : ℕ) → 0 < q → b ≡ allBelow q left → length left ≡ 16 → not b ≡ true → _≡_ {A = ℕ × ℕ × List ℕ} (5, 0, o) (outerCorrected w o)
+      pub correct-outer-lost : (q : ℕ) → 0 < q → b ≡ allBelow q left → length left ≡ 16 → not b ≡ true → _≡_ {A = Correction × List ℕ} (Refused 5, o) (outerCorrected w o)
       unfolding outerCorrected corrected found
       correct-outer-lost q h test long n = rw (accepted, outer-lost w symbols places values count left D′ long (some-left q h (sym test ∙ not-true b n)))
 
       pub correct-outer-found : b ≡ allBelow 1 left → not b ≡ false → (out : List ℕ) → out ≡ withErrors (at w) places values count (length w) → (changed : ℕ) → changed ≡ weightOf values count →
-          _≡_ {A = ℕ × ℕ × List ℕ} (0, changed, out) (outerCorrected w o)
+          _≡_ {A = Correction × List ℕ} (Corrected changed, out) (outerCorrected w o)
       unfolding outerCorrected corrected found
       correct-outer-found test n out e changed c =
           let zero : allBelow 1 left ≡ true = sym test ∙ not-false b n in

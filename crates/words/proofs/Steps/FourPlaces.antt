@@ -12,14 +12,15 @@ use lib.ListN.{getD, set, replicate, length-set}
 use lib.Pow.{split, pow-pos, shl-lt}
 use lib.Seq.{getD-set-same, getD-set-other}
 use Rattle.fields.specs.Elements.{xor, doubled}
+use Rattle.fields.specs.Places.{horner}
 use Rattle.fields.proofs.Xor.{xor-zero-r, xor-assoc, xor-shifted}
 use Rattle.fields.proofs.Doubling.{doubled-sum, doubled-below, doubled-lt}
 use Rattle.words.specs.declared.bch.Polynomial.{Polynomial}
-use Rattle.words.specs.Places.{bitOf, numberOf, bitAt, horner}
+use Rattle.words.specs.Bits.{bitOf, numberOf, bitAt}
 use Rattle.words.specs.InnerCode.{divisor, remainder}
 use Rattle.words.specs.Limbs.{number, Holds, residue, zeroPolynomial, Residues}
-use Rattle.words.proofs.Places.Bytes.{bitAt-lt, number-of-bits}
-use Rattle.words.proofs.Places.Numbers.{bitOf-lt, numberOf-lt}
+use Rattle.words.proofs.Bits.Bytes.{bitAt-lt, number-of-bits}
+use Rattle.words.proofs.Bits.Numbers.{bitOf-lt, numberOf-lt}
 use Rattle.words.proofs.Codes.Horner.{iter, horner-same, iter-sum, horner-parts}
 use Rattle.words.proofs.Codes.LeastPolynomials.{divisor-degree}
 use Rattle.words.proofs.Codes.InnerParity.{remainder-short, inner-remainder-lt}

@@ -15,21 +15,23 @@ use lib.Pow.{field, mod-mod-pow, shr-shr}
 use lib.Seq.{getD-set-same, getD-set-other}
 use mir.Syntax.{w16, w64}
 use mir.Val.{Fits}
+use Rattle.fields.specs.Buffers.{copied}
 use Rattle.fields.specs.Elements.{xor, powersB, exponentsB}
 use Rattle.fields.specs.ByTables.{tableProduct, tablePower}
 use Rattle.fields.specs.Lists.{tabulate}
+use Rattle.fields.specs.Places.{at, every, allBelow, differs}
 use Rattle.fields.proofs.Instances.{field-b}
 use Rattle.fields.proofs.Lists.{tabulate-at, tabulate-same}
 use Rattle.fields.proofs.Xor.{xor-zero-r, xor-assoc, xor-high, xor-bit}
-use Rattle.words.specs.Places.{at, every, allBelow, bitOf, bitAt, bitsOf, differs}
+use Rattle.fields.proofs.Places.Filling.{Filled, filled-next, filled-end}
+use Rattle.fields.proofs.Places.Tests.{every-at, every-false}
+use Rattle.decoding.specs.Decoder.{Tables, locator, xorTo, errorAt, Decoded, withErrors}
+use Rattle.decoding.proofs.Steps.Symbols.{copied-same}
+use Rattle.decoding.proofs.Algebra.Tables.{powers-length, tables-b}
+use Rattle.words.specs.Bits.{bitOf, bitAt, bitsOf}
 use Rattle.words.specs.InnerCode.{divisor, remainder}
 use Rattle.words.specs.Limbs.{number, Holds}
-use Rattle.words.specs.Decoder.{Tables, locator, xorTo, errorAt, Decoded, withErrors}
 use Rattle.words.specs.InnerDecoding.{powersValue, oddValues, plusTerm, Syndromes, isBit, isBinary, flips, ErrorsOf, InnerErrors, inverted, explains}
-use Rattle.words.proofs.Places.Filling.{Filled, filled-next, filled-end}
-use Rattle.words.proofs.Places.Tests.{every-at, every-false}
-use Rattle.words.proofs.Algebra.Tables.{powers-length}
-use Rattle.words.proofs.Decoding.InnerSyndromes.{tables-b}
 use Rattle.words.proofs.Decoding.Inner.{flip-at}
 
 -- coefficient k of 88, the highest first: where it is one of the 48 low ones, and where it is not
@@ -146,14 +148,14 @@ pub binary-none : (es places values : List ℕ) → binaryUpTo es places values 
 unfolding binaryUpTo isBinary every
 binary-none es places values = refl
 
-module _ (es places values : List ℕ) (n k x : ℕ) (ex : x ≡ locator es 2040 (getD places k 0)) (t : Bool) (et : t ≡ isBit (getD values k 0) x) where
+module _ (es places values : List ℕ) (n k i x v : ℕ) (ei : i ≡ at places k) (ex : x ≡ locator es 2040 i) (ev : v ≡ at values k) (t : Bool) (et : t ≡ isBit v x) where
   pub binary-not : k < n → not t ≡ true → false ≡ isBinary es places values n
   unfolding isBinary
-  binary-not h e = sym (every-false n (λ l. isBit (at values l) (locator es 2040 (at places l))) k h (ap (isBit (getD values k 0)) (sym ex) ∙ sym et ∙ not-true t e))
+  binary-not h e = sym (every-false n (λ l. isBit (at values l) (locator es 2040 (at places l))) k h (rw (← ei, ← ev, ← ex, ← et) (not-true t e)))
 
   pub binary-next : binaryUpTo es places values k ≡ true → not t ≡ false → binaryUpTo es places values (k + 1) ≡ true
   unfolding binaryUpTo isBinary every
-  binary-next so-far e = rw (add-one, so-far, ← ex, ← et) (not-false t e)
+  binary-next so-far e = rw (add-one, so-far, ← ei, ← ev, ← ex, ← et) (not-false t e)
 
 pub binary-end : (es places values : List ℕ) (n k : ℕ) → binaryUpTo es places values k ≡ true → k ≤ n → n ≤ k → true ≡ isBinary es places values n
 unfolding binaryUpTo
@@ -282,11 +284,12 @@ inverted-errors places values (suc n) l h =
     let e : 1 * at places n + 0 ≡ at places n = omega arith in
     ap₂ xor (inverted-errors places values n l (omega arith)) (rw (e, flip-at values n (omega arith)))
 
-pub corrected-word : (w places values copied out : List ℕ) (n : ℕ) → n ≤ 8 → copied ≡ w → length out ≡ length copied →
-    ((l : ℕ) → l < 8 * length copied → bitAt out l ≡ xor (bitAt copied l) (inverted 1 0 places values n l)) →
+pub corrected-word : (w buffer places values put out : List ℕ) (n : ℕ) → n ≤ 8 → length buffer ≡ length w → put ≡ copied w buffer → length out ≡ length put →
+    ((l : ℕ) → l < 8 * length put → bitAt out l ≡ xor (bitAt put l) (inverted 1 0 places values n l)) →
     bitsOf out ≡ withErrors (bitAt w) places (flips values) n (8 * length w)
 unfolding bitsOf withErrors
-corrected-word w places values copied out n few e same bits =
-    let long : length out ≡ length w = same ∙ ap length e in
+corrected-word w buffer places values put out n few room e same bits =
+    let is : put ≡ w = e ∙ copied-same w buffer room in
+    let long : length out ≡ length w = same ∙ ap length is in
     rw long (tabulate-same (8 * length w) (bitAt out) _ (λ l h.
-    bits l (rw e h) ∙ ap₂ xor (ap (λ (x : List ℕ). bitAt x l) e) (inverted-errors places values n l few)))
+    bits l (rw is h) ∙ ap₂ xor (ap (λ (x : List ℕ). bitAt x l) is) (inverted-errors places values n l few)))

@@ -14,15 +14,15 @@ use lib.ListN.{length, getD, set, take, length-set}
 use lib.Pow.{pow-add, pow-mono}
 use lib.Seq.{getD-set-same, getD-set-other}
 use Rattle.fields.specs.Elements.{xor, timesA, powersA, exponentsA}
+use Rattle.fields.specs.Places.{at, allBelow, horner}
 use Rattle.fields.proofs.Lists.{tabulate-at, tabulate-is, tabulate-length}
 use Rattle.fields.proofs.Xor.{xor-lt, xor-comm, xor-shifted, additive-zero}
-use Rattle.words.specs.Places.{at, allBelow, horner}
+use Rattle.fields.proofs.Places.Tests.{tests-agree, below-at}
+use Rattle.fields.proofs.Places.Filling.{Filled, filled-next, filled-end}
+use Rattle.decoding.specs.ByTables.{rootValues}
 use Rattle.words.specs.OuterCode.{isOuter, generator, divided, outerParity}
-use Rattle.words.specs.ByTables.{rootValues}
 use Rattle.words.specs.Division.{outerRemainder}
 use Rattle.words.specs.SixSymbols.{joined, joinedFrom, symbolOf, six, Packs, numberAt, unpacked, sixParity, parityEntry, parities, unitParities, Stored}
-use Rattle.words.proofs.Places.Tests.{tests-agree, below-at}
-use Rattle.words.proofs.Places.Filling.{Filled, filled-next, filled-end}
 use Rattle.words.proofs.Codes.OuterWords.{outer-length, parity-below, remainder-cell, remainder-length, remainder-below, zero-code, code-zero, remainder-roots}
 use Rattle.words.proofs.Codes.Packing.{shift-sum, parity-sum, joined-same, joined-lt, parity-joined, high-lt, packs-more, entry-is, six-digit, six-sum, unpacked-is, cells-zero, numbers-zero, joined-last}
 use Rattle.words.proofs.Steps.Loops.{dividedUpTo}

@@ -9,12 +9,12 @@ use borrow.Author.Tests.{ltb-true}
 use lib.Dec.{ltb}
 use lib.Pow.{pow-mono, pow-pos, shr-shr}
 use Rattle.fields.specs.Elements.{xor, scale}
+use Rattle.fields.specs.Places.{at, every}
 use Rattle.fields.proofs.Doubling.{scale-lt}
 use Rattle.fields.proofs.Xor.{xor-lt}
-use Rattle.words.specs.Places.{at, every}
+use Rattle.fields.proofs.Places.Tests.{every-at}
 use Rattle.words.specs.InnerCode.{valueOf, factors, productOf, divisor}
 use Rattle.words.specs.Limbs.{number, Holds}
-use Rattle.words.proofs.Places.Tests.{every-at}
 
 -- a product by a polynomial of twelve coefficients, the highest first
 product-lt : (y n r : ℕ) → y < 2 ^ 88 → valueOf (λ u. 2 * u) y n r < 2 ^ (88 + n)

@@ -10,8 +10,8 @@ use borrow.Author.Tests.{ne-eqb}
 use Rattle.fields.specs.Elements.{xor, scale, doubled}
 use Rattle.fields.proofs.Xor.{xor-comm, xor-zero-l}
 use Rattle.words.specs.Limbs.{number, Holds}
-use Rattle.words.specs.Places.{bitOf, numberOf}
-use Rattle.words.proofs.Places.Bytes.{number-of-bits}
+use Rattle.words.specs.Bits.{bitOf, numberOf}
+use Rattle.words.proofs.Bits.Bytes.{number-of-bits}
 
 pub constant-made : (b : ℕ) → b < 256 → Holds 0 b b
 unfolding number

@@ -1,47 +1,24 @@
 -- A step of each loop over a word, from what the calls in its body ensure. Assumes nothing.
-use mathlib.Core.Path.{_≡_, refl, sym}
-use mathlib.Core.Bool.{Bool, true, false}
+use mathlib.Core.Path.{_≡_, refl}
+use mathlib.Core.Bool.{true}
 use mathlib.Core.List.{List}
 use Prim.Native.Nat.{ℕ, _+_, _≤_, _<_}
 use native.Mathlib.Nat.{zero-add}
 use native.Mathlib.Numerals.{add-one}
 use native.Mathlib.Omega.{arith}
-use borrow.Author.Tests.{lt-ltb, le-ltb}
-use lib.Dec.{ltb, lit<}
+use lib.Dec.{lit<}
 use lib.ListN.{length, getD, set}
 use Rattle.fields.specs.Elements.{xor, timesA}
 use Rattle.fields.specs.Lists.{tabulate}
 use Rattle.fields.specs.ByTables.{tableProduct, tablePower}
+use Rattle.fields.specs.Places.{at, allBelow, horner}
 use Rattle.fields.proofs.Instances.{field-a}
-use Rattle.words.specs.Places.{at, every, allBelow, horner}
+use Rattle.fields.proofs.Places.Tests.{below-at}
+use Rattle.fields.proofs.Places.Filling.{Filled, filled-next, filled-end}
+use Rattle.decoding.specs.ByTables.{lentValue, rootValue, rootValues}
 use Rattle.words.specs.OuterCode.{generator, shiftedIn, divided, outerParity}
-use Rattle.words.specs.ByTables.{lentValue, rootValue, rootValues}
-use Rattle.words.proofs.Places.Tests.{every-false, below-at}
-use Rattle.words.proofs.Places.Filling.{Filled, filled-next, filled-end}
 use Rattle.words.proofs.Codes.Lent.{divided-lt}
 use Rattle.words.proofs.Codes.OuterWords.{generator-lt}
-
--- the first i symbols are below q
-unfoldable pub belowUpTo : ℕ → List ℕ → ℕ → Bool
-belowUpTo q w i = every i (λ j. ltb (at w j) q)
-
-pub below-none : (q : ℕ) (w : List ℕ) → belowUpTo q w 0 ≡ true
-unfolding belowUpTo every
-below-none q w = refl
-
-module _ (q : ℕ) (w : List ℕ) (i : ℕ) where
-  pub below-not : i < length w → q ≤ getD w i 0 → false ≡ allBelow q w
-  unfolding allBelow
-  below-not l h = sym (every-false (length w) (λ j. ltb (at w j) q) i l (le-ltb (getD w i 0) q h))
-
-  module _ (so-far : belowUpTo q w i ≡ true) where
-    pub below-next : getD w i 0 < q → belowUpTo q w (i + 1) ≡ true
-    unfolding belowUpTo every
-    below-next h = rw (add-one, so-far) (lt-ltb (getD w i 0) q h)
-
-    pub below-end : i ≤ length w → length w ≤ i → true ≡ allBelow q w
-    unfolding belowUpTo allBelow
-    below-end l h = let e : i ≡ length w = omega arith in sym (rw e at so-far)
 
 -- the value of the first i symbols, by Horner's rule over a lent field
 unfoldable pub valueUpTo : List ℕ → List ℕ → List ℕ → ℕ → ℕ → ℕ

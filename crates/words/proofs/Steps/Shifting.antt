@@ -5,11 +5,11 @@ use Prim.Native.Nat.{ℕ, suc, _+_, _≤_, _<_}
 use native.Mathlib.Omega.{arith}
 use lib.ListN.{length, getD, set}
 use Rattle.fields.specs.Elements.{xor, timesA}
+use Rattle.fields.specs.Places.{at}
 use Rattle.fields.proofs.Ways.{past}
 use Rattle.fields.proofs.Xor.{xor-zero-l}
-use Rattle.words.specs.Places.{at}
+use Rattle.fields.proofs.Places.Filling.{filled-last, FilledOver, over-next, over-after}
 use Rattle.words.specs.OuterCode.{generator, shiftedIn}
-use Rattle.words.proofs.Places.Filling.{filled-last, FilledOver, over-next, over-after}
 use Rattle.words.proofs.Steps.Digits.{Rows}
 
 -- cell i of the register after reg; f is the leading coefficient

@@ -1,6 +1,7 @@
 -- `frames::bits::bit` meets its contract. Assumes nothing.
 use borrow.Author.Needs.{needs}
-use Rattle.frames.proofs.Windows.{one-fit, bit-read}
+use Rattle.words.proofs.Bits.Numbers.{one-fit}
+use Rattle.frames.proofs.Windows.{bit-read}
 use Rattle.frames.proofs.bits.bit.Statement.{statement}
 use Rattle.frames.proofs.bits.bit.Tie as tie
 

@@ -1,9 +1,9 @@
 -- `frames::bits::write_eights` meets its contract. Assumes nothing.
 use Prim.Native.Nat.{_-_, _*_, _≤_}
 use borrow.Author.Needs.{needs}
-use Rattle.words.specs.Places.{bitAt}
+use Rattle.fields.proofs.Places.Placing.{Placing, placing-start}
+use Rattle.words.specs.Bits.{bitAt}
 use Rattle.frames.specs.Symbols.{partsOf}
-use Rattle.frames.proofs.Placing.{Placing, placing-start}
 use Rattle.frames.proofs.Groups.{eights-next, groups-end}
 use Rattle.frames.proofs.bits.write_eights.Statement.{statement}
 use Rattle.frames.proofs.bits.write_eights.Tie as tie

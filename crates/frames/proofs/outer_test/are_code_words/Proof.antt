@@ -1,8 +1,8 @@
 -- `frames::outer_test::are_code_words` meets its contract. Assumes nothing.
 use borrow.Author.Needs.{needs}
-use Rattle.frames.proofs.OuterTest.{outerUpTo, outer-none, two-not, two-next, last-not, last-all}
 use Rattle.words.specs.SixSymbols.{parities}
-use Rattle.words.specs.Places.{bitAt}
+use Rattle.words.specs.Bits.{bitAt}
+use Rattle.frames.proofs.OuterTest.{outerUpTo, outer-none, two-not, two-next, last-not, last-all}
 use Prim.Native.Nat.{_-_, _%_, _≤_}
 use mathlib.Core.Bool.{true}
 use mathlib.Core.Path.{_≡_}

@@ -1,9 +1,9 @@
 -- `frames::outer_test::divide_two` meets its contract. Assumes nothing.
 use borrow.Author.Needs.{needs}
-use Rattle.frames.proofs.OuterTest.{division-stop, data-first, data-second}
-use Rattle.frames.specs.Received.{dividedTo}
 use Rattle.words.specs.SixSymbols.{Packs}
-use Rattle.words.specs.Places.{bitAt}
+use Rattle.words.specs.Bits.{bitAt}
+use Rattle.frames.specs.Received.{dividedTo}
+use Rattle.frames.proofs.OuterTest.{division-stop, data-first, data-second}
 use Prim.Native.Nat.{_+_, _-_, _%_, _≤_}
 use mathlib.Core.Path.{_≡_}
 use Rattle.frames.proofs.outer_test.divide_two.Statement.{statement}

@@ -2,7 +2,7 @@
 use mathlib.Core.Path.{_≡_}
 use Prim.Native.Nat.{_-_}
 use borrow.Author.Needs.{needs}
-use Rattle.words.specs.Places.{bitAt}
+use Rattle.words.specs.Bits.{bitAt}
 use Rattle.words.specs.SixSymbols.{parities}
 use Rattle.frames.proofs.OuterPass.{Restoring, restoring-start, restoring-long, restoring-below, restoring-kept, restoring-next, restoring-not, restoring-end}
 use Rattle.frames.proofs.outer_words.correct.Statement.{statement}

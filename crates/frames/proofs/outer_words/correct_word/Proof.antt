@@ -1,7 +1,7 @@
 -- `frames::outer_words::correct_word` meets its contract. Assumes nothing.
 use borrow.Author.Needs.{needs}
 use Rattle.frames.proofs.RowWords.{part-least, part-below, word-remainder}
-use Rattle.frames.proofs.OuterPass.{space-long, code-kept, no-code}
+use Rattle.frames.proofs.OuterPass.{space-long, code-kept}
 use Rattle.frames.proofs.outer_words.correct_word.Statement.{statement}
 use Rattle.frames.proofs.outer_words.correct_word.Tie as tie
 
@@ -72,7 +72,7 @@ part-word-end : tie.Need-part-word-end
 part-word-end c = search needs
 
 restore-requires : tie.Need-restore-requires
-restore-requires c κs = (search (needs, space-long), (search (needs, word-remainder), search (needs, no-code)))
+restore-requires c κs = (search (needs, space-long), search (needs, word-remainder))
 
 same-length-2 : tie.Need-same-length-2
 same-length-2 c = search needs

@@ -1,7 +1,7 @@
 -- `frames::outer_words::extract` meets its contract. Assumes nothing.
 use Prim.Native.Nat.{_-_, _≤_}
 use borrow.Author.Needs.{needs}
-use Rattle.words.proofs.Places.Filling.{Filled}
+use Rattle.fields.proofs.Places.Filling.{Filled}
 use Rattle.frames.specs.Symbols.{payloadByte}
 use Rattle.frames.proofs.RowSteps.{doneTo, payload-start, payload-word, payload-all}
 use Rattle.frames.proofs.outer_words.extract.Statement.{statement}

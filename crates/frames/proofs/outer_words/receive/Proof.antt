@@ -1,8 +1,8 @@
 -- `frames::outer_words::receive` meets its contract. Assumes nothing.
 use Prim.Native.Nat.{_-_, _*_}
 use borrow.Author.Needs.{needs}
-use Rattle.words.specs.Places.{bitAt}
-use Rattle.words.proofs.Places.Filling.{Filled}
+use Rattle.fields.proofs.Places.Filling.{Filled}
+use Rattle.words.specs.Bits.{bitAt}
 use Rattle.frames.specs.Correction.{receivedSymbol}
 use Rattle.frames.proofs.RowSteps.{row-start, row-next, row-end}
 use Rattle.frames.proofs.outer_words.receive.Statement.{statement}

@@ -1,10 +1,11 @@
 -- `frames::outer_words::receive_last` meets its contract. Assumes nothing.
 use Prim.Native.Nat.{_-_}
 use borrow.Author.Needs.{needs}
-use Rattle.words.specs.Places.{bitAt}
+use Rattle.fields.proofs.Places.Placing.{Placing, placing-start}
+use Rattle.words.specs.Bits.{bitAt}
 use Rattle.frames.specs.Correction.{receivedSymbol}
 use Rattle.frames.specs.Symbols.{partFrom}
-use Rattle.frames.proofs.Placing.{Placing, placing-start, part-end}
+use Rattle.frames.proofs.Parts.{part-end}
 use Rattle.frames.proofs.RowSteps.{last-next}
 use Rattle.frames.proofs.outer_words.receive_last.Statement.{statement}
 use Rattle.frames.proofs.outer_words.receive_last.Tie as tie

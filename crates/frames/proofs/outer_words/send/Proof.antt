@@ -1,7 +1,7 @@
 -- `frames::outer_words::send` meets its contract. Assumes nothing.
 use Prim.Native.Nat.{_-_}
 use borrow.Author.Needs.{needs}
-use Rattle.words.proofs.Places.Filling.{Filled}
+use Rattle.fields.proofs.Places.Filling.{Filled}
 use Rattle.frames.proofs.RowSteps.{sentByte, sent-start, sent-next, sent-end}
 use Rattle.frames.proofs.outer_words.send.Statement.{statement}
 use Rattle.frames.proofs.outer_words.send.Tie as tie

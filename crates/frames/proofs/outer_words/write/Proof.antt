@@ -2,7 +2,7 @@
 use Prim.Native.Nat.{_-_}
 use borrow.Author.Needs.{needs}
 use lib.ListN.{length}
-use Rattle.frames.proofs.Placing.{Placing, placing-start, placing-next, placing-end}
+use Rattle.fields.proofs.Places.Placing.{Placing, placing-start, placing-next, placing-end}
 use Rattle.frames.proofs.outer_words.write.Statement.{statement}
 use Rattle.frames.proofs.outer_words.write.Tie as tie
 

@@ -4,8 +4,8 @@ use Rattle.words.proofs.Steps.Inner.{corrected-word}
 use Rattle.words.proofs.bch.correct.Statement.{statement}
 use Rattle.words.proofs.bch.correct.Tie as tie
 
-copy-requires : tie.Need-copy-requires
-copy-requires c κs = search needs
+copy-bytes-requires : tie.Need-copy-bytes-requires
+copy-bytes-requires c κs = search needs
 
 invert-requires : tie.Need-invert-requires
 invert-requires c κs = search needs
@@ -17,4 +17,4 @@ returns : tie.Need-returns
 returns c = search (needs, corrected-word)
 
 pub correct-spec : {M : Type 1} → statement M
-correct-spec = tie.close (tie.spec copy-requires invert-requires same-length returns)
+correct-spec = tie.close (tie.spec copy-bytes-requires invert-requires same-length returns)

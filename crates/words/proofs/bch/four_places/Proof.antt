@@ -1,6 +1,6 @@
 -- `words::bch::four_places` meets its contract. Assumes nothing.
 use borrow.Author.Needs.{needs}
-use Rattle.words.proofs.Places.Bytes.{half-read, half-past, half-lt}
+use Rattle.words.proofs.Bits.Bytes.{half-read, half-past, half-lt}
 use Rattle.words.proofs.bch.four_places.Statement.{statement}
 use Rattle.words.proofs.bch.four_places.Tie as tie
 

@@ -1,7 +1,7 @@
 -- `words::bch::plus_term` meets its contract. Assumes nothing.
 use Prim.Native.Nat.{_-_}
 use borrow.Author.Needs.{needs}
-use Rattle.words.proofs.Places.Filling.{Filled, filled-start}
+use Rattle.fields.proofs.Places.Filling.{Filled, filled-start}
 use Rattle.words.proofs.Steps.Inner.{exponent-fits, term-fits, termAdded, term-next, term-end}
 use Rattle.words.proofs.bch.plus_term.Statement.{statement}
 use Rattle.words.proofs.bch.plus_term.Tie as tie

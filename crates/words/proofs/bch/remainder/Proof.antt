@@ -2,7 +2,7 @@
 use Prim.Native.Nat.{_-_, _*_, _≤_}
 use borrow.Author.Needs.{needs}
 use Rattle.words.specs.Limbs.{Holds}
-use Rattle.words.specs.Places.{bitAt}
+use Rattle.words.specs.Bits.{bitAt}
 use Rattle.words.specs.InnerCode.{divisor, remainder}
 use Rattle.words.proofs.Steps.FourPlaces.{residues-split, remainder-none, remainder-next, remainder-end}
 use Rattle.words.proofs.bch.remainder.Statement.{statement}

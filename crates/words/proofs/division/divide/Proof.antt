@@ -3,7 +3,7 @@ use mathlib.Core.Path.{_≡_}
 use Prim.Native.Nat.{_-_, _≤_}
 use lib.ListN.{length}
 use borrow.Author.Needs.{needs}
-use Rattle.words.proofs.Places.Tests.{below-lt}
+use Rattle.fields.proofs.Places.Tests.{below-lt}
 use Rattle.words.proofs.Steps.Loops.{dividedUpTo, divided-none, divided-below, divided-next, divided-end}
 use Rattle.words.proofs.division.divide.Statement.{statement}
 use Rattle.words.proofs.division.divide.Tie as tie

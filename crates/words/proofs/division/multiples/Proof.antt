@@ -3,8 +3,8 @@ use mathlib.Core.Path.{_≡_}
 use Prim.Native.Nat.{_-_}
 use borrow.Author.Needs.{needs}
 use Rattle.fields.specs.Elements.{powersA, exponentsA}
+use Rattle.fields.proofs.Places.Filling.{Filled, filled-start}
 use Rattle.words.specs.OuterCode as Code
-use Rattle.words.proofs.Places.Filling.{Filled, filled-start}
 use Rattle.words.proofs.Steps.Digits.{multiple, factor-fits, multiples-next, multiples-end}
 use Rattle.words.proofs.division.multiples.Statement.{statement}
 use Rattle.words.proofs.division.multiples.Tie as tie

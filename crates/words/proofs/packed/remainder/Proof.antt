@@ -1,5 +1,5 @@
 -- `words::packed::remainder` meets its contract. Assumes nothing.
-use Rattle.words.proofs.Places.Tests.{below-take}
+use Rattle.fields.proofs.Places.Tests.{below-take}
 use Rattle.words.proofs.Steps.Joining.{packs-remainder}
 use borrow.Author.Needs.{needs}
 use Rattle.words.proofs.packed.remainder.Statement.{statement}

@@ -2,7 +2,7 @@
 use mathlib.Core.Path.{refl}
 use Rattle.fields.specs.Elements.{xor, scale, doubled, timesFrom, times}
 use Rattle.fields.specs.Lists.{tabulate}
-use Rattle.words.specs.Places.{every, horner}
+use Rattle.fields.specs.Places.{every, horner}
 use Rattle.words.specs.OuterCode.{shiftedIn}
 use Rattle.words.specs.SixSymbols.{joined, joinedFrom, symbolOf}
 use Rattle.words.proofs.Codes.UnitParities.{units-right}

@@ -1,6 +1,6 @@
 -- `words::packed::unpacked` meets its contract. Assumes nothing.
 use Prim.Native.Nat.{_-_}
-use Rattle.words.proofs.Places.Filling.{Filled, filled-start}
+use Rattle.fields.proofs.Places.Filling.{Filled, filled-start}
 use Rattle.words.proofs.Steps.Joining.{cellOf, cells-next, cells-end}
 use borrow.Author.Needs.{needs}
 use Rattle.words.proofs.packed.unpacked.Statement.{statement}

@@ -2,7 +2,7 @@
 use Prim.Native.Nat.{_-_}
 use lib.ListN.{getD}
 use borrow.Author.Needs.{needs}
-use Rattle.words.proofs.Places.Filling.{Filled, filled-start, filled-next, filled-list}
+use Rattle.fields.proofs.Places.Filling.{Filled, filled-start, filled-next, filled-list}
 use Rattle.words.proofs.reed_solomon.store.Statement.{statement}
 use Rattle.words.proofs.reed_solomon.store.Tie as tie
 

@@ -4,7 +4,7 @@ use Prim.Native.Nat.{_-_}
 use lib.ListN.{getD}
 use borrow.Author.Needs.{needs}
 use Rattle.fields.specs.Elements.{xor}
-use Rattle.words.proofs.Places.Filling.{FilledOver, over-start}
+use Rattle.fields.proofs.Places.Filling.{FilledOver, over-start}
 use Rattle.words.proofs.Steps.Digits.{Rows, rows-of}
 use Rattle.words.proofs.Steps.Shifting.{nextCell, shifting-next, shifting-end}
 use Rattle.words.proofs.division.Register.next.Statement.{statement}

@@ -1,0 +1,12 @@
+-- The decoder: a polynomial that annihilates the syndromes, its roots, the values of the errors there; that up to eight errors are found.
+pub mod Elimination
+pub mod RootPlaces
+pub mod Search
+pub mod LinearRoot
+pub mod RowSearch
+pub mod RowSums
+pub mod Values
+pub mod Changes
+pub mod Completeness
+pub mod Uniqueness
+pub mod Flips

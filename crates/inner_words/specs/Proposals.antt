@@ -1,0 +1,39 @@
+-- A proposal for all inner words at once: 2,040 numbers, one for each place, whose bit k, the highest of 64 first, is 1 where inner word k is to be inverted.
+use mathlib.Core.Path.{_≡_}
+use mathlib.Core.Bool.{cond}
+use mathlib.Core.List.{List}
+use Prim.Native.Nat.{ℕ, _/_, _%_, _<_}
+use lib.Bits.{bitAnd}
+use lib.Dec.{ltb}
+use lib.ListN.{length}
+use Rattle.fields.specs.Lists.{tabulate}
+use Rattle.fields.specs.Elements.{xor}
+use Rattle.fields.specs.Places.{at, sumTo}
+use Rattle.words.specs.Bits.{bitOf, numberOf, bitAt}
+use Rattle.words.specs.InnerWords.{innerWord, innerRestored}
+
+-- the places of the proposal are inverted in the inner words that the mask has a 1 for
+pub record Flipped (flips : List ℕ) (mask : ℕ) (before after : List ℕ) : Type 0 where
+  pub long : length after ≡ length before
+  pub bits : (i : ℕ) → i < 130560 → bitAt after i ≡ xor (bitAt before i) (bitOf 64 (bitAnd (at flips (i / 64)) mask) (i % 64))
+
+-- in how many places each inner word is to be inverted
+unfoldable pub flipCounts : List ℕ → List ℕ
+flipCounts flips = tabulate 64 (λ k. sumTo 2040 (λ p. bitOf 64 (at flips p) k))
+
+-- 1 for a count beyond the radius; and for each inner word
+unfoldable pub overRadius : ℕ → ℕ
+overRadius count = cond (ltb 8 count) 1 0
+
+unfoldable pub beyondRadius : List ℕ → ℕ
+beyondRadius counts = numberOf 64 (λ k. overRadius (at counts k))
+
+-- how many of 64 bits are 1
+unfoldable pub ones : ℕ → ℕ
+ones x = sumTo 64 (bitOf 64 x)
+
+-- inner words may have become code words within eight places: what they are restored to is the same. Those that `left` has a 1 for are as they were
+pub record Nearer (left : ℕ) (before after : List ℕ) : Type 0 where
+  pub long : length after ≡ length before
+  pub word : (k : ℕ) → k < 64 → innerRestored (innerWord (bitAt after) k) ≡ innerRestored (innerWord (bitAt before) k)
+  pub kept : (k : ℕ) → k < 64 → bitOf 64 left k ≡ 1 → innerWord (bitAt after) k ≡ innerWord (bitAt before) k

@@ -1,0 +1,61 @@
+// One place of every inner word: eight bytes of a block are the 64 bits of one number.
+use crate::Interleaved;
+ghost use mathlib.Core.Path.{_≡_};
+ghost use Prim.Native.Nat.{ℕ, _+_, _*_, _≤_, _<_};
+ghost use lib.ListN.{length};
+ghost use Rattle.fields.specs.Lists.{tabulate};
+ghost use Rattle.fields.specs.Places.{at};
+ghost use Rattle.fields.specs.Buffers.{Placed};
+ghost use Rattle.inner_words.specs.SideBySide.{placeAt, byteOf64};
+ghost use Rattle.inner_words.specs.Passes.{counted};
+
+// Place p of every inner word: bit k, the highest first, is that of word k.
+pub fn place(bytes: &[u8], p: usize) -> u64
+    requires { ⌜ (p < 2040) × (8 * p + 8 ≤ length (now bytes)) ⌝ }
+    ensures { λ r. ⌜ r ≡ placeAt (now (bytes .entry)) p ⌝ }
+{
+    let i = Interleaved::PLACE_BYTES * p;
+    ((bytes[i] as u64) << 56)
+        | ((bytes[i + 1] as u64) << 48)
+        | ((bytes[i + 2] as u64) << 40)
+        | ((bytes[i + 3] as u64) << 32)
+        | ((bytes[i + 4] as u64) << 24)
+        | ((bytes[i + 5] as u64) << 16)
+        | ((bytes[i + 6] as u64) << 8)
+        | (bytes[i + 7] as u64)
+}
+
+// Byte j of a number, the highest first.
+pub(crate) fn byte(x: u64, j: usize) -> u8
+    requires { ⌜ j < 8 ⌝ }
+    ensures { λ r. ⌜ r ≡ byteOf64 x j ⌝ }
+{
+    ((x >> (56 - 8 * j)) & 255) as u8
+}
+
+// Writes place p of every inner word.
+pub(crate) fn put_place(block: &mut [u8], p: usize, x: u64)
+    requires { ⌜ (length (now block) ≡ 16320) × (p < 2040) ⌝ }
+    ensures { λ _. ⌜ Placed (8 * p) (tabulate 8 (byteOf64 x)) (now (block .entry)) (now (block .exit)) ⌝ }
+{
+    let mut j: usize = 0;
+    while j < Interleaved::PLACE_BYTES {
+        block[Interleaved::PLACE_BYTES * p + j] = byte(x, j);
+        j += 1;
+    }
+}
+
+// Counts one place of every inner word: bit k of x, the highest first, is 1 where word k is wrong there.
+pub fn count(counts: &mut [u16], x: u64)
+    requires { ⌜ (length (now counts) ≡ 64) × ((k : ℕ) → at (now counts) k ≤ 2040) ⌝ }
+    ensures { λ _. ⌜ now (counts .exit) ≡ counted (now (counts .entry)) x ⌝ }
+{
+    if x == 0 {
+        return;
+    }
+    let mut k: usize = 0;
+    while k < Interleaved::WORDS {
+        counts[k] += ((x >> (Interleaved::WORDS - 1 - k)) & 1) as u16;
+        k += 1;
+    }
+}

@@ -1,0 +1,4 @@
+-- Laws of this crate that belong to no one function, in the order in which they rest on each other.
+pub mod LaneSteps
+pub mod LocatorSteps
+pub mod SearchSteps

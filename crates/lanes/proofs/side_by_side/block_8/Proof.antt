@@ -1,0 +1,74 @@
+-- `lanes::side_by_side::block_8` meets its contract. Assumes nothing.
+use Prim.Native.Nat.{_-_, _*_, _≤_}
+use borrow.Author.Needs.{needs}
+use Rattle.fields.proofs.Places.Placing.{Placing, placing-start}
+use Rattle.lanes.specs.LaneSteps.{nonzero8, blockFlips}
+use Rattle.lanes.proofs.SearchSteps.{block-next, block-end}
+use Rattle.lanes.proofs.side_by_side.block_8.Statement.{statement}
+use Rattle.lanes.proofs.side_by_side.block_8.Tie as tie
+
+abbrev Inv-loop : tie.InvT-loop
+Inv-loop rows s3 s5 s6 s7 k wrong flips₀ n q₀ flips q = (q ≤ n) × Placing (11 * k) (blockFlips (nonzero8 s3 s5 s6 s7 rows k) k wrong) q flips₀ flips
+
+abbrev μ-loop : tie.MeasureT-loop
+μ-loop rows s3 s5 s6 s7 k wrong flips₀ n q₀ flips q = n - q
+
+places-in-requires : tie.Need-places-in-requires Inv-loop μ-loop
+places-in-requires c κs = search needs
+
+loop-holds : tie.Need-loop-holds Inv-loop μ-loop
+loop-holds c = search (needs, placing-start)
+
+nonzero-8-requires : tie.Need-nonzero-8-requires Inv-loop μ-loop
+nonzero-8-requires c κs = search needs
+
+mul-flips : tie.Need-mul-flips Inv-loop μ-loop
+mul-flips c = search needs
+
+add-flips : tie.Need-add-flips Inv-loop μ-loop
+add-flips c = search needs
+
+mul-flips-2 : tie.Need-mul-flips-2 Inv-loop μ-loop
+mul-flips-2 c = search needs
+
+slice-write-flips : tie.Need-slice-write-flips Inv-loop μ-loop
+slice-write-flips c = search needs
+
+add-q : tie.Need-add-q Inv-loop μ-loop
+add-q c = search needs
+
+loop-less : tie.Need-loop-less Inv-loop μ-loop
+loop-less c = search needs
+
+loop-again : tie.Need-loop-again Inv-loop μ-loop
+loop-again c = (
+  search needs,
+  block-next _ _ _
+      (c .before .before .before .places-in .ensures .0) _ (c .before .before .loop .inv .1) (search needs) (search needs) (search needs)
+      (c .nonzero-8 .ensures),
+)
+
+same-length : tie.Need-same-length Inv-loop μ-loop
+same-length c = search needs
+
+returns : tie.Need-returns Inv-loop μ-loop
+returns c = block-end _ _ _ (c .before .before .places-in .ensures .0) _ (c .before .loop .inv .1) (search needs)
+
+pub block-8-spec : {M : Type 1} → statement M
+block-8-spec =
+    tie.close
+    (tie.spec
+    Inv-loop
+    μ-loop
+    places-in-requires
+    loop-holds
+    nonzero-8-requires
+    mul-flips
+    add-flips
+    mul-flips-2
+    slice-write-flips
+    add-q
+    loop-less
+    loop-again
+    same-length
+    returns)

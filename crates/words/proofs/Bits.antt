@@ -1,0 +1,3 @@
+-- Laws of the bits of numbers and of bytes.
+pub mod Numbers
+pub mod Bytes

@@ -8,6 +8,7 @@ use crate::calls::CORRECT;
 use crate::calls::ENCODE;
 use crate::calls::EXTRACT;
 use crate::calls::FRAME;
+use crate::damage::fill;
 use crate::data::BIT;
 use crate::data::COUNTED;
 use crate::data::describe;
@@ -16,7 +17,6 @@ use crate::lines::text;
 use crate::rows::lent;
 use crate::rows::received;
 use crate::values::MOST;
-use crate::values::fill;
 
 // A payload, its frame, and the payload again.
 fn payload(data: usize) {

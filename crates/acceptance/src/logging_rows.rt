@@ -4,12 +4,12 @@
 //     counted   counters, wrong bits, places apart, bytes of the block, buffer
 //     worst     wrong bits, first place, places apart
 use crate::calls::FRAME;
+use crate::damage::add_errors;
 use crate::lines::list;
 use crate::lines::number;
 use crate::lines::part;
 use crate::lines::text;
 use crate::values::MOST;
-use crate::values::add_errors;
 use crate::values::at_most;
 use crate::values::from_bytes;
 use crate::values::to_bytes;

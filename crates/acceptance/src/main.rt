@@ -2,6 +2,7 @@
 // gives the answer: 0 or the refusal's number; of a correction then how many symbols or bits it changed, and of a frame's the digest of its report's counts;
 // last the buffer. `stdout` is what tests/vectors.rs computes from the documents.
 mod calls;
+mod damage;
 mod data;
 mod frame_rows;
 mod lines;

@@ -3,13 +3,13 @@ use crate::calls::ENCODE;
 use crate::calls::FRAME;
 use crate::calls::call;
 use crate::calls::name;
+use crate::damage::add_errors;
+use crate::damage::fill;
 use crate::data::describe;
 use crate::lines::buffer;
 use crate::lines::part;
 use crate::lines::text;
 use crate::values::MOST;
-use crate::values::add_errors;
-use crate::values::fill;
 use crate::values::wide;
 
 pub(crate) fn head(operation: usize, code: usize, n: usize, data: usize) {

@@ -1,13 +1,9 @@
 // Lists of values: the symbols of an outer word, the bytes of an inner word, a payload or a block, the counts of a report.
-use crate::calls::OUTER;
-use crate::data::value_at;
 ghost use mathlib.Core.Path.{_≡_};
 ghost use Prim.Native.Nat.{_≤_, _<_};
 
 // The longest list that a row lends: one byte more than a frame.
 pub(crate) const MOST: usize = frames::Frame::BYTES + 1;
-
-const FRAME_BITS: usize = frames::Frame::BYTES * 8;
 
 pub(crate) fn wide(x: u16) -> usize
     ensures { λ r. ⌜ (r ≡ x) × (r < 65536) ⌝ }
@@ -24,47 +20,6 @@ pub(crate) fn at_most(n: usize, most: usize) -> usize
 
 fn byte(x: u8) -> u16 {
     x as u16
-}
-
-pub(crate) fn fill(values: &mut [u16], data: usize) {
-    let mut i: usize = 0;
-    while i < values.len() {
-        values[i] = value_at(data, i);
-        i += 1;
-    }
-}
-
-fn add(values: &mut [u16], i: usize, error: u16) {
-    if i < values.len() {
-        values[i] = values[i] ^ error;
-    }
-}
-
-// An error in a symbol of an outer word; in an inner word or a frame, an inverted bit.
-pub(crate) fn add_error(code: usize, values: &mut [u16], place: usize, error: u16) {
-    if code == OUTER {
-        add(values, place, error);
-    } else {
-        add(values, place / 8, 128 >> (place % 8));
-    }
-}
-
-// Errors at the first place and others `step` apart, going round at the end of a frame.
-pub(crate) fn add_errors(
-    code: usize,
-    values: &mut [u16],
-    count: usize,
-    error: u16,
-    first: usize,
-    step: u16,
-) {
-    let mut i = first % FRAME_BITS;
-    let mut j: usize = 0;
-    while j < count {
-        add_error(code, values, i, error);
-        i = (i + step as usize) % FRAME_BITS;
-        j += 1;
-    }
 }
 
 pub(crate) fn to_bytes(values: &[u16], bytes: &mut [u8]) {

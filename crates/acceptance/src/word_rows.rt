@@ -7,6 +7,7 @@ use crate::calls::CORRECT;
 use crate::calls::ENCODE;
 use crate::calls::INNER;
 use crate::calls::OUTER;
+use crate::damage::add_error;
 use crate::data::BIT;
 use crate::data::NEAR;
 use crate::data::SPARSE_BYTES;
@@ -18,7 +19,6 @@ use crate::rows::received;
 use crate::rows::row;
 use crate::rows::send;
 use crate::values::MOST;
-use crate::values::add_error;
 
 // The last data bit of an inner word: its code word is the divisor.
 const DIVISOR: usize = BIT + 1951;

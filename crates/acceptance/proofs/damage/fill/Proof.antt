@@ -1,10 +1,10 @@
--- `acceptance::values::fill` is safe and ends. Assumes nothing.
+-- `acceptance::damage::fill` is safe and ends. Assumes nothing.
 use mathlib.Core.Path.{_≡_}
 use Prim.Native.Nat.{_-_, _≤_}
 use lib.ListN.{length}
 use borrow.Author.Needs.{needs}
-use Rattle.acceptance.proofs.values.fill.Statement.{statement}
-use Rattle.acceptance.proofs.values.fill.Tie as tie
+use Rattle.acceptance.proofs.damage.fill.Statement.{statement}
+use Rattle.acceptance.proofs.damage.fill.Tie as tie
 
 abbrev Inv-loop : tie.InvT-loop
 Inv-loop values₀ «data» i₀ values i = (i ≤ length values₀) × (length values ≡ length values₀)

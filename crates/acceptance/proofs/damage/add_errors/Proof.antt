@@ -1,10 +1,10 @@
--- `acceptance::values::add_errors` is safe and ends. Assumes nothing.
+-- `acceptance::damage::add_errors` is safe and ends. Assumes nothing.
 use mathlib.Core.Path.{_≡_}
 use Prim.Native.Nat.{_-_, _≤_, _<_}
 use lib.ListN.{length}
 use borrow.Author.Needs.{needs}
-use Rattle.acceptance.proofs.values.add_errors.Statement.{statement}
-use Rattle.acceptance.proofs.values.add_errors.Tie as tie
+use Rattle.acceptance.proofs.damage.add_errors.Statement.{statement}
+use Rattle.acceptance.proofs.damage.add_errors.Tie as tie
 
 abbrev Inv-loop : tie.InvT-loop
 Inv-loop code values₀ count error first step i₀ j₀ values i j = (j ≤ count) × (i < 130560) × (length values ≡ length values₀)

@@ -7,7 +7,7 @@ ghost use lib.ListN.{length};
 ghost use Rattle.frames.specs.Correction.{reportOf, total};
 
 // The places of each inner word in which the two blocks differ.
-pub fn counts(block: &[u8], frame: &[u8]) -> [u16; Frame::INNER_WORDS]
+pub(crate) fn counts(block: &[u8], frame: &[u8]) -> [u16; Frame::INNER_WORDS]
     requires { ⌜ (length (now block) ≡ 16320) × (length (now frame) ≡ 16320) ⌝ }
     ensures { λ r. ⌜ r ≡ reportOf (now (block .entry)) (now (frame .entry)) ⌝ }
 {
@@ -24,7 +24,7 @@ pub fn counts(block: &[u8], frame: &[u8]) -> [u16; Frame::INNER_WORDS]
 }
 
 // The sum of the counts.
-pub fn sum(counts: &[u16]) -> u32
+pub(crate) fn sum(counts: &[u16]) -> u32
     requires { ⌜ length (now counts) ≤ 64 ⌝ }
     ensures { λ r. ⌜ r ≡ total (now (counts .entry)) ⌝ }
 {

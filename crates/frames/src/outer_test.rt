@@ -131,7 +131,7 @@ fn are_two(table: &[u64], block: &[u8], w: usize) -> bool
 }
 
 // Each outer word of the block is a code word: two at a time, then the last two, which differ in length.
-pub fn are_code_words(block: &[u8]) -> bool
+pub(crate) fn are_code_words(block: &[u8]) -> bool
     requires { ⌜ length (now block) ≡ 16320 ⌝ }
     ensures { λ r. ⌜ r ≡ outerCodes (bitAt (now (block .entry))) ⌝ }
 {

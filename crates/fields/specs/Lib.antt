@@ -3,6 +3,6 @@ pub mod Lists
 pub mod Elements
 pub mod Field
 pub mod Places
--- what functions over lent tables, and functions that write buffers, give
+-- need not be believed: what functions over lent tables, and functions that write buffers, give
 pub mod ByTables
 pub mod Buffers

@@ -1,5 +1,5 @@
--- Correction ("mending") of a received block: the inner pass, the outer pass on its result, the restored frame, and the report. Bits are a function b, as
--- in Frames.
+-- Correction ("mending") of a received block: the outer pass on the result of the inner pass (`innerPass` of words), the restored frame, and the report. Bits are
+-- a function b, as in Frames.
 use mathlib.Core.Bool.{Bool, _&&_, _||_, cond}
 use mathlib.Core.List.{List, [], _∷_}
 use mathlib.Core.Option.{Option, none, some, Option·map}

@@ -1,4 +1,4 @@
--- Frames: the outer words of a payload, the bits that are sent of them, the inner words with their parity bits, and the payload of a frame.
+-- Frames: the outer words of a payload, the bits that are sent of them, with the parity bits of the inner words (`InnerWords` of words), and the payload of a frame.
 -- Frame bits are given by a function b: bit i is b i. Bytes are lists, and `bitAt` reads their bits, the first bit of a byte its highest.
 use mathlib.Core.Bool.{Bool, _&&_, cond}
 use mathlib.Core.List.{List, [], _++_}

@@ -5,7 +5,7 @@ pub mod Answers
 pub mod BenchRows
 pub mod FrameLaws
 pub mod Demands
--- what the functions below the entries give
+-- need not be believed: what the functions below the entries give
 pub mod Received
 pub mod Symbols
 pub mod Passes

@@ -1,4 +1,4 @@
--- What a received block holds: the row of its outer words, and whether its words are code words. b is the block's bits.
+-- What a received block holds: the row of its outer words, and whether they are code words. b is the block's bits.
 use mathlib.Core.Bool.{Bool}
 use mathlib.Core.List.{List}
 use Prim.Native.Nat.{ℕ}
@@ -16,6 +16,6 @@ receivedRow b = tabulate 12496 (receivedSymbol b)
 unfoldable pub dividedTo : (ℕ → ℕ) → ℕ → ℕ → List ℕ
 dividedTo b w n = divided timesA 16 (at generator) (at (receivedWord b w)) n
 
--- each outer word, and each inner word, is a code word
+-- each outer word is a code word
 unfoldable pub outerCodes : (ℕ → ℕ) → Bool
 outerCodes b = every 16 (λ w. isOuter (receivedWord b w))

@@ -6,7 +6,7 @@ pub mod Nearest
 pub mod InnerWords
 pub mod Answers
 pub mod Codes
--- what the functions below the entries give
+-- need not be believed: what the functions below the entries give
 pub mod Division
 pub mod SixSymbols
 pub mod Limbs

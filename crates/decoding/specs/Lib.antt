@@ -1,5 +1,7 @@
 -- What the decoder gives, over a field that is lent as its two tables; and what its steps give.
 pub mod ByTables
 pub mod Decoder
-pub mod DecoderSteps
-pub mod RowSearch
+pub mod Annihilator
+pub mod RootSearch
+pub mod PowerTables
+pub mod ErrorValues

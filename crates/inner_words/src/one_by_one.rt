@@ -8,7 +8,7 @@ ghost use mathlib.Core.Bool.{true, _&&_, cond};
 ghost use Prim.Native.Nat.{ℕ, _<_};
 ghost use lib.ListN.{length};
 ghost use Rattle.fields.specs.Elements.{powersB, exponentsB};
-ghost use Rattle.decoding.specs.RowSearch.{Rows};
+ghost use Rattle.decoding.specs.PowerTables.{Rows};
 ghost use Rattle.words.specs.Bits.{bitOf, bitAt};
 ghost use Rattle.words.specs.InnerCode.{isInner};
 ghost use Rattle.words.specs.InnerWords.{innerWord};

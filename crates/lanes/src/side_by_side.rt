@@ -13,7 +13,7 @@ use crate::FIRST_PLACES;
 use crate::Lanes;
 use crate::RESIDUES;
 use crate::WORD_BLOCKS;
-use decoding::decoder::RADIUS;
+use decoding::RADIUS;
 ghost use mathlib.Core.Path.{_≡_};
 ghost use Prim.Native.Nat.{_+_, _*_, _≤_, _<_};
 ghost use lib.ListN.{length};

@@ -4,7 +4,7 @@ use crate::Inner;
 use crate::wrong_places;
 use crate::wrong_places::OddValues;
 use decoding::decoder;
-use decoding::decoder::Errors;
+use decoding::error_values::Errors;
 use decoding::symbols;
 ghost use mathlib.Core.Path.{_≡_};
 ghost use Prim.Native.Nat.{_*_, _/_, _%_, _+_, _^_, _≤_, _<_};

@@ -4,7 +4,7 @@ use crate::Correction;
 use crate::packed;
 use crate::packed::Packed;
 use decoding::decoder;
-use decoding::decoder::Errors;
+use decoding::error_values::Errors;
 use decoding::symbols;
 ghost use mathlib.Core.Path.{_≡_};
 ghost use mathlib.Core.Bool.{true};

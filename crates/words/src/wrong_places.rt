@@ -2,7 +2,7 @@
 // among others. For the crates above too.
 use crate::Inner;
 use decoding::decoder;
-use decoding::decoder::Errors;
+use decoding::error_values::Errors;
 use decoding::symbols;
 ghost use mathlib.Core.Path.{_≡_};
 ghost use mathlib.Core.Bool.{cond};
@@ -11,7 +11,7 @@ ghost use lib.ListN.{length};
 ghost use lib.Dec.{eqb};
 ghost use Rattle.fields.specs.Elements.{xor, powersB, exponentsB};
 ghost use Rattle.fields.specs.Places.{differs};
-ghost use Rattle.decoding.specs.RowSearch.{Rows};
+ghost use Rattle.decoding.specs.PowerTables.{Rows};
 ghost use Rattle.words.specs.Bits.{bitAt};
 ghost use Rattle.words.specs.InnerDecoding.{Syndromes, isBit, isBinary, ErrorsOf, inverted, explains};
 

@@ -14,7 +14,7 @@ use Rattle.fields.proofs.Lists.{tabulate-length, tabulate-at}
 use Rattle.fields.proofs.Instances.{lent-b}
 use Rattle.decoding.specs.ByTables.{lentValue}
 use Rattle.decoding.specs.Decoder.{Tables, locator, xorTo, timesPower, syndrome}
-use Rattle.decoding.specs.DecoderSteps.{applied}
+use Rattle.decoding.specs.Annihilator.{applied}
 use Rattle.decoding.proofs.Algebra.Field.{Ops, Laws, upto, mul-zero, mul-comm, mul-add}
 use Rattle.decoding.proofs.Algebra.PowerSums.{sum, powerSum, valueAt}
 use Rattle.decoding.proofs.Algebra.Locators.{appliedTo}

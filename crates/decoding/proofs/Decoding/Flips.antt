@@ -16,10 +16,11 @@ use Rattle.fields.proofs.Lists.{tabulate-same}
 use Rattle.fields.proofs.Xor.{xor-cancel, xor-zero-r}
 use Rattle.fields.proofs.Places.Filling.{zeros-at}
 use Rattle.fields.proofs.Places.Tests.{below-at}
-use Rattle.decoding.specs.declared.decoder.Errors.{Errors}
-use Rattle.decoding.specs.declared.decoder.Places.{Places}
+use Rattle.decoding.specs.declared.error_values.Errors.{Errors}
+use Rattle.decoding.specs.declared.root_search.Places.{Places}
 use Rattle.decoding.specs.Decoder.{Tables, locator, timesPower, syndrome, errorAt, Decoded}
-use Rattle.decoding.specs.DecoderSteps.{Roots, lessError, Located, lessPowers, flipped, flippedTo}
+use Rattle.decoding.specs.RootSearch.{Roots}
+use Rattle.decoding.specs.ErrorValues.{lessError, Located, lessPowers, flipped, flippedTo}
 use Rattle.decoding.proofs.Algebra.Tables.{lent-laws, lent-powers, lent-power-at, lent-power-sum}
 use Rattle.decoding.proofs.Decoding.Changes.{errors-weight, weight-most}
 use Rattle.decoding.proofs.Decoding.Completeness.{left-none, left-next}

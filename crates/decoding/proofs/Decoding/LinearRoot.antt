@@ -12,7 +12,7 @@ use Rattle.fields.specs.Places.{at, horner}
 use Rattle.fields.proofs.Xor.{xor-zero-l}
 use Rattle.decoding.specs.ByTables.{lentValue}
 use Rattle.decoding.specs.Decoder.{Tables, locator}
-use Rattle.decoding.specs.DecoderSteps.{lessModulo, RootAt, FirstRoot}
+use Rattle.decoding.specs.RootSearch.{lessModulo, RootAt, FirstRoot}
 use Rattle.decoding.proofs.Algebra.Field.{Ops, Laws, cancel, eq-of-add, undo, zero-mul}
 use Rattle.decoding.proofs.Algebra.Tables.{lentOps, Powers, lent-laws, lent-powers, lent-exponent, lent-power-at}
 use Rattle.decoding.proofs.Decoding.RootPlaces.{locator-in}

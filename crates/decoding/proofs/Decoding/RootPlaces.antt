@@ -14,7 +14,8 @@ use Rattle.fields.specs.ByTables.{tableProduct}
 use Rattle.fields.specs.Places.{at, differs}
 use Rattle.decoding.specs.ByTables.{lentValue}
 use Rattle.decoding.specs.Decoder.{Correctable, Tables, locator}
-use Rattle.decoding.specs.DecoderSteps.{applied, Annihilates, rootPlaces}
+use Rattle.decoding.specs.Annihilator.{applied, Annihilates}
+use Rattle.decoding.specs.RootSearch.{rootPlaces}
 use Rattle.decoding.proofs.Algebra.Field.{Ops, Laws, All, all-map, Apart, upto, upto-apart, all-upto, zero-add}
 use Rattle.decoding.proofs.Algebra.PowerSums.{sum, powerSum, valueAt}
 use Rattle.decoding.proofs.Algebra.Support.{support, support-nonzero, all-support, support-apart, support-powerSum, support-count}

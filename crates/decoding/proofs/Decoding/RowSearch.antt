@@ -16,7 +16,7 @@ use Rattle.fields.proofs.Lists.{tabulate-at}
 use Rattle.fields.proofs.Xor.{xor-assoc, xor-zero-l}
 use Rattle.decoding.specs.ByTables.{lentValue}
 use Rattle.decoding.specs.Decoder.{Tables, locator, timesPower, xorTo}
-use Rattle.decoding.specs.RowSearch.{reciprocals, rowBase, rowStart, rowBases, rowStarts, rowPosition, fourAt, eightAt, rowsSum, RowsFor}
+use Rattle.decoding.specs.PowerTables.{reciprocals, rowBase, rowStart, rowBases, rowStarts, rowPosition, fourAt, eightAt, rowsSum, RowsFor}
 use Rattle.decoding.proofs.Algebra.Field as F
 use Rattle.decoding.proofs.Algebra.Field.{Ops, Laws}
 use Rattle.decoding.proofs.Algebra.Elements.{isZero}

@@ -12,7 +12,7 @@ use Rattle.fields.specs.Places.{at, every}
 use Rattle.fields.proofs.ByTables.{table-power}
 use Rattle.fields.proofs.Instances.{field-b}
 use Rattle.fields.proofs.Places.Tests.{every-at}
-use Rattle.decoding.specs.RowSearch.{near, far}
+use Rattle.decoding.specs.PowerTables.{near, far}
 use Rattle.decoding.proofs.Algebra.Tables.{lent-laws, lent-powers, lent-power-sum, tables-b}
 
 -- the power of x = a^(-d), and the test of row d

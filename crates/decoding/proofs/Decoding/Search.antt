@@ -15,10 +15,10 @@ use Rattle.fields.specs.Elements.{xor}
 use Rattle.fields.specs.ByTables.{tableProduct, tableInverse, tablePower}
 use Rattle.fields.specs.Places.{at}
 use Rattle.fields.proofs.Lists.{tabulate-at, tabulate-length, tabulate-lt}
-use Rattle.decoding.specs.declared.decoder.Terms.{Terms}
+use Rattle.decoding.specs.declared.root_search.Terms.{Terms}
 use Rattle.decoding.specs.ByTables.{lentValue}
 use Rattle.decoding.specs.Decoder.{Tables, locator, xorTo, timesPower}
-use Rattle.decoding.specs.DecoderSteps.{addTerm, withTerm, termsTo, Exponents, powersTo, lessModulo, lowered, RootAt, quotientOf}
+use Rattle.decoding.specs.RootSearch.{addTerm, withTerm, termsTo, Exponents, powersTo, lessModulo, lowered, RootAt, quotientOf}
 use Rattle.decoding.proofs.Algebra.Field.{Ops, Laws, add-zero, mul-left, undo}
 use Rattle.decoding.proofs.Algebra.PowerSums.{valueAt, value-in, value-same}
 use Rattle.decoding.proofs.Algebra.Locators.{value-first, quotient-root, root-quotient}

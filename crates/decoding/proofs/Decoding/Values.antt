@@ -10,7 +10,8 @@ use Rattle.fields.specs.ByTables.{tableProduct, tableInverse}
 use Rattle.fields.specs.Places.{at}
 use Rattle.fields.proofs.Lists.{tabulate-at}
 use Rattle.decoding.specs.Decoder.{Tables, locator, timesPower}
-use Rattle.decoding.specs.DecoderSteps.{backwards, filtered, filteredBy, filterFactor, errorValue, lessError}
+use Rattle.decoding.specs.RootSearch.{backwards}
+use Rattle.decoding.specs.ErrorValues.{filtered, filteredBy, filterFactor, errorValue, lessError}
 use Rattle.decoding.proofs.Algebra.Field as F
 use Rattle.decoding.proofs.Algebra.Field.{Ops, Laws, All, all-map, cancel, eq-of-add, mul-left, undo}
 use Rattle.decoding.proofs.Algebra.PowerSums.{sum, powerSum, sum-zero, powerSum-filter}

@@ -10,9 +10,9 @@ use Rattle.fields.specs.Elements.{xor}
 use Rattle.fields.specs.ByTables.{tablePower}
 use Rattle.fields.specs.Places.{at}
 use Rattle.fields.proofs.Places.Filling.{Filled, filled-start, filled-next, filled-end}
-use Rattle.decoding.specs.declared.decoder.Errors.{Errors}
-use Rattle.decoding.specs.declared.decoder.Places.{Places}
-use Rattle.decoding.specs.DecoderSteps.{lessPowers, flipped, flippedTo}
+use Rattle.decoding.specs.declared.error_values.Errors.{Errors}
+use Rattle.decoding.specs.declared.root_search.Places.{Places}
+use Rattle.decoding.specs.ErrorValues.{lessPowers, flipped, flippedTo}
 
 -- a sum modulo n
 module _ (n e d : ℕ) where

@@ -19,9 +19,9 @@ use Rattle.fields.specs.Places.{at}
 use Rattle.fields.proofs.Lists.{tabulate-lt}
 use Rattle.fields.proofs.Ways.{past}
 use Rattle.fields.proofs.Places.Filling.{zeros-at}
-use Rattle.decoding.specs.declared.decoder.Recurrence.{Recurrence}
+use Rattle.decoding.specs.declared.annihilator.Recurrence.{Recurrence}
 use Rattle.decoding.specs.Decoder.{Tables, xorTo}
-use Rattle.decoding.specs.DecoderSteps.{applied, Annihilates, convolved, plusShifted, adjusted, masseyStep, massey, reversedAt}
+use Rattle.decoding.specs.Annihilator.{applied, Annihilates, convolved, plusShifted, adjusted, masseyStep, massey, reversedAt}
 use Rattle.decoding.proofs.Algebra.Tables.{lent-laws, xorTo-same}
 
 -- ---- sums

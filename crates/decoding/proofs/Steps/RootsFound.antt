@@ -16,10 +16,10 @@ use Rattle.fields.specs.ByTables.{tableProduct}
 use Rattle.fields.specs.Places.{at, horner}
 use Rattle.fields.proofs.Lists.{tabulate-length}
 use Rattle.fields.proofs.Places.Filling.{Filled, filled-end}
-use Rattle.decoding.specs.declared.decoder.Places.{Places}
+use Rattle.decoding.specs.declared.root_search.Places.{Places}
 use Rattle.decoding.specs.ByTables.{lentValue}
 use Rattle.decoding.specs.Decoder.{Tables, locator}
-use Rattle.decoding.specs.DecoderSteps.{rootPlaces, backwards, kept, Roots, RootAt, FirstRoot, quotientOf}
+use Rattle.decoding.specs.RootSearch.{rootPlaces, backwards, kept, Roots, RootAt, FirstRoot, quotientOf}
 use Rattle.decoding.proofs.Decoding.Search.{quotient-in, root-stays, root-was}
 
 -- ---- the quotient

@@ -11,11 +11,11 @@ use lib.Dec.{eqb}
 use lib.ListN.{length, getD}
 use Rattle.fields.specs.Elements.{xor}
 use Rattle.fields.specs.Places.{at}
-use Rattle.decoding.specs.declared.decoder.Places.{Places}
+use Rattle.decoding.specs.declared.root_search.Places.{Places}
 use Rattle.decoding.specs.ByTables.{lentValue}
 use Rattle.decoding.specs.Decoder.{Tables, locator}
-use Rattle.decoding.specs.DecoderSteps.{kept, Roots}
-use Rattle.decoding.specs.RowSearch.{Rows, rowBases, rowStarts, rowsSum, keptTo, RowsFor}
+use Rattle.decoding.specs.RootSearch.{kept, Roots}
+use Rattle.decoding.specs.PowerTables.{Rows, rowBases, rowStarts, rowsSum, keptTo, RowsFor}
 use Rattle.decoding.proofs.Algebra.Field.{eq-of-add}
 use Rattle.decoding.proofs.Algebra.Tables.{lentOps, lent-laws}
 use Rattle.decoding.proofs.Decoding.RowSearch.{rows-value}

@@ -20,9 +20,9 @@ use Rattle.fields.proofs.Instances.{field-b}
 use Rattle.fields.proofs.Ways.{past}
 use Rattle.fields.proofs.Places.Tests.{below-at}
 use Rattle.fields.proofs.Places.Filling.{Filled, filled-next, filled-end}
-use Rattle.decoding.specs.declared.decoder.Places.{Places}
-use Rattle.decoding.specs.DecoderSteps.{lessModulo, kept}
-use Rattle.decoding.specs.RowSearch.{Rows, RowFilled, near, far, blockSum, stored, withSums, reciprocals, rowBase, rowStart, rowBases, rowStarts, rowPosition, fourAt, eightAt, rowsSum, keptTo}
+use Rattle.decoding.specs.declared.root_search.Places.{Places}
+use Rattle.decoding.specs.RootSearch.{lessModulo, kept}
+use Rattle.decoding.specs.PowerTables.{Rows, RowFilled, near, far, blockSum, stored, withSums, reciprocals, rowBase, rowStart, rowBases, rowStarts, rowPosition, fourAt, eightAt, rowsSum, keptTo}
 use Rattle.decoding.proofs.Algebra.Tables.{powers-length}
 use Rattle.decoding.proofs.Decoding.RowSums.{near-least, far-more, row-sum}
 

@@ -18,8 +18,8 @@ use Rattle.fields.specs.Places.{at}
 use Rattle.fields.proofs.Lists.{tabulate-is}
 use Rattle.fields.proofs.Xor.{xor-zero-r}
 use Rattle.fields.proofs.Places.Filling.{zeros-at}
-use Rattle.decoding.specs.declared.decoder.Row.{Row}
-use Rattle.decoding.specs.DecoderSteps.{powerRow, plusScaled, PlusPart, Zeros, cleared, noRow, cellsOf, reduced, FirstNonzero}
+use Rattle.decoding.specs.declared.annihilator.Row.{Row}
+use Rattle.decoding.specs.Annihilator.{powerRow, plusScaled, PlusPart, Zeros, cleared, noRow, cellsOf, reduced, FirstNonzero}
 
 -- the first i cells are those of the row of x^d, the others zero
 pub record PowerRow (es ls t : List ℕ) (d i : ℕ) (cells : List ℕ) : Type 0 where

@@ -3,8 +3,8 @@ pub mod Elimination
 pub mod RootPlaces
 pub mod Search
 pub mod LinearRoot
-pub mod RowSearch
-pub mod RowSums
+pub mod PowerTables
+pub mod TableSums
 pub mod Values
 pub mod Changes
 pub mod Completeness

@@ -89,15 +89,15 @@ adjusted es ls n d s =
     (record { coefficients = c; previous = s .coefficients; order = n + 1 - s .order; since = n + 1; discrepancy = d })
 
 -- step n: where its discrepancy is zero, the recurrence stays
-unfoldable pub masseyStep : List ℕ → List ℕ → List ℕ → ℕ → Recurrence → Recurrence
-masseyStep es ls t n s =
+unfoldable pub berlekampMasseyStep : List ℕ → List ℕ → List ℕ → ℕ → Recurrence → Recurrence
+berlekampMasseyStep es ls t n s =
     let d = convolved es ls (s .coefficients) t n (s .order + 1) in
     cond (eqb d 0) s (adjusted es ls n d s)
 
 -- the recurrence after the first n steps of Berlekamp and Massey's algorithm
-unfoldable pub massey : List ℕ → List ℕ → List ℕ → ℕ → Recurrence
-massey es ls t zero = record { coefficients = 1 ∷ replicate 8 0; previous = 1 ∷ replicate 8 0; order = 0; since = 0; discrepancy = 1 }
-massey es ls t (suc n) = masseyStep es ls t n (massey es ls t n)
+unfoldable pub berlekampMassey : List ℕ → List ℕ → List ℕ → ℕ → Recurrence
+berlekampMassey es ls t zero = record { coefficients = 1 ∷ replicate 8 0; previous = 1 ∷ replicate 8 0; order = 0; since = 0; discrepancy = 1 }
+berlekampMassey es ls t (suc n) = berlekampMasseyStep es ls t n (berlekampMassey es ls t n)
 
 -- coefficient k, highest power first, of the polynomial that a recurrence of that order, at most 8, is
 unfoldable pub reversedAt : List ℕ → ℕ → ℕ → ℕ

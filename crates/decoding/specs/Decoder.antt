@@ -7,12 +7,12 @@ use lib.Dec.{eqb}
 use lib.ListN.{length}
 use Rattle.fields.specs.Lists.{tabulate}
 use Rattle.fields.specs.Elements.{xor}
-use Rattle.fields.specs.ByTables.{tableProduct, tablePower, Lent}
+use Rattle.fields.specs.ByTables.{tableProduct, tablePower, FieldTables}
 use Rattle.fields.specs.Places.{at, sumTo, differs}
 
 -- the two lists are the tables of some field
 abbrev pub Tables : List ℕ → List ℕ → Type 0
-Tables es ls = (m : ℕ) × (p : ℕ) × Lent m p es ls
+Tables es ls = (m : ℕ) × (p : ℕ) × FieldTables m p es ls
 
 -- the locator of place i of a word of n places: a^(n - 1 - i)
 unfoldable pub locator : List ℕ → ℕ → ℕ → ℕ

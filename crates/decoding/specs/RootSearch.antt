@@ -10,14 +10,14 @@ use Rattle.fields.specs.ByTables.{tableProduct, tablePower}
 use Rattle.fields.specs.Places.{at, horner}
 use Rattle.decoding.specs.declared.root_search.Places.{Places}
 use Rattle.decoding.specs.declared.root_search.Terms.{Terms}
-use Rattle.decoding.specs.ByTables.{lentValue}
+use Rattle.decoding.specs.ByTables.{tableValue}
 use Rattle.decoding.specs.Decoder.{locator, xorTo, timesPower}
 
 -- the places below i, of n, whose locators are roots of v; the last first
 unfoldable pub rootPlaces : List ℕ → List ℕ → List ℕ → ℕ → ℕ → List ℕ
 rootPlaces es ls v n zero = []
 rootPlaces es ls v n (suc i) =
-    cond (eqb (lentValue es ls v (locator es n i)) 0) (i ∷ rootPlaces es ls v n i) (rootPlaces es ls v n i)
+    cond (eqb (tableValue es ls v (locator es n i)) 0) (i ∷ rootPlaces es ls v n i) (rootPlaces es ls v n i)
 
 -- the first k entries of a list, the last first
 unfoldable pub backwards : List ℕ → ℕ → List ℕ
@@ -65,7 +65,7 @@ lowered n exponents steps (suc l) = set (lowered n exponents steps l) l (lessMod
 
 -- the locator of place i is a root of v
 abbrev pub RootAt : List ℕ → List ℕ → List ℕ → ℕ → ℕ → Type 0
-RootAt es ls v n i = lentValue es ls v (locator es n i) ≡ 0
+RootAt es ls v n i = tableValue es ls v (locator es n i) ≡ 0
 
 -- r is the first place from i on, of n, whose locator is a root of v; n, if there is none
 pub record FirstRoot (es ls v : List ℕ) (n i r : ℕ) : Type 0 where

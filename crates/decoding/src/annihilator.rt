@@ -11,7 +11,7 @@ ghost use lib.ListN.{length};
 ghost use Rattle.fields.specs.Lists.{tabulate};
 ghost use Rattle.fields.specs.Places.{at};
 ghost use Rattle.decoding.specs.Decoder.{Tables};
-ghost use Rattle.decoding.specs.Annihilator.{Annihilates, powerRow, PlusPart, Zeros, cleared, cellsOf, reduced, FirstNonzero, convolved, plusShifted, adjusted, masseyStep, massey, reversedAt};
+ghost use Rattle.decoding.specs.Annihilator.{Annihilates, powerRow, PlusPart, Zeros, cleared, cellsOf, reduced, FirstNonzero, convolved, plusShifted, adjusted, berlekampMasseyStep, berlekampMassey, reversedAt};
 
 const CELLS: usize = RADIUS + COEFFICIENTS;
 
@@ -203,9 +203,15 @@ fn adjusted(exp: &[u16], log: &[u16], s: Recurrence, n: usize, d: u16) -> Recurr
     }
 }
 
-fn massey_step(exp: &[u16], log: &[u16], t: [u16; SYNDROMES], s: Recurrence, n: usize) -> Recurrence
+fn berlekamp_massey_step(
+    exp: &[u16],
+    log: &[u16],
+    t: [u16; SYNDROMES],
+    s: Recurrence,
+    n: usize,
+) -> Recurrence
     requires { ⌜ (n < 16) × (s .order ≤ n) × (s .since ≤ n) ⌝ }
-    ensures { λ r. ⌜ (r ≡ masseyStep (now (exp .entry)) (now (log .entry)) t n s) × (r .order ≤ n + 1) × (r .since ≤ n + 1) ⌝ }
+    ensures { λ r. ⌜ (r ≡ berlekampMasseyStep (now (exp .entry)) (now (log .entry)) t n s) × (r .order ≤ n + 1) × (r .since ≤ n + 1) ⌝ }
 {
     let d = convolved(exp, log, &s.coefficients, &t, n, s.order + 1);
     if d == 0 {
@@ -215,7 +221,7 @@ fn massey_step(exp: &[u16], log: &[u16], t: [u16; SYNDROMES], s: Recurrence, n: 
 }
 
 fn shortest_recurrence(exp: &[u16], log: &[u16], t: [u16; SYNDROMES]) -> Recurrence
-    ensures { λ r. ⌜ (r ≡ massey (now (exp .entry)) (now (log .entry)) t 16) × (r .order ≤ 16) ⌝ }
+    ensures { λ r. ⌜ (r ≡ berlekampMassey (now (exp .entry)) (now (log .entry)) t 16) × (r .order ≤ 16) ⌝ }
 {
     let mut s = Recurrence {
         coefficients: [1, 0, 0, 0, 0, 0, 0, 0, 0],
@@ -226,7 +232,7 @@ fn shortest_recurrence(exp: &[u16], log: &[u16], t: [u16; SYNDROMES]) -> Recurre
     };
     let mut n: usize = 0;
     while n < SYNDROMES {
-        s = massey_step(exp, log, t, s, n);
+        s = berlekamp_massey_step(exp, log, t, s, n);
         n += 1;
     }
     s

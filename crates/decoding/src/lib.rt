@@ -15,7 +15,7 @@ ghost use lib.ListN.{length};
 ghost use Rattle.fields.specs.Elements.{powersB};
 ghost use Rattle.fields.specs.Places.{differs};
 ghost use Rattle.decoding.specs.Decoder.{Tables, locator, Decoded, weightOf};
-ghost use Rattle.decoding.specs.PowerTables.{Rows};
+ghost use Rattle.decoding.specs.PowerTables.{PowerTables};
 
 mod annihilator;
 pub mod error_values;
@@ -64,22 +64,22 @@ pub fn decode_bits(exp: &[u16], log: &[u16], t: [u16; SYNDROMES], n: usize) -> E
     error_values::bits_valued(exp, log, n, t, places)
 }
 
-// The same by rows of powers, which the caller lends from word to word.
-pub fn decode_bits_by_rows(
+// The same by tables of powers, which the caller lends from word to word.
+pub fn decode_bits_by_tables(
     exp: &[u16],
     log: &[u16],
-    rows: &mut [u16],
+    tables: &mut [u16],
     t: [u16; SYNDROMES],
     n: usize,
 ) -> Errors
     requires { ⌜ Tables (now exp) (now log) ⌝ }
     requires { ⌜ (n ≤ length (now exp)) × (n < 65536) × (n % 40 ≡ 0) × (length (now exp) ≡ 2047) ⌝ }
-    requires { ⌜ (now exp ≡ powersB) × Rows (now exp) (now rows) ⌝ }
+    requires { ⌜ (now exp ≡ powersB) × PowerTables (now exp) (now tables) ⌝ }
     ensures { λ r. ⌜ Decoded (now (exp .entry)) (now (log .entry)) t n (r .places .at) (r .values) (r .places .count) (r .left) ⌝ }
-    ensures { λ _. ⌜ Rows (now (exp .entry)) (now (rows .exit)) ⌝ }
+    ensures { λ _. ⌜ PowerTables (now (exp .entry)) (now (tables .exit)) ⌝ }
 {
     let polynomial = annihilator::annihilator(exp, log, t);
-    let places = power_tables::roots_by_rows(exp, log, rows, polynomial, n);
+    let places = power_tables::roots_by_tables(exp, log, tables, polynomial, n);
     error_values::bits_valued(exp, log, n, t, places)
 }
 

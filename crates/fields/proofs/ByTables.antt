@@ -1,4 +1,4 @@
--- Lent the tables of a field, the functions over tables give the field's powers, products and inverses. For any degree m and polynomial p.
+-- FieldTables the tables of a field, the functions over tables give the field's powers, products and inverses. For any degree m and polynomial p.
 -- Assumes nothing.
 use mathlib.Core.Path.{_≡_, sym, ap, _∙_}
 use mathlib.Core.List.{List}
@@ -12,7 +12,7 @@ use lib.ListN.{length, getD}
 use lib.Pow.{pow-pos}
 use Rattle.fields.specs.Elements.{times, power, exponent, inverse, powers, exponents}
 use Rattle.fields.specs.Field.{Field}
-use Rattle.fields.specs.ByTables.{placeIn, wrapped, powerNear, tablePower, productAt, tableProduct, inverseAt, tableInverse, Lent}
+use Rattle.fields.specs.ByTables.{placeIn, wrapped, powerNear, tablePower, productAt, tableProduct, inverseAt, tableInverse, FieldTables}
 use Rattle.fields.proofs.Doubling.{two-le}
 use Rattle.fields.proofs.Lists.{tabulate-at, tabulate-length}
 use Rattle.fields.proofs.Ways.{wrapped-below, wrapped-above}
@@ -77,11 +77,11 @@ module _ (m p : ℕ) (F : Field m p) where
   table-inverse x = rw (place-is x) (inverse-is (x % 2 ^ m) (mod-lt x (pow-pos m)) (ℕ-discrete (x % 2 ^ m) 0))
 
 -- what the tables give, lent those of a field
-pub power-lent : (es : List ℕ) (i r m p : ℕ) → r ≡ tablePower es i → Field m p → es ≡ powers m p → r ≡ power m p i
-power-lent es i r m p e F ee = e ∙ rw ee (table-power m p F i)
+pub power-by-tables : (es : List ℕ) (i r m p : ℕ) → r ≡ tablePower es i → Field m p → es ≡ powers m p → r ≡ power m p i
+power-by-tables es i r m p e F ee = e ∙ rw ee (table-power m p F i)
 
-pub product-lent : (es ls : List ℕ) (x y r m p : ℕ) → r ≡ tableProduct es ls x y → Lent m p es ls → r ≡ times m p (x % 2 ^ m) (y % 2 ^ m)
-product-lent es ls x y r m p e L = e ∙ rw (L .exp, L .log) (table-product m p (L .field) x y)
+pub product-by-tables : (es ls : List ℕ) (x y r m p : ℕ) → r ≡ tableProduct es ls x y → FieldTables m p es ls → r ≡ times m p (x % 2 ^ m) (y % 2 ^ m)
+product-by-tables es ls x y r m p e L = e ∙ rw (L .exp, L .log) (table-product m p (L .field) x y)
 
-pub inverse-lent : (es ls : List ℕ) (x r m p : ℕ) → r ≡ tableInverse es ls x → Lent m p es ls → r ≡ inverse m p (x % 2 ^ m)
-inverse-lent es ls x r m p e L = e ∙ rw (L .exp, L .log) (table-inverse m p (L .field) x)
+pub inverse-by-tables : (es ls : List ℕ) (x r m p : ℕ) → r ≡ tableInverse es ls x → FieldTables m p es ls → r ≡ inverse m p (x % 2 ^ m)
+inverse-by-tables es ls x r m p e L = e ∙ rw (L .exp, L .log) (table-inverse m p (L .field) x)

@@ -3,7 +3,7 @@ use mathlib.Core.Path.{refl}
 use lib.Dec.{lit<}
 use Rattle.fields.specs.Elements.{xor, scale, doubled, powersA, exponentsA, powersB, exponentsB}
 use Rattle.fields.specs.Field.{Field}
-use Rattle.fields.specs.ByTables.{Lent}
+use Rattle.fields.specs.ByTables.{FieldTables}
 use Rattle.fields.proofs.Cycle.{Cyclic, cyclic}
 use Rattle.fields.proofs.Laws.{field}
 
@@ -14,8 +14,8 @@ cyclic-a = cyclic 10 1033 (lit< tt) tt refl
 pub field-a : Field 10 1033
 field-a = field 10 1033 cyclic-a
 
-pub lent-a : Lent 10 1033 powersA exponentsA
-lent-a = record { field = field-a; exp = refl; log = refl }
+pub field-tables-a : FieldTables 10 1033 powersA exponentsA
+field-tables-a = record { field = field-a; exp = refl; log = refl }
 
 cyclic-b : Cyclic 11 2053
 unfolding doubled scale xor
@@ -24,5 +24,5 @@ cyclic-b = cyclic 11 2053 (lit< tt) tt refl
 pub field-b : Field 11 2053
 field-b = field 11 2053 cyclic-b
 
-pub lent-b : Lent 11 2053 powersB exponentsB
-lent-b = record { field = field-b; exp = refl; log = refl }
+pub field-tables-b : FieldTables 11 2053 powersB exponentsB
+field-tables-b = record { field = field-b; exp = refl; log = refl }

@@ -40,7 +40,7 @@ unfoldable pub tableInverse : List ℕ → List ℕ → ℕ → ℕ
 tableInverse es ls x = inverseAt es ls (placeIn (length ls) x)
 
 -- the tables are those of the field of degree m and polynomial p
-pub record Lent (m p : ℕ) (es ls : List ℕ) : Type 0 where
+pub record FieldTables (m p : ℕ) (es ls : List ℕ) : Type 0 where
   pub field : Field m p
   pub exp : es ≡ powers m p
   pub log : ls ≡ exponents m p

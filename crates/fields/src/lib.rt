@@ -12,7 +12,7 @@ ghost use Prim.Native.Nat.{ℕ, _-_, _%_, _^_, _<_};
 ghost use lib.ListN.{length, getD};
 ghost use Rattle.fields.specs.Elements.{times, power, inverse, powers, powersA, exponentsA, powersB, exponentsB};
 ghost use Rattle.fields.specs.Field.{Field};
-ghost use Rattle.fields.specs.ByTables.{placeIn, wrapped, powerNear, tablePower, tableProduct, tableInverse, Lent};
+ghost use Rattle.fields.specs.ByTables.{placeIn, wrapped, powerNear, tablePower, tableProduct, tableInverse, FieldTables};
 
 mod tables;
 
@@ -57,7 +57,7 @@ pub fn power(exp: &[u16], i: u16) -> u16
 // x times y.
 pub fn product(exp: &[u16], log: &[u16], x: u16, y: u16) -> u16
     ensures by_tables { λ r. ⌜ r ≡ tableProduct (now (exp .entry)) (now (log .entry)) x y ⌝ }
-    ensures in_field { λ r. ⌜ ((m p : ℕ) → Lent m p (now (exp .entry)) (now (log .entry)) → r ≡ times m p (x % 2 ^ m) (y % 2 ^ m)) ⌝ }
+    ensures in_field { λ r. ⌜ ((m p : ℕ) → FieldTables m p (now (exp .entry)) (now (log .entry)) → r ≡ times m p (x % 2 ^ m) (y % 2 ^ m)) ⌝ }
 {
     let n = log.len();
     if n == 0 {
@@ -79,7 +79,7 @@ pub fn product(exp: &[u16], log: &[u16], x: u16, y: u16) -> u16
 // One over x, and 0 for 0.
 pub fn inverse(exp: &[u16], log: &[u16], x: u16) -> u16
     ensures by_tables { λ r. ⌜ r ≡ tableInverse (now (exp .entry)) (now (log .entry)) x ⌝ }
-    ensures in_field { λ r. ⌜ ((m p : ℕ) → Lent m p (now (exp .entry)) (now (log .entry)) → r ≡ inverse m p (x % 2 ^ m)) ⌝ }
+    ensures in_field { λ r. ⌜ ((m p : ℕ) → FieldTables m p (now (exp .entry)) (now (log .entry)) → r ≡ inverse m p (x % 2 ^ m)) ⌝ }
 {
     let n = log.len();
     if n == 0 {

@@ -1,14 +1,13 @@
 // Inner words that are no code words, corrected one after the other by their residues.
 use crate::Interleaved;
 use crate::odd_values::odd_values;
-use decoding::decoder;
 use words::wrong_places;
 ghost use mathlib.Core.Path.{_≡_};
 ghost use mathlib.Core.Bool.{true, _&&_, cond};
 ghost use Prim.Native.Nat.{ℕ, _<_};
 ghost use lib.ListN.{length};
 ghost use Rattle.fields.specs.Elements.{powersB, exponentsB};
-ghost use Rattle.decoding.specs.PowerTables.{Rows};
+ghost use Rattle.decoding.specs.PowerTables.{PowerTables};
 ghost use Rattle.words.specs.Bits.{bitOf, bitAt};
 ghost use Rattle.words.specs.InnerCode.{isInner};
 ghost use Rattle.words.specs.InnerWords.{innerWord};
@@ -19,17 +18,17 @@ ghost use Rattle.inner_words.specs.Passes.{wrongWords, WordCorrected, In
 fn correct_word(
     exp: &[u16],
     log: &[u16],
-    rows: &mut [u16],
+    tables: &mut [u16],
     residues: &[u64],
     k: usize,
     block: &mut [u8],
 ) -> bool
-    requires { ⌜ (now exp ≡ powersB) × (now log ≡ exponentsB) × Rows (now exp) (now rows) ⌝ }
+    requires { ⌜ (now exp ≡ powersB) × (now log ≡ exponentsB) × PowerTables (now exp) (now tables) ⌝ }
     requires { ⌜ (length (now residues) ≡ 88) × (length (now block) ≡ 16320) × (k < 64) × WordResidues (now residues) k (now block) ⌝ }
     ensures put { λ r. ⌜ WordCorrected k (now (block .entry)) (now (block .exit)) r ⌝ }
-    ensures rows { λ _. ⌜ Rows (now (exp .entry)) (now (rows .exit)) ⌝ }
+    ensures tables { λ _. ⌜ PowerTables (now (exp .entry)) (now (tables .exit)) ⌝ }
 {
-    let e = wrong_places::errors_by_rows(exp, log, rows, odd_values(exp, residues, k));
+    let e = wrong_places::errors_by_tables(exp, log, tables, odd_values(exp, residues, k));
     if !wrong_places::explains(exp, e) {
         return false;
     }
@@ -41,21 +40,21 @@ fn correct_word(
 fn correct_wrong(
     exp: &[u16],
     log: &[u16],
-    rows: &mut [u16],
+    tables: &mut [u16],
     residues: &[u64],
     wrong: u64,
     k: usize,
     block: &mut [u8],
 ) -> bool
-    requires { ⌜ (now exp ≡ powersB) × (now log ≡ exponentsB) × Rows (now exp) (now rows) ⌝ }
+    requires { ⌜ (now exp ≡ powersB) × (now log ≡ exponentsB) × PowerTables (now exp) (now tables) ⌝ }
     requires { ⌜ (length (now residues) ≡ 88) × (length (now block) ≡ 16320) × (k < 64) ⌝ }
     requires { ⌜ bitOf 64 wrong k ≡ cond (isInner (innerWord (bitAt (now block)) k)) 0 1 ⌝ }
     requires { ⌜ (bitOf 64 wrong k ≡ 1 → WordResidues (now residues) k (now block)) ⌝ }
     ensures put { λ r. ⌜ WordCorrected k (now (block .entry)) (now (block .exit)) r ⌝ }
-    ensures rows { λ _. ⌜ Rows (now (exp .entry)) (now (rows .exit)) ⌝ }
+    ensures tables { λ _. ⌜ PowerTables (now (exp .entry)) (now (tables .exit)) ⌝ }
 {
     if (wrong >> (Interleaved::WORDS - 1 - k)) & 1 == 1 {
-        return correct_word(exp, log, rows, residues, k, block);
+        return correct_word(exp, log, tables, residues, k, block);
     }
     true
 }
@@ -66,11 +65,11 @@ fn both(a: bool, b: bool) -> bool
     if a { b } else { false }
 }
 
-// Rows of powers to write into: their length is all that is promised.
-fn blank_rows() -> [u16; decoder::ROWS]
+// Tables of powers to write into: their length is all that is promised.
+fn blank_tables() -> [u16; decoding::power_tables::ENTRIES]
     ensures { λ r. ⌜ length r ≡ 18784 ⌝ }
 {
-    [0; decoder::ROWS]
+    [0; decoding::power_tables::ENTRIES]
 }
 
 // The inner words of the block that are no code words, one after the other, by their residues. True only if all inner words are code words then.
@@ -87,14 +86,14 @@ pub(crate) fn correct_each(
     ensures passed { λ _. ⌜ InnerPassed (now (block .entry)) (now (block .exit)) ⌝ }
     ensures codes { λ r. ⌜ (r ≡ true → innerCodes (bitAt (now (block .exit))) ≡ true) ⌝ }
 {
-    let mut rows = blank_rows();
-    decoder::empty_rows(&mut rows);
+    let mut tables = blank_tables();
+    decoding::power_tables::empty_tables(&mut tables);
     let mut all = true;
     let mut k: usize = 0;
     while k < Interleaved::WORDS {
         all = both(
             all,
-            correct_wrong(exp, log, &mut rows, residues, wrong, k, block),
+            correct_wrong(exp, log, &mut tables, residues, wrong, k, block),
         );
         k += 1;
     }

@@ -2,7 +2,7 @@
 pub mod Horner
 pub mod ShiftedBits
 pub mod BinaryRegister
-pub mod Lent
+pub mod TableValues
 pub mod Division
 pub mod OuterWords
 pub mod Packing

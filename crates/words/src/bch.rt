@@ -3,7 +3,6 @@
 use crate::Inner;
 use crate::wrong_places;
 use crate::wrong_places::OddValues;
-use decoding::decoder;
 use decoding::error_values::Errors;
 use decoding::symbols;
 ghost use mathlib.Core.Path.{_≡_};
@@ -256,9 +255,9 @@ fn plus_term(exp: &[u16], w: OddValues, c: u16, i: usize) -> OddValues
     requires { ⌜ (c < 2) × (i < 88) ⌝ }
     ensures { λ r. ⌜ r .at ≡ plusTerm (now (exp .entry)) (w .at) c i ⌝ }
 {
-    let mut at = [0u16; decoder::RADIUS];
+    let mut at = [0u16; Inner::RADIUS];
     let mut j: usize = 0;
-    while j < decoder::RADIUS {
+    while j < Inner::RADIUS {
         let x = fields::power(exp, (2 * (j as u16) + 1) * (i as u16));
         at[j] = symbols::sum(w.at[j], c * x);
         j += 1;
@@ -272,7 +271,7 @@ fn odd_values(exp: &[u16], v: Polynomial) -> OddValues
     ensures { λ r. ⌜ r .at ≡ oddValues (now (exp .entry)) (number (v .high) (v .low)) ⌝ }
 {
     let mut w = OddValues {
-        at: [0u16; decoder::RADIUS],
+        at: [0u16; Inner::RADIUS],
     };
     let mut i: usize = 0;
     while i < Inner::PARITY {

@@ -3,7 +3,6 @@
 use crate::Correction;
 use crate::packed;
 use crate::packed::Packed;
-use decoding::decoder;
 use decoding::error_values::Errors;
 use decoding::symbols;
 ghost use mathlib.Core.Path.{_≡_};
@@ -48,13 +47,13 @@ pub fn correct_from(rest: Packed, word: &[u16], out: &mut [u16]) -> Correction
     let exp = fields::exp_a();
     let log = fields::log_a();
     let t = packed::root_values(&exp, &log, rest);
-    let e = decoder::decode(&exp, &log, t, word.len());
+    let e = decoding::decode(&exp, &log, t, word.len());
     let left = e.left;
     if !symbols::all_below(&left, 1) {
         return Correction::Refused { number: 5 };
     }
     correct(word, e, out);
     Correction::Corrected {
-        changed: decoder::weight(e),
+        changed: decoding::weight(e),
     }
 }

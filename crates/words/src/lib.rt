@@ -14,7 +14,6 @@
 // Every input is answered: an entry returns 0, or the number of the refusal; a refusal leaves the output buffer as it was. Where a word has more
 // than one fault, the order is 6 (its length), 3 (the size of the output buffer), 7 (a symbol above 1,023), then 4 (no code word) or 5 (no code word
 // within eight).
-use decoding::decoder;
 use decoding::symbols;
 ghost use mathlib.Core.Path.{_≡_};
 ghost use Rattle.words.specs.Answers.{outerChecked, outerEncoded, innerChecked, innerEncoded, outerCorrected, innerCorrected};
@@ -47,7 +46,7 @@ impl Outer {
     pub const LONGEST_DATA: usize = Outer::LONGEST - Outer::PARITY;
 
     // A word within so many symbols of a code word is corrected ("reach").
-    pub const RADIUS: usize = decoder::RADIUS;
+    pub const RADIUS: usize = decoding::RADIUS;
 }
 
 // The inner code. A word is lent as bytes of eight places each.
@@ -65,7 +64,7 @@ impl Inner {
     pub const DATA_BYTES: usize = Inner::BYTES - Inner::PARITY_BYTES;
 
     // A word within so many places of a code word is corrected.
-    pub const RADIUS: usize = decoder::RADIUS;
+    pub const RADIUS: usize = decoding::RADIUS;
 }
 
 // What a correction answers: how many symbols or places it changed, or the refusal's number.
@@ -167,6 +166,6 @@ pub fn correct_inner(word: &[u8], out: &mut [u8]) -> Correction
     }
     bch::correct(word, e, out);
     Correction::Corrected {
-        changed: decoder::weight(e),
+        changed: decoding::weight(e),
     }
 }

@@ -4,7 +4,7 @@ use decoding::symbols;
 ghost use mathlib.Core.Path.{_≡_};
 ghost use lib.ListN.{length};
 ghost use Rattle.fields.specs.Places.{allBelow};
-ghost use Rattle.decoding.specs.ByTables.{lentValue, rootValues};
+ghost use Rattle.decoding.specs.ByTables.{tableValue, rootValues};
 ghost use Rattle.words.specs.OuterCode.{generator};
 ghost use Rattle.words.specs.Answers.{refusal, within};
 
@@ -30,7 +30,7 @@ pub(crate) fn refusal(word: &[u16], shortest: usize, longest: usize, fits: bool)
 
 // The value of the word at x, by Horner's rule.
 fn value(exp: &[u16], log: &[u16], word: &[u16], x: u16) -> u16
-    ensures { λ r. ⌜ r ≡ lentValue (now (exp .entry)) (now (log .entry)) (now (word .entry)) x ⌝ }
+    ensures { λ r. ⌜ r ≡ tableValue (now (exp .entry)) (now (log .entry)) (now (word .entry)) x ⌝ }
 {
     let mut v = 0;
     let mut i = 0;

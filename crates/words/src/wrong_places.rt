@@ -1,7 +1,6 @@
 // The wrong places of an inner word, from its values at a, a^3, .. a^15: the errors that explain these, and the places inverted where the word stands, alone or
 // among others. For the crates above too.
 use crate::Inner;
-use decoding::decoder;
 use decoding::error_values::Errors;
 use decoding::symbols;
 ghost use mathlib.Core.Path.{_≡_};
@@ -11,22 +10,22 @@ ghost use lib.ListN.{length};
 ghost use lib.Dec.{eqb};
 ghost use Rattle.fields.specs.Elements.{xor, powersB, exponentsB};
 ghost use Rattle.fields.specs.Places.{differs};
-ghost use Rattle.decoding.specs.PowerTables.{Rows};
+ghost use Rattle.decoding.specs.PowerTables.{PowerTables};
 ghost use Rattle.words.specs.Bits.{bitAt};
 ghost use Rattle.words.specs.InnerDecoding.{Syndromes, isBit, isBinary, ErrorsOf, inverted, explains};
 
 // The values of a polynomial, or of a word, at a, a^3, .. a^15.
 pub struct OddValues {
-    pub at: [u16; decoder::RADIUS],
+    pub at: [u16; Inner::RADIUS],
 }
 
 // The values of a word at a, a^2, .. a^16, from those at the odd powers: at the even powers they are squares.
-fn syndromes(exp: &[u16], log: &[u16], odd: OddValues) -> [u16; decoder::SYNDROMES]
+fn syndromes(exp: &[u16], log: &[u16], odd: OddValues) -> [u16; decoding::SYNDROMES]
     ensures { λ r. ⌜ Syndromes (now (exp .entry)) (now (log .entry)) (odd .at) 8 r ⌝ }
 {
-    let mut t = [0u16; decoder::SYNDROMES];
+    let mut t = [0u16; decoding::SYNDROMES];
     let mut i: usize = 0;
-    while i < decoder::RADIUS {
+    while i < Inner::RADIUS {
         t[2 * i] = odd.at[i];
         t[2 * i + 1] = fields::product(exp, log, t[i], t[i]);
         i += 1;
@@ -50,7 +49,7 @@ fn is_binary(exp: &[u16], e: Errors) -> bool
     let values = e.values;
     let mut k: usize = 0;
     while k < places.count {
-        let x = decoder::locator(exp, Inner::PLACES, symbols::symbol(&at, k) as usize);
+        let x = decoding::locator(exp, Inner::PLACES, symbols::symbol(&at, k) as usize);
         if !is_bit(symbols::symbol(&values, k), x) {
             return false;
         }
@@ -65,17 +64,17 @@ pub(crate) fn errors_of(exp: &[u16], log: &[u16], odd: OddValues) -> Errors
     ensures { λ r. ⌜ ErrorsOf (odd .at) (r .places .at) (r .values) (r .places .count) (r .left) ⌝ }
 {
     let t = syndromes(exp, log, odd);
-    decoder::decode_bits(exp, log, t, Inner::PLACES)
+    decoding::decode_bits(exp, log, t, Inner::PLACES)
 }
 
-// The same by rows of powers, which the caller lends from word to word.
-pub fn errors_by_rows(exp: &[u16], log: &[u16], rows: &mut [u16], odd: OddValues) -> Errors
-    requires { ⌜ (now exp ≡ powersB) × (now log ≡ exponentsB) × Rows (now exp) (now rows) ⌝ }
+// The same by tables of powers, which the caller lends from word to word.
+pub fn errors_by_tables(exp: &[u16], log: &[u16], tables: &mut [u16], odd: OddValues) -> Errors
+    requires { ⌜ (now exp ≡ powersB) × (now log ≡ exponentsB) × PowerTables (now exp) (now tables) ⌝ }
     ensures errors { λ r. ⌜ ErrorsOf (odd .at) (r .places .at) (r .values) (r .places .count) (r .left) ⌝ }
-    ensures rows { λ _. ⌜ Rows (now (exp .entry)) (now (rows .exit)) ⌝ }
+    ensures tables { λ _. ⌜ PowerTables (now (exp .entry)) (now (tables .exit)) ⌝ }
 {
     let t = syndromes(exp, log, odd);
-    decoder::decode_bits_by_rows(exp, log, rows, t, Inner::PLACES)
+    decoding::decode_bits_by_tables(exp, log, tables, t, Inner::PLACES)
 }
 
 // The errors leave nothing of the syndromes, and each has the value of a wrong place.

@@ -7,12 +7,12 @@ use native.Mathlib.Omega.{arith}
 use lib.ListN.{length}
 use Rattle.fields.specs.Elements.{xor, times, power, exponent, powers, exponents, powersB, exponentsB}
 use Rattle.fields.specs.Field.{Field}
-use Rattle.fields.specs.ByTables.{tableProduct, tableInverse, tablePower, Lent}
+use Rattle.fields.specs.ByTables.{tableProduct, tableInverse, tablePower, FieldTables}
 use Rattle.fields.specs.Places.{at, horner}
 use Rattle.fields.proofs.ByTables.{table-power, table-product, table-inverse}
 use Rattle.fields.proofs.Lists.{tabulate-length, tabulate-at}
-use Rattle.fields.proofs.Instances.{lent-b}
-use Rattle.decoding.specs.ByTables.{lentValue}
+use Rattle.fields.proofs.Instances.{field-tables-b}
+use Rattle.decoding.specs.ByTables.{tableValue}
 use Rattle.decoding.specs.Decoder.{Tables, locator, xorTo, timesPower, syndrome}
 use Rattle.decoding.specs.Annihilator.{applied}
 use Rattle.decoding.proofs.Algebra.Field.{Ops, Laws, upto, mul-zero, mul-comm, mul-add}
@@ -20,8 +20,8 @@ use Rattle.decoding.proofs.Algebra.PowerSums.{sum, powerSum, valueAt}
 use Rattle.decoding.proofs.Algebra.Locators.{appliedTo}
 use Rattle.decoding.proofs.Algebra.Elements.{laws, power-next, powers-distinct}
 
-abbrev pub lentOps : List ℕ → List ℕ → Ops ℕ
-lentOps es ls = record { _⊕_ = xor; _⊙_ = tableProduct es ls; 𝟘 = 0; 𝟙 = 1; inv = tableInverse es ls }
+abbrev pub tableOps : List ℕ → List ℕ → Ops ℕ
+tableOps es ls = record { _⊕_ = xor; _⊙_ = tableProduct es ls; 𝟘 = 0; 𝟙 = 1; inv = tableInverse es ls }
 
 -- what is used of the powers of a: X i is a^i, for i below the length n all distinct
 pub record Powers (es ls : List ℕ) : Type 0 where
@@ -57,7 +57,7 @@ module _ (m p : ℕ) (F : Field m p) where
       let small : x < 2 ^ m = rw exponents-length at h in
       rw (exponents-at x small, powers-length, powers-at (exponent m p x) (F .exponent-lt x)) (F .exponent-lt x, F .power-exponent x (omega arith) small)
 
-  own-laws : Laws (lentOps (powers m p) (exponents m p)) (λ a. a < 2 ^ m)
+  own-laws : Laws (tableOps (powers m p) (exponents m p)) (λ a. a < 2 ^ m)
   own-laws =
       let K = laws m p F in
       subst (λ (f : ℕ → ℕ → ℕ). Laws (record { _⊕_ = xor; _⊙_ = f; 𝟘 = 0; 𝟙 = 1; inv = tableInverse (powers m p) (exponents m p) }) (λ a. a < 2 ^ m)) (sym product-is)
@@ -91,37 +91,37 @@ module _ (m p : ℕ) (F : Field m p) where
       }
 
 module _ (es ls : List ℕ) (T : Tables es ls) where
-  pub lent-laws : Laws (lentOps es ls) (λ a. a < length ls)
-  lent-laws =
+  pub table-laws : Laws (tableOps es ls) (λ a. a < length ls)
+  table-laws =
       let m = T .0 in
       let p = T .1 in
-      let L : Lent m p es ls = T .2 in
+      let L : FieldTables m p es ls = T .2 in
       rw (L .exp, L .log, exponents-length m p (L .field)) (own-laws m p (L .field))
 
-  pub lent-powers : Powers es ls
-  lent-powers =
+  pub table-powers : Powers es ls
+  table-powers =
       let m = T .0 in
       let p = T .1 in
-      let L : Lent m p es ls = T .2 in
+      let L : FieldTables m p es ls = T .2 in
       rw (L .exp, L .log) (own-powers m p (L .field))
 
   -- the exponent of an element but 0, and the element back
-  pub lent-exponent : (x : ℕ) → ¬ (x ≡ 0) → x < length ls → (at ls x < length es) × (at es (at ls x) ≡ x)
-  lent-exponent =
+  pub table-exponent : (x : ℕ) → ¬ (x ≡ 0) → x < length ls → (at ls x < length es) × (at es (at ls x) ≡ x)
+  table-exponent =
       let m = T .0 in
       let p = T .1 in
-      let L : Lent m p es ls = T .2 in
+      let L : FieldTables m p es ls = T .2 in
       rw (L .exp, L .log) (own-exponent m p (L .field))
 
   -- powers multiply by adding exponents
-  pub lent-power-sum : (i j : ℕ) → tablePower es (i + j) ≡ tableProduct es ls (tablePower es i) (tablePower es j)
-  lent-power-sum zero j = rw (zero-add, lent-powers .first) (sym (lent-laws .one-mul _ (lent-powers .inside j)))
-  lent-power-sum (suc i) j =
-      rw (suc-add, lent-powers .next (i + j), lent-power-sum i j, lent-powers .next i) (sym (lent-laws .mul-assoc _ _ _))
+  pub table-power-sum : (i j : ℕ) → tablePower es (i + j) ≡ tableProduct es ls (tablePower es i) (tablePower es j)
+  table-power-sum zero j = rw (zero-add, table-powers .first) (sym (table-laws .one-mul _ (table-powers .inside j)))
+  table-power-sum (suc i) j =
+      rw (suc-add, table-powers .next (i + j), table-power-sum i j, table-powers .next i) (sym (table-laws .mul-assoc _ _ _))
 
-  pub lent-power-at : (i : ℕ) → i < length es → at es i ≡ tablePower es i
+  pub table-power-at : (i : ℕ) → i < length es → at es i ≡ tablePower es i
   unfolding tablePower
-  lent-power-at i h = rw (mod-eq-of-lt h)
+  table-power-at i h = rw (mod-eq-of-lt h)
 
 pub xorTo-same : (n : ℕ) (f g : ℕ → ℕ) → ((i : ℕ) → i < n → f i ≡ g i) → xorTo n f ≡ xorTo n g
 unfolding xorTo
@@ -130,19 +130,19 @@ xorTo-same (suc n) f g h = ap₂ xor (xorTo-same n f g (λ i l. h i (omega arith
 
 -- values and syndromes are those of the abstract algebra
 module _ (es ls : List ℕ) where
-  pub lent-value : (x : ℕ) (b : ℕ → ℕ) (n : ℕ) → horner (λ v. tableProduct es ls v x) b n ≡ valueAt (lentOps es ls) x b n
+  pub table-value : (x : ℕ) (b : ℕ → ℕ) (n : ℕ) → horner (λ v. tableProduct es ls v x) b n ≡ valueAt (tableOps es ls) x b n
   unfolding horner valueAt
-  lent-value x b zero = refl
-  lent-value x b (suc n) = ap (λ (v : ℕ). xor (tableProduct es ls v x) (b n)) (lent-value x b n)
+  table-value x b zero = refl
+  table-value x b (suc n) = ap (λ (v : ℕ). xor (tableProduct es ls v x) (b n)) (table-value x b n)
 
-  pub lentValue-is : (w : List ℕ) (x n : ℕ) → length w ≡ n → lentValue es ls w x ≡ valueAt (lentOps es ls) x (at w) n
-  unfolding lentValue
-  lentValue-is w x n long = lent-value x (at w) (length w) ∙ ap (valueAt (lentOps es ls) x (at w)) long
+  pub tableValue-is : (w : List ℕ) (x n : ℕ) → length w ≡ n → tableValue es ls w x ≡ valueAt (tableOps es ls) x (at w) n
+  unfolding tableValue
+  tableValue-is w x n long = table-value x (at w) (length w) ∙ ap (valueAt (tableOps es ls) x (at w)) long
 
-  pub lent-applied : (b s : ℕ → ℕ) (n : ℕ) → applied (tableProduct es ls) b n s ≡ appliedTo (lentOps es ls) b n s
+  pub table-applied : (b s : ℕ → ℕ) (n : ℕ) → applied (tableProduct es ls) b n s ≡ appliedTo (tableOps es ls) b n s
   unfolding applied appliedTo
-  lent-applied b s zero = refl
-  lent-applied b s (suc n) = ap (λ (v : ℕ). xor v (tableProduct es ls (b n) (s 0))) (lent-applied b (λ k. s (suc k)) n)
+  table-applied b s zero = refl
+  table-applied b s (suc n) = ap (λ (v : ℕ). xor v (tableProduct es ls (b n) (s 0))) (table-applied b (λ k. s (suc k)) n)
 
   pub timesPower-in : (x c j : ℕ) → timesPower (tableProduct es ls) x (tableProduct es ls x c) j ≡ tableProduct es ls x (timesPower (tableProduct es ls) x c j)
   unfolding timesPower
@@ -152,22 +152,22 @@ module _ (es ls : List ℕ) where
   pub timesPower-zero : Tables es ls → (x j : ℕ) → timesPower (tableProduct es ls) x 0 j ≡ 0
   unfolding timesPower
   timesPower-zero T x zero = refl
-  timesPower-zero T x (suc j) = ap (tableProduct es ls x) (timesPower-zero T x j) ∙ mul-zero (lentOps es ls) (lent-laws es ls T) x
+  timesPower-zero T x (suc j) = ap (tableProduct es ls x) (timesPower-zero T x j) ∙ mul-zero (tableOps es ls) (table-laws es ls T) x
 
-  pub powerSum-terms : {I : Type 0} (X e : I → ℕ) (ps : List I) (j : ℕ) → powerSum (lentOps es ls) X e ps j ≡ sum (lentOps es ls) (λ i. timesPower (tableProduct es ls) (X i) (e i) j) ps
+  pub powerSum-terms : {I : Type 0} (X e : I → ℕ) (ps : List I) (j : ℕ) → powerSum (tableOps es ls) X e ps j ≡ sum (tableOps es ls) (λ i. timesPower (tableProduct es ls) (X i) (e i) j) ps
   unfolding powerSum timesPower
   powerSum-terms X e ps zero = refl
   powerSum-terms X e ps (suc j) =
-      powerSum-terms X (λ i. tableProduct es ls (X i) (e i)) ps j ∙ ap (λ f. sum (lentOps es ls) f ps) (fun-ext (λ i. timesPower-in (X i) (e i) j))
+      powerSum-terms X (λ i. tableProduct es ls (X i) (e i)) ps j ∙ ap (λ f. sum (tableOps es ls) f ps) (fun-ext (λ i. timesPower-in (X i) (e i) j))
 
-  pub xorTo-sum : Tables es ls → (f : ℕ → ℕ) (n : ℕ) → xorTo n f ≡ sum (lentOps es ls) f (upto n)
+  pub xorTo-sum : Tables es ls → (f : ℕ → ℕ) (n : ℕ) → xorTo n f ≡ sum (tableOps es ls) f (upto n)
   unfolding xorTo sum upto
   xorTo-sum T f zero = refl
-  xorTo-sum T f (suc n) = ap (λ (v : ℕ). xor v (f n)) (xorTo-sum T f n) ∙ lent-laws es ls T .add-comm _ (f n)
+  xorTo-sum T f (suc n) = ap (λ (v : ℕ). xor v (f n)) (xorTo-sum T f n) ∙ table-laws es ls T .add-comm _ (f n)
 
-  pub syndrome-is : Tables es ls → (n : ℕ) (e : ℕ → ℕ) (j : ℕ) → syndrome es ls n e j ≡ powerSum (lentOps es ls) (locator es n) e (upto n) j
+  pub syndrome-is : Tables es ls → (n : ℕ) (e : ℕ → ℕ) (j : ℕ) → syndrome es ls n e j ≡ powerSum (tableOps es ls) (locator es n) e (upto n) j
   unfolding syndrome
   syndrome-is T n e j = xorTo-sum T _ n ∙ sym (powerSum-terms (locator es n) e (upto n) j)
 
 pub tables-b : Tables powersB exponentsB
-tables-b = (11, 2053, lent-b)
+tables-b = (11, 2053, field-tables-b)

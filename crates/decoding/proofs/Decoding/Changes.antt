@@ -19,7 +19,7 @@ use Rattle.fields.proofs.Places.Tests.{below-at, below-all}
 use Rattle.fields.proofs.Places.Counting.{differs-most, differs-self, sum-zero, sum-same, sum-add}
 use Rattle.decoding.specs.Decoder.{Tables, locator, xorTo, timesPower, syndrome, errorAt, Correctable, Decoded, weightOf, withErrors}
 use Rattle.decoding.proofs.Algebra.PowerSums.{powerSum-add, horner-sums}
-use Rattle.decoding.proofs.Algebra.Tables.{lentOps, lent-laws, lent-powers, xorTo-same, lent-value, syndrome-is}
+use Rattle.decoding.proofs.Algebra.Tables.{tableOps, table-laws, table-powers, xorTo-same, table-value, syndrome-is}
 
 -- a sum of v at one place, and else of 0
 sum-single : (n p v : ℕ) → p < n → sumTo n (λ i. cond (eqb p i) v 0) ≡ v
@@ -112,14 +112,14 @@ module _ (es ls : List ℕ) (n : ℕ) where
     pub syndrome-add : (e f : ℕ → ℕ) (j : ℕ) → syndrome es ls n (λ i. xor (e i) (f i)) j ≡ xor (syndrome es ls n e j) (syndrome es ls n f j)
     syndrome-add e f j =
         rw (syndrome-is es ls T n e j, syndrome-is es ls T n f j, syndrome-is es ls T n (λ i. xor (e i) (f i)) j)
-        (powerSum-add (lentOps es ls) (lent-laws es ls T) (locator es n) j _ e f)
+        (powerSum-add (tableOps es ls) (table-laws es ls T) (locator es n) j _ e f)
 
     -- the value at a^j of a word of n elements is its j-th syndrome
     pub value-syndrome : (b : ℕ → ℕ) → ((i : ℕ) → b i < length ls) → (j : ℕ) → horner (λ v. tableProduct es ls v (tablePower es j)) b n ≡ syndrome es ls n b j
     unfolding locator
     value-syndrome b h j =
-        let P = lent-powers es ls T in
-        lent-value es ls _ b n ∙ horner-sums (lentOps es ls) (lent-laws es ls T) (tablePower es 1) (tablePower es) (P .first) (P .next) n b h j ∙ sym (syndrome-is es ls T n b j)
+        let P = table-powers es ls T in
+        table-value es ls _ b n ∙ horner-sums (tableOps es ls) (table-laws es ls T) (tablePower es 1) (tablePower es) (P .first) (P .next) n b h j ∙ sym (syndrome-is es ls T n b j)
 
   -- what the errors found leave of the syndromes t
   module _ (t places values : List ℕ) (count : ℕ) (left : List ℕ) (D : Decoded es ls t n places values count left) where

@@ -22,7 +22,7 @@ use Rattle.decoding.specs.ErrorValues.{errorValue, lessError, resolved, 
 use Rattle.decoding.proofs.Algebra.Field as F
 use Rattle.decoding.proofs.Algebra.Field.{Ops, Laws, all-map, upto, upto-lt}
 use Rattle.decoding.proofs.Algebra.PowerSums.{sum, powerSum, sum-zero, sum-at, sum-put}
-use Rattle.decoding.proofs.Algebra.Tables.{lentOps, lent-laws, timesPower-zero, powerSum-terms, xorTo-sum, syndrome-is}
+use Rattle.decoding.proofs.Algebra.Tables.{tableOps, table-laws, timesPower-zero, powerSum-terms, xorTo-sum, syndrome-is}
 use Rattle.decoding.proofs.Decoding.RootPlaces.{locators-distinct, few-roots, covers}
 use Rattle.decoding.proofs.Decoding.Changes.{syndrome-add}
 use Rattle.decoding.proofs.Decoding.Values.{value-right, less-at, less-sums}
@@ -36,7 +36,7 @@ pub record Resolving (es ls t : List ℕ) (n : ℕ) (p : Places) (e : Errors) (k
   pub elements : (l : ℕ) → at (e .values) l < length ls
   pub left-is : (j : ℕ) → j < 16 → at (e .left) j ≡ xor (at t j) (syndrome es ls n (errorAt (p .at) (e .values) (p .count)) j)
   -- of errors that can be corrected, those at the places before k are left, and the others are found
-  pub remain : (w : ℕ → ℕ) → Correctable es ls t n w → (j : ℕ) → j < 16 → at (e .left) j ≡ powerSum (lentOps es ls) (locator es n) w (backwards (p .at) k) j
+  pub remain : (w : ℕ → ℕ) → Correctable es ls t n w → (j : ℕ) → j < 16 → at (e .left) j ≡ powerSum (tableOps es ls) (locator es n) w (backwards (p .at) k) j
   pub found : (w : ℕ → ℕ) → Correctable es ls t n w → (l : ℕ) → k ≤ l → l < p .count → at (e .values) l ≡ w (at (p .at) l)
 
 -- an error v at place p and no other
@@ -61,10 +61,10 @@ one-elsewhere p v i h = rw (ne-eqb p i (λ e. h (sym e)))
 
 module _ (es ls : List ℕ) (T : Tables es ls) where
   abbrev O : Ops ℕ
-  O = lentOps es ls
+  O = tableOps es ls
 
   K : Laws O (λ a. a < length ls)
-  K = lent-laws es ls T
+  K = table-laws es ls T
 
   -- ---- the syndromes of one error
 

@@ -22,11 +22,11 @@ use Rattle.decoding.specs.Decoder.{Tables}
 use Rattle.decoding.specs.Annihilator.{Annihilates, powerRow, plusScaled, Zeros, cleared, noRow, cellsOf, reduced, FirstNonzero}
 use Rattle.decoding.proofs.Algebra.Field.{Ops, Laws, add-self, add-zero, mul-comm, mul-assoc, mul-zero}
 use Rattle.decoding.proofs.Algebra.Locators.{appliedTo, applied-same, applied-linear, applied-zero, applied-power}
-use Rattle.decoding.proofs.Algebra.Tables.{lentOps, lent-laws, lent-applied}
+use Rattle.decoding.proofs.Algebra.Tables.{tableOps, table-laws, table-applied}
 
 module _ (es ls t : List ℕ) where
   abbrev O : Ops ℕ
-  O = lentOps es ls
+  O = tableOps es ls
 
   -- the cells are elements, and cells 0 to 7 are what the polynomial in cells 8 to 16 makes of t
   pub record Linked (u : List ℕ) : Type 0 where
@@ -54,7 +54,7 @@ module _ (es ls t : List ℕ) where
 
   module _ (T : Tables es ls) where
     abbrev K : Laws O (λ a. a < length ls)
-    K = lent-laws es ls T
+    K = table-laws es ls T
 
     -- ---- u plus c times v
     module _ (u v : List ℕ) (c : ℕ) where
@@ -209,7 +209,7 @@ module _ (es ls t : List ℕ) where
               leading-lt = omega arith;
               leading-one = tabulate-at 9 _ (8 - d) 0 (omega arith) ∙ (let e : 8 + (8 - d) ≡ 16 - d = omega arith in rw e (row-is .leading));
               equations = λ i l.
-                  lent-applied es ls _ (λ k. at t (i + k)) 9 ∙ applied-same O _ _ (λ k. at t (i + k)) 9 (λ k b. tabulate-at 9 _ k 0 b)
+                  table-applied es ls _ (λ k. at t (i + k)) 9 ∙ applied-same O _ _ (λ k. at t (i + k)) 9 (λ k b. tabulate-at 9 _ k 0 b)
                   ∙ sym (row-is .linked .made i l) ∙ first .before i (omega arith);
             })
 

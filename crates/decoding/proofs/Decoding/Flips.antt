@@ -21,7 +21,7 @@ use Rattle.decoding.specs.declared.root_search.Places.{Places}
 use Rattle.decoding.specs.Decoder.{Tables, locator, timesPower, syndrome, errorAt, Decoded}
 use Rattle.decoding.specs.RootSearch.{Roots}
 use Rattle.decoding.specs.ErrorValues.{lessError, Located, lessPowers, flipped, flippedTo}
-use Rattle.decoding.proofs.Algebra.Tables.{lent-laws, lent-powers, lent-power-at, lent-power-sum}
+use Rattle.decoding.proofs.Algebra.Tables.{table-laws, table-powers, table-power-at, table-power-sum}
 use Rattle.decoding.proofs.Decoding.Changes.{errors-weight, weight-most}
 use Rattle.decoding.proofs.Decoding.Completeness.{left-none, left-next}
 use Rattle.decoding.proofs.Decoding.Uniqueness.{errors-in, errors-unique}
@@ -32,7 +32,7 @@ module _ (es ls : List ℕ) (T : Tables es ls) where
   unfolding timesPower
   powers-of x zero = ap (tablePower es) (sym (mul-one x))
   powers-of x (suc j) =
-      ap (tableProduct es ls (tablePower es x)) (powers-of x j) ∙ sym (lent-power-sum es ls T x (x * suc j))
+      ap (tableProduct es ls (tablePower es x)) (powers-of x j) ∙ sym (table-power-sum es ls T x (x * suc j))
       ∙ ap (tablePower es) (add-comm x (x * suc j) ∙ sym (mul-suc x (suc j)))
 
   less-powers-is : (n place : ℕ) → n ≤ length es → place < n → (t : List ℕ) →
@@ -40,7 +40,7 @@ module _ (es ls : List ℕ) (T : Tables es ls) where
   unfolding lessPowers lessError locator
   less-powers-is n place fits h t =
       tabulate-same 16 _ _ (λ j l. ap (xor (at t j)) (sym (powers-of (n - suc place) j)
-      ∙ ap (λ (v : ℕ). timesPower (tableProduct es ls) (tablePower es (n - suc place)) v j) (sym (lent-power-at es ls T (n - suc place) (omega arith)))))
+      ∙ ap (λ (v : ℕ). timesPower (tableProduct es ls) (tablePower es (n - suc place)) v j) (sym (table-power-at es ls T (n - suc place) (omega arith)))))
 
   module _ (n : ℕ) (fits : n ≤ length es) (t : List ℕ) (p : Places) (few : p .count ≤ 8) (below : (k : ℕ) → k < p .count → at (p .at) k < n) where
     -- the first k places have their values
@@ -71,7 +71,7 @@ module _ (es ls : List ℕ) (T : Tables es ls) where
         v = at es (n - suc place)
 
         v-in : v < length ls
-        v-in = rw (lent-power-at es ls T (n - suc place) (omega (arith, below k h))) (lent-powers es ls T .inside _)
+        v-in = rw (table-power-at es ls T (n - suc place) (omega (arith, below k h))) (table-powers es ls T .inside _)
 
         other : (l : ℕ) → ¬ (l ≡ k) → at (set values k v) l ≡ at values l
         other l q = getD-set-other values k l v 0 q
@@ -87,7 +87,7 @@ module _ (es ls : List ℕ) (T : Tables es ls) where
           same = refl;
           long = length-replicate {A = ℕ} 8 0;
           unset = λ l b. zeros-at 8 l;
-          elements = λ l. rw (zeros-at 8 l) (lent-laws es ls T .in-zero);
+          elements = λ l. rw (zeros-at 8 l) (table-laws es ls T .in-zero);
           left-is = left-none es ls T n t p;
         }
     flips (suc k) h =

@@ -10,11 +10,11 @@ use Rattle.fields.specs.Elements.{xor}
 use Rattle.fields.specs.ByTables.{tableProduct, tableInverse, tablePower}
 use Rattle.fields.specs.Places.{at, horner}
 use Rattle.fields.proofs.Xor.{xor-zero-l}
-use Rattle.decoding.specs.ByTables.{lentValue}
+use Rattle.decoding.specs.ByTables.{tableValue}
 use Rattle.decoding.specs.Decoder.{Tables, locator}
 use Rattle.decoding.specs.RootSearch.{lessModulo, RootAt, FirstRoot}
 use Rattle.decoding.proofs.Algebra.Field.{Ops, Laws, cancel, eq-of-add, undo, zero-mul}
-use Rattle.decoding.proofs.Algebra.Tables.{lentOps, Powers, lent-laws, lent-powers, lent-exponent, lent-power-at}
+use Rattle.decoding.proofs.Algebra.Tables.{tableOps, Powers, table-laws, table-powers, table-exponent, table-power-at}
 use Rattle.decoding.proofs.Decoding.RootPlaces.{locator-in}
 use Rattle.decoding.proofs.Decoding.Search.{less-lt, less-power}
 
@@ -23,18 +23,18 @@ pub zeros-fewer : (v : List ℕ) (n r : ℕ) → n ≤ r → ((k : ℕ) → k < 
 zeros-fewer v n r h z k l = z k (omega arith)
 
 pub coefficient-exponent : (es ls v : List ℕ) → Tables es ls → ((k : ℕ) → at v k < length ls) → (k e : ℕ) → (getD v k 0 ≡ 0 → ⊥) → e ≡ at ls (getD v k 0) → e < length es
-coefficient-exponent es ls v T elements k e n q = rw q (lent-exponent es ls T (at v k) n (elements k) .0)
+coefficient-exponent es ls v T elements k e n q = rw q (table-exponent es ls T (at v k) n (elements k) .0)
 
 module _ (es ls v : List ℕ) (T : Tables es ls) (n i : ℕ) (fits : n ≤ length es) (from : i ≤ n) (elements : (k : ℕ) → at v k < length ls)
     (high : (k : ℕ) → k < 7 → at v k ≡ 0) (nine : length v ≡ 9) where
   abbrev O : Ops ℕ
-  O = lentOps es ls
+  O = tableOps es ls
 
   K : Laws O (λ a. a < length ls)
-  K = lent-laws es ls T
+  K = table-laws es ls T
 
   P : Powers es ls
-  P = lent-powers es ls T
+  P = table-powers es ls T
 
   abbrev X : ℕ → ℕ
   X = locator es n
@@ -52,8 +52,8 @@ module _ (es ls v : List ℕ) (T : Tables es ls) (n i : ℕ) (fits : n ≤ lengt
       ap₂ (λ (a b : ℕ). xor (tableProduct es ls a x) b) (zeros-value x k (omega arith)) (high k h) ∙ ap (λ (a : ℕ). xor a 0) (zero-mul O K x)
       ∙ xor-zero-l 0
 
-  value-is : (x : ℕ) → lentValue es ls v x ≡ xor (tableProduct es ls c x) d
-  unfolding lentValue horner
+  value-is : (x : ℕ) → tableValue es ls v x ≡ xor (tableProduct es ls c x) d
+  unfolding tableValue horner
   value-is x =
       rw nine (ap (λ (a : ℕ). xor (tableProduct es ls (xor (tableProduct es ls a x) c) x) d) (zeros-value x 7 (le-refl 7))
       ∙ ap (λ (a : ℕ). xor (tableProduct es ls (xor a c) x) d) (zero-mul O K x) ∙ ap (λ (a : ℕ). xor (tableProduct es ls a x) d) (xor-zero-l c))
@@ -63,7 +63,7 @@ module _ (es ls v : List ℕ) (T : Tables es ls) (n i : ℕ) (fits : n ≤ lengt
   none h = record { from = from; most = le-refl n; before = λ k lo hi. h k hi; here = λ b. absurd (omega arith) }
 
   module _ (none-c : c ≡ 0) where
-    constant : (k : ℕ) → lentValue es ls v (X k) ≡ d
+    constant : (k : ℕ) → tableValue es ls v (X k) ≡ d
     constant k = value-is (X k) ∙ ap (λ (a : ℕ). xor (tableProduct es ls a (X k)) d) none-c ∙ ap (λ (a : ℕ). xor a d) (zero-mul O K (X k)) ∙ xor-zero-l d
 
     pub all-roots : d ≡ 0 → FirstRoot es ls v n i i
@@ -86,10 +86,10 @@ module _ (es ls v : List ℕ) (T : Tables es ls) (n i : ℕ) (fits : n ≤ lengt
 
     module _ (some-d : d ≡ 0 → ⊥) (a b e : ℕ) (ea : a ≡ at ls d) (eb : b ≡ at ls c) (ee : e ≡ lessModulo (length es) a b) where
       by-c : (at ls c < length es) × (at es (at ls c) ≡ c)
-      by-c = lent-exponent es ls T c some-c (elements 7)
+      by-c = table-exponent es ls T c some-c (elements 7)
 
       by-d : (at ls d < length es) × (at es (at ls d) ≡ d)
-      by-d = lent-exponent es ls T d some-d (elements 8)
+      by-d = table-exponent es ls T d some-d (elements 8)
 
       e-is : e ≡ lessModulo (length es) (at ls d) (at ls c)
       e-is = ee ∙ ap₂ (lessModulo (length es)) ea eb
@@ -101,7 +101,7 @@ module _ (es ls v : List ℕ) (T : Tables es ls) (n i : ℕ) (fits : n ≤ lengt
       quotient : tableProduct es ls (tableInverse es ls c) d ≡ tablePower es e
       quotient =
           ap₂ (λ (x y : ℕ). tableProduct es ls (tableInverse es ls x) y) (sym (by-c .1)) (sym (by-d .1)) ∙ less-power es ls T (at ls d) (at ls c) (by-d .0) (by-c .0)
-          ∙ ap (at es) (sym e-is) ∙ lent-power-at es ls T e inside
+          ∙ ap (at es) (sym e-is) ∙ table-power-at es ls T e inside
 
       same-exponent : (f : ℕ) → f < length es → tablePower es f ≡ tablePower es e → f ≡ e
       same-exponent f h q = go (decLt f e) (decLt e f)

@@ -12,7 +12,7 @@ use lib.ListN.{length}
 use Rattle.fields.specs.Elements.{xor}
 use Rattle.fields.specs.ByTables.{tableProduct}
 use Rattle.fields.specs.Places.{at, differs}
-use Rattle.decoding.specs.ByTables.{lentValue}
+use Rattle.decoding.specs.ByTables.{tableValue}
 use Rattle.decoding.specs.Decoder.{Correctable, Tables, locator}
 use Rattle.decoding.specs.Annihilator.{applied, Annihilates}
 use Rattle.decoding.specs.RootSearch.{rootPlaces}
@@ -21,10 +21,10 @@ use Rattle.decoding.proofs.Algebra.PowerSums.{sum, powerSum, valueAt}
 use Rattle.decoding.proofs.Algebra.Support.{support, support-nonzero, all-support, support-apart, support-powerSum, support-count}
 use Rattle.decoding.proofs.Algebra.Locators.{appliedTo, locates, vanishes}
 use Rattle.decoding.proofs.Algebra.Elements.{isZero}
-use Rattle.decoding.proofs.Algebra.Tables.{lentOps, lent-laws, lent-powers, lentValue-is, syndrome-is}
+use Rattle.decoding.proofs.Algebra.Tables.{tableOps, table-laws, table-powers, tableValue-is, syndrome-is}
 
 applied-is : (es ls : List ℕ) (b : ℕ → ℕ) (n : ℕ) (s u : ℕ → ℕ) → ((k : ℕ) → k < n → u k ≡ s k) →
-    appliedTo (lentOps es ls) b n u ≡ applied (tableProduct es ls) b n s
+    appliedTo (tableOps es ls) b n u ≡ applied (tableProduct es ls) b n s
 unfolding applied appliedTo
 applied-is es ls b zero s u same = refl
 applied-is es ls b (suc n) s u same =
@@ -33,25 +33,25 @@ applied-is es ls b (suc n) s u same =
 
 module _ (es ls : List ℕ) (T : Tables es ls) (n : ℕ) where
   abbrev O : Ops ℕ
-  O = lentOps es ls
+  O = tableOps es ls
 
   abbrev X : ℕ → ℕ
   X = locator es n
 
   K : Laws O (λ a. a < length ls)
-  K = lent-laws es ls T
+  K = table-laws es ls T
 
   pub locator-in : (i : ℕ) → X i < length ls
   unfolding locator
-  locator-in i = lent-powers es ls T .inside _
+  locator-in i = table-powers es ls T .inside _
 
   pub locators-distinct : n ≤ length es → (i k : ℕ) → i < k → k < n → ¬ (X i ≡ X k)
   unfolding locator
-  locators-distinct fits i k h l e = lent-powers es ls T .distinct (n - suc k) (n - suc i) (omega arith) (omega arith) (sym e)
+  locators-distinct fits i k h l e = table-powers es ls T .distinct (n - suc k) (n - suc i) (omega arith) (omega arith) (sym e)
 
   module _ (v : List ℕ) where
     abbrev root : ℕ → Type 0
-    root i = lentValue es ls v (X i) ≡ 0
+    root i = tableValue es ls v (X i) ≡ 0
 
     abbrev roots : ℕ → List ℕ
     roots i = rootPlaces es ls v n i
@@ -59,11 +59,11 @@ module _ (es ls : List ℕ) (T : Tables es ls) (n : ℕ) where
     -- by cases: place i is a root, or it is not
     root-cases : (P : List ℕ → Type 0) (i : ℕ) → (root i → P (i ∷ roots i)) → (¬ root i → P (roots i)) → P (roots (suc i))
     unfolding rootPlaces
-    root-cases P i here not = go (isZero (lentValue es ls v (X i)))
+    root-cases P i here not = go (isZero (tableValue es ls v (X i)))
       where
-        go : Dec (root i) → P (cond (eqb (lentValue es ls v (X i)) 0) (i ∷ roots i) (roots i))
-        go (yes z) = rw (eq-eqb (lentValue es ls v (X i)) 0 z) (here z)
-        go (no z) = rw (ne-eqb (lentValue es ls v (X i)) 0 z) (not z)
+        go : Dec (root i) → P (cond (eqb (tableValue es ls v (X i)) 0) (i ∷ roots i) (roots i))
+        go (yes z) = rw (eq-eqb (tableValue es ls v (X i)) 0 z) (here z)
+        go (no z) = rw (ne-eqb (tableValue es ls v (X i)) 0 z) (not z)
 
     roots-all : (P : ℕ → Type 0) (i : ℕ) → ((k : ℕ) → k < i → root k → P k) → All P (roots i)
     unfolding rootPlaces
@@ -91,8 +91,8 @@ module _ (es ls : List ℕ) (T : Tables es ls) (n : ℕ) where
 
     -- v annihilates the syndromes t
     module _ (fits : n ≤ length es) (t : List ℕ) (A : Annihilates es ls t v) (nine : length v ≡ 9) where
-      value-is : (i : ℕ) → lentValue es ls v (X i) ≡ valueAt O (X i) (at v) 9
-      value-is i = lentValue-is es ls v (X i) 9 nine
+      value-is : (i : ℕ) → tableValue es ls v (X i) ≡ valueAt O (X i) (at v) 9
+      value-is i = tableValue-is es ls v (X i) 9 nine
 
       pub few-roots : length (roots n) ≤ 8
       few-roots = go (decLt 8 (length (roots n)))

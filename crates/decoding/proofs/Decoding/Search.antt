@@ -16,14 +16,14 @@ use Rattle.fields.specs.ByTables.{tableProduct, tableInverse, tablePower}
 use Rattle.fields.specs.Places.{at}
 use Rattle.fields.proofs.Lists.{tabulate-at, tabulate-length, tabulate-lt}
 use Rattle.decoding.specs.declared.root_search.Terms.{Terms}
-use Rattle.decoding.specs.ByTables.{lentValue}
+use Rattle.decoding.specs.ByTables.{tableValue}
 use Rattle.decoding.specs.Decoder.{Tables, locator, xorTo, timesPower}
 use Rattle.decoding.specs.RootSearch.{addTerm, withTerm, termsTo, Exponents, powersTo, lessModulo, lowered, RootAt, quotientOf}
 use Rattle.decoding.proofs.Algebra.Field.{Ops, Laws, add-zero, mul-left, undo}
 use Rattle.decoding.proofs.Algebra.PowerSums.{valueAt, value-in, value-same}
 use Rattle.decoding.proofs.Algebra.Locators.{value-first, quotient-root, root-quotient}
 use Rattle.decoding.proofs.Algebra.Elements.{isZero}
-use Rattle.decoding.proofs.Algebra.Tables.{lentOps, Powers, lent-laws, lent-powers, lent-exponent, lent-power-sum, lent-power-at, xorTo-same, lent-value, lentValue-is, timesPower-in, timesPower-zero}
+use Rattle.decoding.proofs.Algebra.Tables.{tableOps, Powers, table-laws, table-powers, table-exponent, table-power-sum, table-power-at, xorTo-same, table-value, tableValue-is, timesPower-in, timesPower-zero}
 use Rattle.decoding.proofs.Decoding.RootPlaces.{locator-in, locators-distinct}
 
 -- ---- exponents modulo n
@@ -80,7 +80,7 @@ fallen es ls k e s = timesPower (tableProduct es ls) (tableInverse es ls (at es 
 
 -- the terms are those of v at place j: k places on, their sum is the value of v there
 pub record Walk (es ls v : List ℕ) (n j : ℕ) (e s : List ℕ) (count : ℕ) : Type 0 where
-  pub values : (k : ℕ) → j + k < n → xorTo count (λ l. fallen es ls k (at e l) (at s l)) ≡ lentValue es ls v (locator es n (j + k))
+  pub values : (k : ℕ) → j + k < n → xorTo count (λ l. fallen es ls k (at e l) (at s l)) ≡ tableValue es ls v (locator es n (j + k))
 
 -- the same for the terms of degree below d
 record Part (es ls v : List ℕ) (n j d : ℕ) (t : Terms) : Type 0 where
@@ -88,17 +88,17 @@ record Part (es ls v : List ℕ) (n j d : ℕ) (t : Terms) : Type 0 where
   pub long : (length (t .exponents) ≡ 9) × (length (t .steps) ≡ 9)
   pub inside : (l : ℕ) → l < t .count → (at (t .exponents) l < length es) × (at (t .steps) l < length es)
   pub values : (k : ℕ) → j + k < n → xorTo (t .count) (λ l. fallen es ls k (at (t .exponents) l) (at (t .steps) l)) ≡
-      valueAt (lentOps es ls) (locator es n (j + k)) (λ i. at v (9 - d + i)) d
+      valueAt (tableOps es ls) (locator es n (j + k)) (λ i. at v (9 - d + i)) d
 
 module _ (es ls : List ℕ) (T : Tables es ls) where
   abbrev O : Ops ℕ
-  O = lentOps es ls
+  O = tableOps es ls
 
   K : Laws O (λ a. a < length ls)
-  K = lent-laws es ls T
+  K = table-laws es ls T
 
   P : Powers es ls
-  P = lent-powers es ls T
+  P = table-powers es ls T
 
   -- a quotient, from the product
   divide : {d y z : ℕ} → d < length ls → ¬ (d ≡ 0) → y < length ls → z ≡ tableProduct es ls d y → tableProduct es ls (tableInverse es ls d) z ≡ y
@@ -110,8 +110,8 @@ module _ (es ls : List ℕ) (T : Tables es ls) where
   less-power e d he hd =
       let f = lessModulo (length es) e d in
       let sum : tablePower es e ≡ tablePower es (d + f) = rw (less-sum (length es) e d hd) in
-      rw (lent-power-at es ls T e he, lent-power-at es ls T d hd, lent-power-at es ls T f (less-lt (length es) e d he hd))
-      (divide (P .inside d) (P .nonzero d) (P .inside f) (sum ∙ lent-power-sum es ls T d f))
+      rw (table-power-at es ls T e he, table-power-at es ls T d hd, table-power-at es ls T f (less-lt (length es) e d he hd))
+      (divide (P .inside d) (P .nonzero d) (P .inside f) (sum ∙ table-power-sum es ls T d f))
 
   fallen-next : (k e s : ℕ) → e < length es → s < length es → fallen es ls k (lessModulo (length es) e s) s ≡ fallen es ls (suc k) e s
   unfolding fallen timesPower
@@ -122,7 +122,7 @@ module _ (es ls : List ℕ) (T : Tables es ls) where
   -- a term is nowhere zero
   fallen-not : (k e s : ℕ) → e < length es → s < length es → ¬ (fallen es ls k e s ≡ 0)
   unfolding fallen timesPower
-  fallen-not zero e s he hs z = P .nonzero e (sym (lent-power-at es ls T e he) ∙ z)
+  fallen-not zero e s he hs z = P .nonzero e (sym (table-power-at es ls T e he) ∙ z)
   fallen-not (suc k) e s he hs z = fallen-not k (lessModulo (length es) e s) s (less-lt (length es) e s he hs) hs (fallen-next k e s he hs ∙ z)
 
   module _ (n : ℕ) where
@@ -130,9 +130,9 @@ module _ (es ls : List ℕ) (T : Tables es ls) where
     X = locator es n
 
     module _ (v : List ℕ) (j : ℕ) (e s : List ℕ) (count : ℕ) (W : Walk es ls v n j e s count) where
-      pub walk-value : (r : ℕ) → j < n → r ≡ powersTo es e count → r ≡ lentValue es ls v (X j)
+      pub walk-value : (r : ℕ) → j < n → r ≡ powersTo es e count → r ≡ tableValue es ls v (X j)
       unfolding powersTo fallen timesPower
-      walk-value r h q = let z : j + 0 ≡ j = omega arith in q ∙ W .values 0 (rw z h) ∙ ap (λ (i : ℕ). lentValue es ls v (X i)) z
+      walk-value r h q = let z : j + 0 ≡ j = omega arith in q ∙ W .values 0 (rw z h) ∙ ap (λ (i : ℕ). tableValue es ls v (X i)) z
 
       -- a single term has no root
       pub walk-single : count ≡ 1 → Exponents es count e → Exponents es count s → (k : ℕ) → j ≤ k → k < n → ¬ RootAt es ls v n k
@@ -141,7 +141,7 @@ module _ (es ls : List ℕ) (T : Tables es ls) where
           let q : j + (k - j) ≡ k = omega arith in
           let single : xorTo count (λ l. fallen es ls (k - j) (at e l) (at s l)) ≡ fallen es ls (k - j) (at e 0) (at s 0) = rw one (K .zero-add _) in
           fallen-not (k - j) (at e 0) (at s 0) (E .inside 0 (omega arith)) (S .inside 0 (omega arith))
-          (sym single ∙ W .values (k - j) (omega arith) ∙ ap (λ (i : ℕ). lentValue es ls v (X i)) q ∙ z)
+          (sym single ∙ W .values (k - j) (omega arith) ∙ ap (λ (i : ℕ). tableValue es ls v (X i)) q ∙ z)
 
       pub walk-next : Exponents es count e → Exponents es count s → Walk es ls v n (j + 1) (lowered (length es) e s count) s count
       walk-next E S =
@@ -149,7 +149,7 @@ module _ (es ls : List ℕ) (T : Tables es ls) where
             values = λ k h.
                 let a : j + suc k ≡ j + 1 + k = omega arith in
                 xorTo-same count _ _ (λ l c. rw (lowered-at (length es) e s count l (E .long) c) (fallen-next k (at e l) (at s l) (E .inside l c) (S .inside l c)))
-                ∙ W .values (suc k) (rw a h) ∙ ap (λ (i : ℕ). lentValue es ls v (X i)) a;
+                ∙ W .values (suc k) (rw a h) ∙ ap (λ (i : ℕ). tableValue es ls v (X i)) a;
           }
 
     -- the term of degree d with the coefficient c, at x
@@ -234,10 +234,10 @@ module _ (es ls : List ℕ) (T : Tables es ls) where
             more = addTerm (at ls value) (at ls power) t
 
             by-value : (at ls value < length es) × (at es (at ls value) ≡ value)
-            by-value = lent-exponent es ls T value nz (K .in-mul _ _)
+            by-value = table-exponent es ls T value nz (K .in-mul _ _)
 
             by-power : (at ls power < length es) × (at es (at ls power) ≡ power)
-            by-power = lent-exponent es ls T power (P .nonzero d) (P .inside d)
+            by-power = table-exponent es ls T power (P .nonzero d) (P .inside d)
 
             here : (at (more .exponents) count ≡ at ls value) × (at (more .steps) count ≡ at ls power)
             here = (getD-set-same (t .exponents) count _ 0 (omega (arith, S .few, S .long .0)), getD-set-same (t .steps) count _ 0 (omega (arith, S .few, S .long .1)))
@@ -278,24 +278,24 @@ module _ (es ls : List ℕ) (T : Tables es ls) where
 
         pub walk-start : Walk es ls v n j (t .exponents) (t .steps) (t .count)
         walk-start =
-            record { values = λ k h. whole .values k h ∙ value-same O K (X (j + k)) _ _ 9 (λ i l. ap (at v) (zero-add i)) ∙ sym (lentValue-is es ls v (X (j + k)) 9 nine) }
+            record { values = λ k h. whole .values k h ∙ value-same O K (X (j + k)) _ _ 9 (λ i l. ap (at v) (zero-add i)) ∙ sym (tableValue-is es ls v (X (j + k)) 9 nine) }
 
     -- ---- the quotient
 
     module _ (v : List ℕ) (elements : (k : ℕ) → at v k < length ls) (nine : length v ≡ 9) where
-      quotient-value : (r x : ℕ) → lentValue es ls (quotientOf es ls v r) x ≡ valueAt O x (valueAt O r (at v)) 9
+      quotient-value : (r x : ℕ) → tableValue es ls (quotientOf es ls v r) x ≡ valueAt O x (valueAt O r (at v)) 9
       unfolding quotientOf
       quotient-value r x =
-          lentValue-is es ls _ x 9 (tabulate-length 9 _) ∙ value-same O K x _ _ 9 (λ k l. tabulate-at 9 _ k 0 l ∙ lent-value es ls r (at v) k)
+          tableValue-is es ls _ x 9 (tabulate-length 9 _) ∙ value-same O K x _ _ 9 (λ k l. tabulate-at 9 _ k 0 l ∙ table-value es ls r (at v) k)
 
       pub quotient-in : (r k : ℕ) → at (quotientOf es ls v r) k < length ls
       unfolding quotientOf
-      quotient-in r k = tabulate-lt (length ls) 9 _ (K .in-zero) (λ i. rw (lent-value es ls r (at v) i) (value-in O K r (at v) elements i)) k
+      quotient-in r k = tabulate-lt (length ls) 9 _ (K .in-zero) (λ i. rw (table-value es ls r (at v) i) (value-in O K r (at v) elements i)) k
 
       -- after a place whose locator is a root the quotient has the same roots
       module _ (fits : n ≤ length es) (i : ℕ) (root : RootAt es ls v n i) (k : ℕ) (later : i < k) (h : k < n) where
         here : valueAt O (X i) (at v) 9 ≡ 0
-        here = sym (lentValue-is es ls v (X i) 9 nine) ∙ root
+        here = sym (tableValue-is es ls v (X i) 9 nine) ∙ root
 
         other : ¬ (X k ≡ X i)
         other q = locators-distinct es ls T n fits i k later h (sym q)
@@ -303,9 +303,9 @@ module _ (es ls : List ℕ) (T : Tables es ls) where
         pub root-stays : RootAt es ls v n k → RootAt es ls (quotientOf es ls v (X i)) n k
         root-stays z =
             quotient-value (X i) (X k)
-            ∙ quotient-root O K (X i) (X k) (locator-in es ls T n i) (locator-in es ls T n k) other (at v) elements 9 here (sym (lentValue-is es ls v (X k) 9 nine) ∙ z)
+            ∙ quotient-root O K (X i) (X k) (locator-in es ls T n i) (locator-in es ls T n k) other (at v) elements 9 here (sym (tableValue-is es ls v (X k) 9 nine) ∙ z)
 
         pub root-was : RootAt es ls (quotientOf es ls v (X i)) n k → RootAt es ls v n k
         root-was z =
-            lentValue-is es ls v (X k) 9 nine
+            tableValue-is es ls v (X k) 9 nine
             ∙ root-quotient O K (X i) (X k) (locator-in es ls T n i) (locator-in es ls T n k) other (at v) elements 9 here (sym (quotient-value (X i) (X k)) ∙ z)

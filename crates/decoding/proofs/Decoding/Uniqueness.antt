@@ -17,18 +17,18 @@ use Rattle.decoding.proofs.Algebra.Field.{Ops, Laws, upto, eq-of-add}
 use Rattle.decoding.proofs.Algebra.Support.{support, support-count}
 use Rattle.decoding.proofs.Algebra.Distance.{distance}
 use Rattle.decoding.proofs.Algebra.Elements.{isZero}
-use Rattle.decoding.proofs.Algebra.Tables.{lentOps, Powers, lent-laws, lent-powers, lent-value}
+use Rattle.decoding.proofs.Algebra.Tables.{tableOps, Powers, table-laws, table-powers, table-value}
 use Rattle.decoding.proofs.Decoding.Changes.{value-syndrome}
 
 module _ (es ls : List ℕ) (T : Tables es ls) where
   abbrev O : Ops ℕ
-  O = lentOps es ls
+  O = tableOps es ls
 
   K : Laws O (λ a. a < length ls)
-  K = lent-laws es ls T
+  K = table-laws es ls T
 
   P : Powers es ls
-  P = lent-powers es ls T
+  P = table-powers es ls T
 
   pub errors-in : (places values : List ℕ) → ((l : ℕ) → at values l < length ls) → (k i : ℕ) → errorAt places values k i < length ls
   unfolding errorAt xorTo
@@ -59,5 +59,5 @@ module _ (es ls : List ℕ) (T : Tables es ls) where
         (i : ℕ) → i < n → u i ≡ w i
     errors-unique same few-u few-w =
         distance O K isZero (tablePower es 1) (tablePower es) (P .first) (P .next) (P .nonzero) n (λ i j h l. P .distinct i j h (omega arith)) 0 16 u w in-u in-w
-        (λ j h. rw zero-add (sym (lent-value es ls _ u n) ∙ value-syndrome es ls n T u in-u j ∙ same j h ∙ sym (value-syndrome es ls n T w in-w j) ∙ lent-value es ls _ w n))
+        (λ j h. rw zero-add (sym (table-value es ls _ u n) ∙ value-syndrome es ls n T u in-u j ∙ same j h ∙ sym (value-syndrome es ls n T w in-w j) ∙ table-value es ls _ w n))
         (few-differ few-u few-w)

@@ -15,18 +15,18 @@ use Rattle.decoding.specs.ErrorValues.{filtered, filteredBy, filterFacto
 use Rattle.decoding.proofs.Algebra.Field as F
 use Rattle.decoding.proofs.Algebra.Field.{Ops, Laws, All, all-map, cancel, eq-of-add, mul-left, undo}
 use Rattle.decoding.proofs.Algebra.PowerSums.{sum, powerSum, sum-zero, powerSum-filter}
-use Rattle.decoding.proofs.Algebra.Tables.{lentOps, lent-laws, powerSum-terms}
+use Rattle.decoding.proofs.Algebra.Tables.{tableOps, table-laws, powerSum-terms}
 use Rattle.decoding.proofs.Decoding.RootPlaces.{locator-in}
 
 module _ (es ls : List ℕ) (T : Tables es ls) (n : ℕ) where
   abbrev O : Ops ℕ
-  O = lentOps es ls
+  O = tableOps es ls
 
   abbrev X : ℕ → ℕ
   X = locator es n
 
   K : Laws O (λ a. a < length ls)
-  K = lent-laws es ls T
+  K = table-laws es ls T
 
   module _ (places : List ℕ) where
     abbrev factor : ℕ → ℕ → ℕ

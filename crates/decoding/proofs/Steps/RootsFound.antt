@@ -17,7 +17,7 @@ use Rattle.fields.specs.Places.{at, horner}
 use Rattle.fields.proofs.Lists.{tabulate-length}
 use Rattle.fields.proofs.Places.Filling.{Filled, filled-end}
 use Rattle.decoding.specs.declared.root_search.Places.{Places}
-use Rattle.decoding.specs.ByTables.{lentValue}
+use Rattle.decoding.specs.ByTables.{tableValue}
 use Rattle.decoding.specs.Decoder.{Tables, locator}
 use Rattle.decoding.specs.RootSearch.{rootPlaces, backwards, kept, Roots, RootAt, FirstRoot, quotientOf}
 use Rattle.decoding.proofs.Decoding.Search.{quotient-in, root-stays, root-was}
@@ -132,12 +132,12 @@ module _ (es ls v : List ℕ) (n i : ℕ) (p : Places) (so-far : Roots es ls v n
       go (yes room) = rw (← kept-new i p room) (grows long room (rw (eq-eqb _ 0 z)))
       go (no full) =
           rw (← kept-full i p (omega arith)) (stays (λ h. absurd (
-          let b : suc (length (rootPlaces es ls v n i)) ≤ 8 = rw (eq-eqb (lentValue es ls v (locator es n i)) 0 z) at h in
+          let b : suc (length (rootPlaces es ls v n i)) ≤ 8 = rw (eq-eqb (tableValue es ls v (locator es n i)) 0 z) at h in
           omega (arith, backwards-length (p .at) (p .count), ap length (so-far .all (omega arith))))))
 
   pub roots-other : ¬ RootAt es ls v n i → Roots es ls v n (suc i) (p .at) (p .count)
   unfolding rootPlaces
-  roots-other z = stays (λ h. rw (ne-eqb (lentValue es ls v (locator es n i)) 0 z))
+  roots-other z = stays (λ h. rw (ne-eqb (tableValue es ls v (locator es n i)) 0 z))
 
 -- places that are no roots are passed
 roots-pass : (es ls v : List ℕ) (n i : ℕ) (p : Places) → Roots es ls v n i (p .at) (p .count) → (d : ℕ) →

@@ -13,7 +13,7 @@ use Rattle.fields.proofs.Instances.{field-a}
 use Rattle.fields.proofs.Places.Tests.{below-at}
 use Rattle.words.specs.OuterCode.{powerA, outerValue, divided, outerParity}
 use Rattle.words.specs.OuterCode as Outer
-use Rattle.words.proofs.Codes.Lent.{divided-lt}
+use Rattle.words.proofs.Codes.TableValues.{divided-lt}
 use Rattle.words.proofs.Codes.Division.{divided-length}
 use Rattle.words.proofs.Codes.OuterWords.{generator-lt}
 use Rattle.document03.proofs.Fields.{xor, timesA, powA, timesA-agrees, powA-agrees}

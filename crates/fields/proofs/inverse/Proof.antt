@@ -1,18 +1,18 @@
 -- `fields::inverse` meets its contract. Assumes nothing.
 use borrow.Author.Needs.{needs}
 use Rattle.fields.proofs.Ways.{inverse-none, inverse-of-zero, inverse-some}
-use Rattle.fields.proofs.ByTables.{inverse-lent}
+use Rattle.fields.proofs.ByTables.{inverse-by-tables}
 use Rattle.fields.proofs.inverse.Statement.{statement}
 use Rattle.fields.proofs.inverse.Tie as tie
 
 returns : tie.Need-returns
-returns c = search (needs, inverse-none, inverse-lent)
+returns c = search (needs, inverse-none, inverse-by-tables)
 
 place-requires : tie.Need-place-requires
 place-requires c κs = search needs
 
 returns-2 : tie.Need-returns-2
-returns-2 c = search (needs, inverse-of-zero, inverse-lent)
+returns-2 c = search (needs, inverse-of-zero, inverse-by-tables)
 
 entry-requires : tie.Need-entry-requires
 entry-requires c κs = search needs
@@ -24,7 +24,7 @@ power-near-requires : tie.Need-power-near-requires
 power-near-requires c κs = search needs
 
 returns-3 : tie.Need-returns-3
-returns-3 c = search (needs, inverse-some, inverse-lent)
+returns-3 c = search (needs, inverse-some, inverse-by-tables)
 
 pub inverse-spec : {M : Type 1} → statement M
 inverse-spec =

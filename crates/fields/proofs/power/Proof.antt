@@ -1,12 +1,12 @@
 -- `fields::power` meets its contract. Assumes nothing.
 use borrow.Author.Needs.{needs}
 use Rattle.fields.proofs.Ways.{power-none, power-read}
-use Rattle.fields.proofs.ByTables.{power-lent}
+use Rattle.fields.proofs.ByTables.{power-by-tables}
 use Rattle.fields.proofs.power.Statement.{statement}
 use Rattle.fields.proofs.power.Tie as tie
 
 returns : tie.Need-returns
-returns c = search (needs, power-none, power-lent)
+returns c = search (needs, power-none, power-by-tables)
 
 wide-requires : tie.Need-wide-requires
 wide-requires c κs = search needs
@@ -21,7 +21,7 @@ shared-slice-read-result : tie.Need-shared-slice-read-result
 shared-slice-read-result c = search needs
 
 returns-2 : tie.Need-returns-2
-returns-2 c = search (needs, power-read, power-lent)
+returns-2 c = search (needs, power-read, power-by-tables)
 
 pub power-spec : {M : Type 1} → statement M
 power-spec =

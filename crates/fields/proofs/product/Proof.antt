@@ -1,24 +1,24 @@
 -- `fields::product` meets its contract. Assumes nothing.
 use borrow.Author.Needs.{needs}
 use Rattle.fields.proofs.Ways.{product-none, product-left, product-right, product-both}
-use Rattle.fields.proofs.ByTables.{product-lent}
+use Rattle.fields.proofs.ByTables.{product-by-tables}
 use Rattle.fields.proofs.product.Statement.{statement}
 use Rattle.fields.proofs.product.Tie as tie
 
 returns : tie.Need-returns
-returns c = search (needs, product-none, product-lent)
+returns c = search (needs, product-none, product-by-tables)
 
 place-requires : tie.Need-place-requires
 place-requires c κs = search needs
 
 returns-2 : tie.Need-returns-2
-returns-2 c = search (needs, product-left, product-lent)
+returns-2 c = search (needs, product-left, product-by-tables)
 
 place-requires-2 : tie.Need-place-requires-2
 place-requires-2 c κs = search needs
 
 returns-3 : tie.Need-returns-3
-returns-3 c = search (needs, product-right, product-lent)
+returns-3 c = search (needs, product-right, product-by-tables)
 
 entry-requires : tie.Need-entry-requires
 entry-requires c κs = search needs
@@ -33,7 +33,7 @@ power-near-requires : tie.Need-power-near-requires
 power-near-requires c κs = search needs
 
 returns-4 : tie.Need-returns-4
-returns-4 c = search (needs, product-both, product-lent)
+returns-4 c = search (needs, product-both, product-by-tables)
 
 pub product-spec : {M : Type 1} → statement M
 product-spec =

@@ -14,7 +14,7 @@ use Rattle.fields.proofs.Xor.{xor-zero-r, xor-comm, xor-assoc, xor-self, xor-ca
 use Rattle.decoding.proofs.Algebra.Values.{value-lt}
 use Rattle.words.specs.OuterCode.{shiftedIn, divided}
 use Rattle.words.proofs.Codes.Horner.{Additive, iter, iter-sum, iter-in, horner-same, horner-sum, horner-front, horner-append, horner-zero, horner-zeros}
-use Rattle.words.proofs.Codes.Lent.{divided-lt}
+use Rattle.words.proofs.Codes.TableValues.{divided-lt}
 
 pub divided-length : (mul : ℕ → ℕ → ℕ) (n : ℕ) (g d : ℕ → ℕ) (k : ℕ) → length (divided mul n g d k) ≡ n
 unfolding divided shiftedIn

@@ -18,11 +18,11 @@ use Rattle.fields.proofs.Lists.{tabulate-at, tabulate-length, tabulate-lt, tabu
 use Rattle.fields.proofs.Xor.{xor-zero-r, xor-self, xor-cancel}
 use Rattle.fields.proofs.Places.Tests.{every-at, every-true, below-at, below-all, below-append, below-take}
 use Rattle.fields.proofs.Places.Counting.{apart-append}
-use Rattle.decoding.specs.ByTables.{lentValue, rootValue, rootValues}
+use Rattle.decoding.specs.ByTables.{tableValue, rootValue, rootValues}
 use Rattle.decoding.proofs.Algebra.MinimumDistance.{far-lists}
 use Rattle.words.specs.OuterCode.{powerA, outerValue, isOuter, withRoot, withRoots, generator, outerParity}
 use Rattle.words.specs.Division.{outerRemainder}
-use Rattle.words.proofs.Codes.Lent.{value-lent, divided-lt}
+use Rattle.words.proofs.Codes.TableValues.{value-by-tables, divided-lt}
 use Rattle.words.proofs.Codes.Division.{divided-length, register-value, completed-value}
 use Rattle.words.proofs.Codes.Horner.{Additive, iter, horner-same, horner-sum, horner-parts}
 
@@ -40,8 +40,8 @@ outer-is w h =
 pub root-is : (w : List ℕ) → allBelow 1024 w ≡ true → (j : ℕ) → rootValue powersA exponentsA w j ≡ outerValue w j
 unfolding rootValue outerValue
 root-is w h j =
-    ap (lentValue powersA exponentsA w) (table-power 10 1033 field-a j)
-    ∙ value-lent 10 1033 field-a (powerA j) (field-a .power-lt j) w (below-at 1024 w (lit< tt) h)
+    ap (tableValue powersA exponentsA w) (table-power 10 1033 field-a j)
+    ∙ value-by-tables 10 1033 field-a (powerA j) (field-a .power-lt j) w (below-at 1024 w (lit< tt) h)
 
 -- code words of one length that differ in at most 16 symbols are the same: sixteen roots from a^0 on
 pub outer-far : (c d : List ℕ) → isOuter c ≡ true → isOuter d ≡ true → length c ≡ length d → length c ≤ 1023 → apart c d ≤ 16 → c ≡ d

@@ -21,7 +21,7 @@ use Rattle.fields.proofs.Places.Tests.{below-at}
 use Rattle.words.specs.OuterCode.{generator, shiftedIn, divided}
 use Rattle.words.specs.SixSymbols.{joined, joinedFrom, symbolOf, six, Packs, numberAt, unpacked, sixParity, parityEntry, parities}
 use Rattle.words.proofs.Codes.Horner.{Additive, horner-same, horner-sum, horner-zero}
-use Rattle.words.proofs.Codes.Lent.{divided-lt}
+use Rattle.words.proofs.Codes.TableValues.{divided-lt}
 use Rattle.words.proofs.Codes.Division.{divided-length}
 use Rattle.words.proofs.Codes.OuterWords.{generator-lt}
 

@@ -21,14 +21,14 @@ use Rattle.decoding.specs.Decoder.{Tables, locator, xorTo, syndrome}
 use Rattle.decoding.proofs.Algebra.Field.{mul-comm, mul-add, mul-zero}
 use Rattle.decoding.proofs.Algebra.PowerSums.{powerSum}
 use Rattle.decoding.proofs.Algebra.Values.{value-lt}
-use Rattle.decoding.proofs.Algebra.Tables.{lentOps, lent-laws, lent-powers, exponents-length, syndrome-is, xorTo-same, tables-b}
+use Rattle.decoding.proofs.Algebra.Tables.{tableOps, table-laws, table-powers, exponents-length, syndrome-is, xorTo-same, tables-b}
 use Rattle.decoding.proofs.Decoding.Changes.{value-syndrome}
 use Rattle.words.specs.Bits.{bitOf}
 use Rattle.words.specs.InnerCode.{powerB, divisor, remainder}
 use Rattle.words.specs.InnerDecoding.{powersValue, oddValues, Syndromes, isBit}
 use Rattle.words.proofs.Bits.Numbers.{bitOf-lt}
 use Rattle.words.proofs.Codes.Horner.{Additive, iter, iter-sum, horner-front}
-use Rattle.words.proofs.Codes.Lent.{product-same, horner-lent}
+use Rattle.words.proofs.Codes.TableValues.{product-same, horner-by-tables}
 use Rattle.words.proofs.Codes.Squares.{squares}
 use Rattle.words.proofs.Codes.InnerWords.{by-doubling}
 use Rattle.words.proofs.Codes.InnerRoots.{remainder-bits}
@@ -36,10 +36,10 @@ use Rattle.words.proofs.Codes.InnerRoots.{remainder-bits}
 -- bits times locators
 module _ (es ls : List ℕ) (T : Tables es ls) where
   pub times-none : (x : ℕ) → tableProduct es ls x 0 ≡ 0
-  times-none = mul-zero (lentOps es ls) (lent-laws es ls T)
+  times-none = mul-zero (tableOps es ls) (table-laws es ls T)
 
   times-one : (x : ℕ) → x < length ls → tableProduct es ls x 1 ≡ x
-  times-one x h = mul-comm (lentOps es ls) (lent-laws es ls T) x 1 ∙ lent-laws es ls T .one-mul x h
+  times-one x h = mul-comm (tableOps es ls) (table-laws es ls T) x 1 ∙ table-laws es ls T .one-mul x h
 
   pub times-bit : (x d : ℕ) → x < length ls → d < 2 → isBit (tableProduct es ls x d) x ≡ true
   unfolding isBit
@@ -76,36 +76,36 @@ log-length = exponents-length 11 2053 field-b
 -- the locator of a place, and its product by what stands there
 pub locator-lt : (i : ℕ) → locator powersB 2040 i < length exponentsB
 unfolding locator
-locator-lt i = lent-powers powersB exponentsB tables-b .inside _
+locator-lt i = table-powers powersB exponentsB tables-b .inside _
 
 pub locator-not : (i : ℕ) → locator powersB 2040 i ≡ 0 → ⊥
 unfolding locator
-locator-not i = lent-powers powersB exponentsB tables-b .nonzero _
+locator-not i = table-powers powersB exponentsB tables-b .nonzero _
 
 unfoldable pub located : (ℕ → ℕ) → ℕ → ℕ
 located b i = tableProduct powersB exponentsB (locator powersB 2040 i) (b i)
 
 pub located-lt : (b : ℕ → ℕ) (i : ℕ) → located b i < length exponentsB
 unfolding located
-located-lt b i = lent-laws powersB exponentsB tables-b .in-mul _ _
+located-lt b i = table-laws powersB exponentsB tables-b .in-mul _ _
 
 pub located-add : (b c : ℕ → ℕ) (i : ℕ) → located (λ i. xor (b i) (c i)) i ≡ xor (located b i) (located c i)
 unfolding located
-located-add b c i = mul-add (lentOps powersB exponentsB) (lent-laws powersB exponentsB tables-b) _ (b i) (c i)
+located-add b c i = mul-add (tableOps powersB exponentsB) (table-laws powersB exponentsB tables-b) _ (b i) (c i)
 
 pub located-same : (b c : ℕ → ℕ) (i : ℕ) → b i ≡ c i → located b i ≡ located c i
 unfolding located
 located-same b c i e = ap (tableProduct powersB exponentsB (locator powersB 2040 i)) e
 
-lent-value-b : (e : ℕ) (b : ℕ → ℕ) → ((i : ℕ) → b i < 2) → (n : ℕ) → horner (λ v. tableProduct powersB exponentsB v (tablePower powersB e)) b n ≡ value 11 2053 (powerB e) b n
-lent-value-b e b bits n =
-    rw (table-power 11 2053 field-b e) (horner-lent 11 2053 field-b (powerB e) (field-b .power-lt e) b (λ i. omega (arith, bits i)) n)
+table-value-b : (e : ℕ) (b : ℕ → ℕ) → ((i : ℕ) → b i < 2) → (n : ℕ) → horner (λ v. tableProduct powersB exponentsB v (tablePower powersB e)) b n ≡ value 11 2053 (powerB e) b n
+table-value-b e b bits n =
+    rw (table-power 11 2053 field-b e) (horner-by-tables 11 2053 field-b (powerB e) (field-b .power-lt e) b (λ i. omega (arith, bits i)) n)
 
 -- the value of a binary word at a^(j+1) is the j-th syndrome of its places times their locators
 pub value-located : (b : ℕ → ℕ) → ((i : ℕ) → b i < 2) → (j : ℕ) → value 11 2053 (powerB (suc j)) b 2040 ≡ syndrome powersB exponentsB 2040 (located b) j
 unfolding located
 value-located b bits j =
-    sym (lent-value-b (suc j) b bits 2040)
+    sym (table-value-b (suc j) b bits 2040)
     ∙ value-syndrome powersB exponentsB 2040 tables-b b (λ i. rw log-length (omega (arith, bits i))) (suc j) ∙ syndrome-next powersB exponentsB tables-b 2040 b j
 
 -- the value of a binary word at a^e: the sum of a^(e i) over its symbols that are 1, the last of them with i = 0

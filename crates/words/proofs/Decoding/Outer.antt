@@ -11,11 +11,11 @@ use lib.Dec.{lit<}
 use lib.ListN.{length}
 use Rattle.fields.specs.Elements.{xor, powersA, exponentsA}
 use Rattle.fields.specs.Places.{at, allBelow, apart}
-use Rattle.fields.proofs.Instances.{field-a, lent-a}
+use Rattle.fields.proofs.Instances.{field-a, field-tables-a}
 use Rattle.fields.proofs.Lists.{tabulate-at}
 use Rattle.fields.proofs.Xor.{xor-lt, xor-self, xor-zero-r}
 use Rattle.fields.proofs.Places.Tests.{every-true, below-at, below-all}
-use Rattle.decoding.specs.ByTables.{lentValue, rootValue, rootValues}
+use Rattle.decoding.specs.ByTables.{tableValue, rootValue, rootValues}
 use Rattle.decoding.specs.Decoder.{Tables, syndrome, errorAt, Decoded, weightOf, withErrors}
 use Rattle.decoding.proofs.Algebra.Tables.{exponents-length}
 use Rattle.decoding.proofs.Decoding.Changes.{sum-weight, error-lt, weight-most, errors-length, errors-at, apart-errors, syndrome-same, syndrome-add, value-syndrome, none-left, few-leave-none}
@@ -26,7 +26,7 @@ use Rattle.words.proofs.Codes.Nearest.{nearest-lost}
 use Rattle.words.proofs.Codes.Proved.{codes}
 
 pub tables-a : Tables powersA exponentsA
-tables-a = (10, 1033, lent-a)
+tables-a = (10, 1033, field-tables-a)
 
 log-length : length exponentsA ≡ 1024
 log-length = exponents-length 10 1033 field-a
@@ -36,7 +36,7 @@ syndromeA = syndrome powersA exponentsA
 
 -- a word's values at the roots are its syndromes
 value-is : (w : List ℕ) → allBelow 1024 w ≡ true → (j : ℕ) → outerValue w j ≡ syndromeA (length w) (at w) j
-unfolding rootValue lentValue
+unfolding rootValue tableValue
 value-is w h j =
     sym (root-is w h j) ∙ value-syndrome powersA exponentsA (length w) tables-a (at w) (λ i. rw log-length (below-at 1024 w (lit< tt) h i)) j
 

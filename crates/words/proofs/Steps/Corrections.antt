@@ -76,8 +76,8 @@ module _ (w places values out : List ℕ) where
 
 -- ---- outer words
 
-pub tables-lent : (es ls : List ℕ) → es ≡ powersA → ls ≡ exponentsA → Tables es ls
-tables-lent es ls exp log = rw (exp, log) tables-a
+pub tables-given : (es ls : List ℕ) → es ≡ powersA → ls ≡ exponentsA → Tables es ls
+tables-given es ls exp log = rw (exp, log) tables-a
 
 module _ (w o : List ℕ) (r : ℕ) (told : r ≡ refusal (within 17 1023 (length w)) (eqb (length o) (length w)) (allBelow 1024 w)) where
   pub correct-outer-refused : (r ≡ 0 → ⊥) → _≡_ {A = Correction × List ℕ} (Refused r, o) (outerCorrected w o)

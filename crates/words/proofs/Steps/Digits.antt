@@ -15,7 +15,7 @@ use Rattle.fields.proofs.Xor.{xor-comm, xor-shifted}
 use Rattle.fields.proofs.Places.Filling.{Filled, filled-next, filled-end}
 use Rattle.words.specs.OuterCode.{generator}
 use Rattle.words.specs.Division.{multiples}
-use Rattle.words.proofs.Codes.Lent.{product-same}
+use Rattle.words.proofs.Codes.TableValues.{product-same}
 use Rattle.words.proofs.Codes.OuterWords.{generator-lt}
 
 -- entry n of the table

@@ -163,8 +163,8 @@ binary-end es places values n k so-far l h = let e : k ≡ n = omega arith in sy
 
 -- the errors of a word
 module _ (es ls : List ℕ) (exp : es ≡ powersB) (log : ls ≡ exponentsB) where
-  pub tables-lent : Tables es ls
-  tables-lent = rw (exp, log) tables-b
+  pub tables-given : Tables es ls
+  tables-given = rw (exp, log) tables-b
 
   -- the field has locators for all places of a word
   pub places-fit : (n : ℕ) → n ≤ 2047 → n ≤ length es

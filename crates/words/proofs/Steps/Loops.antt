@@ -15,9 +15,9 @@ use Rattle.fields.specs.Places.{at, allBelow, horner}
 use Rattle.fields.proofs.Instances.{field-a}
 use Rattle.fields.proofs.Places.Tests.{below-at}
 use Rattle.fields.proofs.Places.Filling.{Filled, filled-next, filled-end}
-use Rattle.decoding.specs.ByTables.{lentValue, rootValue, rootValues}
+use Rattle.decoding.specs.ByTables.{tableValue, rootValue, rootValues}
 use Rattle.words.specs.OuterCode.{generator, shiftedIn, divided, outerParity}
-use Rattle.words.proofs.Codes.Lent.{divided-lt}
+use Rattle.words.proofs.Codes.TableValues.{divided-lt}
 use Rattle.words.proofs.Codes.OuterWords.{generator-lt}
 
 -- the value of the first i symbols, by Horner's rule over a lent field
@@ -34,12 +34,12 @@ module _ (es ls w : List ℕ) (x : ℕ) where
     unfolding valueUpTo horner
     value-next m r em er = rw (add-one, ← so-far, ← em) er
 
-    pub value-end : i ≤ length w → length w ≤ i → v ≡ lentValue es ls w x
-    unfolding valueUpTo lentValue
+    pub value-end : i ≤ length w → length w ≤ i → v ≡ tableValue es ls w x
+    unfolding valueUpTo tableValue
     value-end l h = let e : i ≡ length w = omega arith in rw e at so-far
 
 module _ (es ls w values : List ℕ) (j : ℕ) (so-far : Filled 16 (rootValue es ls w) j values) where
-  pub root-next : (x r : ℕ) → j < 16 → x ≡ tablePower es (0 + j) → r ≡ lentValue es ls w x → Filled 16 (rootValue es ls w) (j + 1) (set values j r)
+  pub root-next : (x r : ℕ) → j < 16 → x ≡ tablePower es (0 + j) → r ≡ tableValue es ls w x → Filled 16 (rootValue es ls w) (j + 1) (set values j r)
   unfolding rootValue
   root-next x r l ex er = filled-next so-far l (rw (ex, zero-add) at er)
 

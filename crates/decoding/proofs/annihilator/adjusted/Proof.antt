@@ -1,6 +1,6 @@
 -- `decoding::annihilator::adjusted` meets its contract. Assumes nothing.
 use borrow.Author.Needs.{needs}
-use Rattle.decoding.proofs.Steps.Massey.{adjusted-same, adjusted-new}
+use Rattle.decoding.proofs.Steps.BerlekampMassey.{adjusted-same, adjusted-new}
 use Rattle.decoding.proofs.annihilator.adjusted.Statement.{statement}
 use Rattle.decoding.proofs.annihilator.adjusted.Tie as tie
 

@@ -1,7 +1,7 @@
 -- `decoding::annihilator::annihilates` meets its contract. Assumes nothing.
 use Prim.Native.Nat.{_-_}
 use borrow.Author.Needs.{needs}
-use Rattle.decoding.proofs.Steps.Massey.{Tested, tested-not, tested-none, tested-next, tested-end}
+use Rattle.decoding.proofs.Steps.BerlekampMassey.{Tested, tested-not, tested-none, tested-next, tested-end}
 use Rattle.decoding.proofs.annihilator.annihilates.Statement.{statement}
 use Rattle.decoding.proofs.annihilator.annihilates.Tie as tie
 

@@ -1,6 +1,6 @@
 -- `decoding::annihilator::annihilator` meets its contract. Assumes nothing.
 use borrow.Author.Needs.{needs}
-use Rattle.decoding.proofs.Steps.Massey.{reversed-elements}
+use Rattle.decoding.proofs.Steps.BerlekampMassey.{reversed-elements}
 use Rattle.decoding.proofs.annihilator.annihilator.Statement.{statement}
 use Rattle.decoding.proofs.annihilator.annihilator.Tie as tie
 

@@ -1,6 +1,6 @@
 -- `decoding::annihilator::cleared` meets its contract. Assumes nothing.
 use borrow.Author.Needs.{needs}
-use Rattle.decoding.proofs.Steps.Rows.{cleared-is, cleared-same}
+use Rattle.decoding.proofs.Steps.Elimination.{cleared-is, cleared-same}
 use Rattle.decoding.proofs.annihilator.cleared.Statement.{statement}
 use Rattle.decoding.proofs.annihilator.cleared.Tie as tie
 

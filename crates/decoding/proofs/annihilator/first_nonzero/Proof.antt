@@ -1,7 +1,7 @@
 -- `decoding::annihilator::first_nonzero` meets its contract. Assumes nothing.
 use Prim.Native.Nat.{_-_}
 use borrow.Author.Needs.{needs}
-use Rattle.decoding.proofs.Steps.Rows.{ZeroBelow, zero-none, zero-next, first-here, first-none}
+use Rattle.decoding.proofs.Steps.Elimination.{ZeroBelow, zero-none, zero-next, first-here, first-none}
 use Rattle.decoding.proofs.annihilator.first_nonzero.Statement.{statement}
 use Rattle.decoding.proofs.annihilator.first_nonzero.Tie as tie
 

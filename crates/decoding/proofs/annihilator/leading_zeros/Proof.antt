@@ -1,7 +1,7 @@
 -- `decoding::annihilator::leading_zeros` meets its contract. Assumes nothing.
 use Prim.Native.Nat.{_-_}
 use borrow.Author.Needs.{needs}
-use Rattle.decoding.proofs.Steps.Rows.{ZeroBelow, zero-none, zero-next, zero-end}
+use Rattle.decoding.proofs.Steps.Elimination.{ZeroBelow, zero-none, zero-next, zero-end}
 use Rattle.decoding.proofs.annihilator.leading_zeros.Statement.{statement}
 use Rattle.decoding.proofs.annihilator.leading_zeros.Tie as tie
 

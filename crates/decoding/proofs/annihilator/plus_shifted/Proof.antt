@@ -4,7 +4,7 @@ use Prim.Native.Nat.{_-_, _≤_}
 use lib.ListN.{length}
 use borrow.Author.Needs.{needs}
 use Rattle.decoding.specs.Annihilator.{plusShifted}
-use Rattle.decoding.proofs.Steps.Massey.{shifted-none, shifted-next, shifted-end}
+use Rattle.decoding.proofs.Steps.BerlekampMassey.{shifted-none, shifted-next, shifted-end}
 use Rattle.decoding.proofs.annihilator.plus_shifted.Statement.{statement}
 use Rattle.decoding.proofs.annihilator.plus_shifted.Tie as tie
 

@@ -1,7 +1,7 @@
 -- `decoding::annihilator::power_row` meets its contract. Assumes nothing.
 use Prim.Native.Nat.{_-_}
 use borrow.Author.Needs.{needs}
-use Rattle.decoding.proofs.Steps.Rows.{PowerRow, power-start, power-next, power-end}
+use Rattle.decoding.proofs.Steps.Elimination.{PowerRow, power-start, power-next, power-end}
 use Rattle.decoding.proofs.annihilator.power_row.Statement.{statement}
 use Rattle.decoding.proofs.annihilator.power_row.Tie as tie
 

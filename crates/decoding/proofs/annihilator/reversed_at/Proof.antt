@@ -1,6 +1,6 @@
 -- `decoding::annihilator::reversed_at` meets its contract. Assumes nothing.
 use borrow.Author.Needs.{needs}
-use Rattle.decoding.proofs.Steps.Massey.{reversed-zero, reversed-other}
+use Rattle.decoding.proofs.Steps.BerlekampMassey.{reversed-zero, reversed-other}
 use Rattle.decoding.proofs.annihilator.reversed_at.Statement.{statement}
 use Rattle.decoding.proofs.annihilator.reversed_at.Tie as tie
 

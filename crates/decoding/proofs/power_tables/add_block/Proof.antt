@@ -1,6 +1,6 @@
 -- `decoding::power_tables::add_block` meets its contract. Assumes nothing.
 use borrow.Author.Needs.{needs}
-use Rattle.decoding.proofs.Steps.RowSearch.{sums-stored}
+use Rattle.decoding.proofs.Steps.PowerTables.{sums-stored}
 use Rattle.decoding.proofs.power_tables.add_block.Statement.{statement}
 use Rattle.decoding.proofs.power_tables.add_block.Tie as tie
 

@@ -3,15 +3,15 @@ use Prim.Native.Nat.{_-_}
 use native.Mathlib.Omega.{arith}
 use borrow.Author.Needs.{needs}
 use Rattle.decoding.specs.PowerTables.{eightAt}
-use Rattle.decoding.proofs.Steps.RowSearch.{Unequal, unequal-none, unequal-next, unequal-end}
+use Rattle.decoding.proofs.Steps.PowerTables.{Unequal, unequal-none, unequal-next, unequal-end}
 use Rattle.decoding.proofs.power_tables.any.Statement.{statement}
 use Rattle.decoding.proofs.power_tables.any.Tie as tie
 
 abbrev Inv-loop : tie.InvT-loop
-Inv-loop rows a b c d e f g h x z₀ l₀ z l = Unequal (eightAt rows a b c d e f g h) x l z
+Inv-loop tables a b c d e f g h x z₀ l₀ z l = Unequal (eightAt tables a b c d e f g h) x l z
 
 abbrev μ-loop : tie.MeasureT-loop
-μ-loop rows a b c d e f g h x z₀ l₀ z l = 40 - l
+μ-loop tables a b c d e f g h x z₀ l₀ z l = 40 - l
 
 loop-holds : tie.Need-loop-holds Inv-loop μ-loop
 loop-holds c = search (needs, unequal-none)

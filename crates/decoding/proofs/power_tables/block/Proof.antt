@@ -1,6 +1,6 @@
 -- `decoding::power_tables::block` meets its contract. Assumes nothing.
 use borrow.Author.Needs.{needs}
-use Rattle.decoding.proofs.Steps.RowSearch.{block-none, block-some}
+use Rattle.decoding.proofs.Steps.PowerTables.{block-none, block-some}
 use Rattle.decoding.proofs.power_tables.block.Statement.{statement}
 use Rattle.decoding.proofs.power_tables.block.Tie as tie
 

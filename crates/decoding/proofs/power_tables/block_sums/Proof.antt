@@ -3,15 +3,15 @@ use Prim.Native.Nat.{_-_}
 use borrow.Author.Needs.{needs}
 use Rattle.fields.proofs.Places.Filling.{Filled, filled-start, filled-end}
 use Rattle.decoding.specs.PowerTables.{blockSum}
-use Rattle.decoding.proofs.Steps.RowSearch.{sums-next}
+use Rattle.decoding.proofs.Steps.PowerTables.{sums-next}
 use Rattle.decoding.proofs.power_tables.block_sums.Statement.{statement}
 use Rattle.decoding.proofs.power_tables.block_sums.Tie as tie
 
 abbrev Inv-loop : tie.InvT-loop
-Inv-loop rows a b sums₀ l₀ sums l = Filled 40 (blockSum rows a b) l sums
+Inv-loop tables a b sums₀ l₀ sums l = Filled 40 (blockSum tables a b) l sums
 
 abbrev μ-loop : tie.MeasureT-loop
-μ-loop rows a b sums₀ l₀ sums l = 40 - l
+μ-loop tables a b sums₀ l₀ sums l = 40 - l
 
 loop-holds : tie.Need-loop-holds Inv-loop μ-loop
 loop-holds c = search (needs, filled-start)

@@ -1,6 +1,6 @@
 -- `decoding::power_tables::eight` meets its contract. Assumes nothing.
 use borrow.Author.Needs.{needs}
-use Rattle.decoding.proofs.Steps.RowSearch.{eight-is}
+use Rattle.decoding.proofs.Steps.PowerTables.{eight-is}
 use Rattle.decoding.proofs.power_tables.eight.Statement.{statement}
 use Rattle.decoding.proofs.power_tables.eight.Tie as tie
 

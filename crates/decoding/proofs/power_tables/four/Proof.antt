@@ -1,6 +1,6 @@
 -- `decoding::power_tables::four` meets its contract. Assumes nothing.
 use borrow.Author.Needs.{needs}
-use Rattle.decoding.proofs.Steps.RowSearch.{four-is}
+use Rattle.decoding.proofs.Steps.PowerTables.{four-is}
 use Rattle.decoding.proofs.power_tables.four.Statement.{statement}
 use Rattle.decoding.proofs.power_tables.four.Tie as tie
 

@@ -1,6 +1,6 @@
 -- `decoding::power_tables::keep_if` meets its contract. Assumes nothing.
 use borrow.Author.Needs.{needs}
-use Rattle.decoding.proofs.Steps.RowSearch.{keep-few, keep-here, keep-not}
+use Rattle.decoding.proofs.Steps.PowerTables.{keep-few, keep-here, keep-not}
 use Rattle.decoding.proofs.power_tables.keep_if.Statement.{statement}
 use Rattle.decoding.proofs.power_tables.keep_if.Tie as tie
 

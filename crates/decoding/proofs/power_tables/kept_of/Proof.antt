@@ -4,15 +4,15 @@ use Prim.Native.Nat.{_-_, _≤_}
 use native.Mathlib.Omega.{arith}
 use borrow.Author.Needs.{needs}
 use Rattle.decoding.specs.PowerTables.{eightAt, keptTo}
-use Rattle.decoding.proofs.Steps.RowSearch.{kept-none, kept-next, kept-end}
+use Rattle.decoding.proofs.Steps.PowerTables.{kept-none, kept-next, kept-end}
 use Rattle.decoding.proofs.power_tables.kept_of.Statement.{statement}
 use Rattle.decoding.proofs.power_tables.kept_of.Tie as tie
 
 abbrev Inv-loop : tie.InvT-loop
-Inv-loop rows a b c d e f g h x i p₀ l₀ p l = (l ≤ 40) × (p .count ≤ 8) × (p ≡ keptTo (eightAt rows a b c d e f g h) x i p₀ l)
+Inv-loop tables a b c d e f g h x i p₀ l₀ p l = (l ≤ 40) × (p .count ≤ 8) × (p ≡ keptTo (eightAt tables a b c d e f g h) x i p₀ l)
 
 abbrev μ-loop : tie.MeasureT-loop
-μ-loop rows a b c d e f g h x i p₀ l₀ p l = 40 - l
+μ-loop tables a b c d e f g h x i p₀ l₀ p l = 40 - l
 
 loop-holds : tie.Need-loop-holds Inv-loop μ-loop
 loop-holds c = search (needs, kept-none)

@@ -1,7 +1,7 @@
 -- `decoding::power_tables::multiplied` meets its contract. Assumes nothing.
 use native.Mathlib.Omega.{arith}
 use borrow.Author.Needs.{needs}
-use Rattle.decoding.proofs.Steps.RowSearch.{multiplied-most}
+use Rattle.decoding.proofs.Steps.PowerTables.{multiplied-most}
 use Rattle.decoding.proofs.power_tables.multiplied.Statement.{statement}
 use Rattle.decoding.proofs.power_tables.multiplied.Tie as tie
 

@@ -1,6 +1,6 @@
 -- `decoding::power_tables::position` meets its contract. Assumes nothing.
 use borrow.Author.Needs.{needs}
-use Rattle.decoding.proofs.Steps.RowSearch.{start-inside, position-small, position-is, position-fits}
+use Rattle.decoding.proofs.Steps.PowerTables.{start-inside, position-small, position-is, position-fits}
 use Rattle.decoding.proofs.power_tables.position.Statement.{statement}
 use Rattle.decoding.proofs.power_tables.position.Tie as tie
 

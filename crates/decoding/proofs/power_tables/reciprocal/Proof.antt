@@ -1,7 +1,7 @@
 -- `decoding::power_tables::reciprocal` meets its contract. Assumes nothing.
 use borrow.Author.Needs.{needs}
 use Rattle.decoding.specs.PowerTables.{reciprocals}
-use Rattle.decoding.proofs.Steps.RowSearch.{reciprocal-lt}
+use Rattle.decoding.proofs.Steps.PowerTables.{reciprocal-lt}
 use Rattle.decoding.proofs.power_tables.reciprocal.Statement.{statement}
 use Rattle.decoding.proofs.power_tables.reciprocal.Tie as tie
 

@@ -2,19 +2,19 @@
 use Prim.Native.Nat.{_-_}
 use native.Mathlib.Omega.{arith}
 use borrow.Author.Needs.{needs}
-use Rattle.decoding.proofs.Steps.RowSearch.{bases-most, starts-most}
-use Rattle.decoding.proofs.Steps.RowRoots.{Scanning, rows-long, place-small, scanning-none, scanning-next, scanning-end}
+use Rattle.decoding.proofs.Steps.PowerTables.{bases-most, starts-most}
+use Rattle.decoding.proofs.Steps.TableRoots.{Scanning, tables-long, place-small, scanning-none, scanning-next, scanning-end}
 use Rattle.decoding.proofs.power_tables.scanned.Statement.{statement}
 use Rattle.decoding.proofs.power_tables.scanned.Tie as tie
 
 abbrev Inv-loop : tie.InvT-loop
-Inv-loop exp log rows n s x p₀ i₀ p i = Scanning exp log n rows (s .bases) (s .starts) x i p
+Inv-loop exp log tables n s x p₀ i₀ p i = Scanning exp log n tables (s .bases) (s .starts) x i p
 
 abbrev μ-loop : tie.MeasureT-loop
-μ-loop exp log rows n s x p₀ i₀ p i = n - i
+μ-loop exp log tables n s x p₀ i₀ p i = n - i
 
-rows-of-requires : tie.Need-rows-of-requires Inv-loop μ-loop
-rows-of-requires c κs = search needs
+tables-of-requires : tie.Need-tables-of-requires Inv-loop μ-loop
+tables-of-requires c κs = search needs
 
 sub-x : tie.Need-sub-x Inv-loop μ-loop
 sub-x c = search needs
@@ -29,7 +29,7 @@ loop-holds : tie.Need-loop-holds Inv-loop μ-loop
 loop-holds c = search (needs, scanning-none)
 
 block-requires : tie.Need-block-requires Inv-loop μ-loop
-block-requires c κs = ((rows-long (c .before .before .before .before .before .before .pre .1), c .before .loop .inv .few, place-small (c .before .before .before .before .before .before .pre .1) (omega arith)), (bases-most _ _ (c .before .before .rows-of .ensures .0), starts-most _ _ _ _ (c .before .before .rows-of .ensures .1)))
+block-requires c κs = ((tables-long (c .before .before .before .before .before .before .pre .1), c .before .loop .inv .few, place-small (c .before .before .before .before .before .before .pre .1) (omega arith)), (bases-most _ _ (c .before .before .tables-of .ensures .0), starts-most _ _ _ _ (c .before .before .tables-of .ensures .1)))
 
 add-i : tie.Need-add-i Inv-loop μ-loop
 add-i c = search needs
@@ -49,7 +49,7 @@ scanned-spec =
     (tie.spec
     Inv-loop
     μ-loop
-    rows-of-requires
+    tables-of-requires
     sub-x
     mul-x
     array-read-x

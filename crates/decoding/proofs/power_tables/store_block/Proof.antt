@@ -4,33 +4,33 @@ use Prim.Native.Nat.{_-_, _≤_}
 use lib.ListN.{length}
 use borrow.Author.Needs.{needs}
 use Rattle.decoding.specs.PowerTables.{stored}
-use Rattle.decoding.proofs.Steps.RowSearch.{stored-none, stored-next, stored-end}
+use Rattle.decoding.proofs.Steps.PowerTables.{stored-none, stored-next, stored-end}
 use Rattle.decoding.proofs.power_tables.store_block.Statement.{statement}
 use Rattle.decoding.proofs.power_tables.store_block.Tie as tie
 
 abbrev Inv-loop : tie.InvT-loop
-Inv-loop rows₀ s block l₀ rows l = (l ≤ 40) × (length rows ≡ length rows₀) × (rows ≡ stored rows₀ s block l)
+Inv-loop tables₀ s block l₀ tables l = (l ≤ 40) × (length tables ≡ length tables₀) × (tables ≡ stored tables₀ s block l)
 
 abbrev μ-loop : tie.MeasureT-loop
-μ-loop rows₀ s block l₀ rows l = 40 - l
+μ-loop tables₀ s block l₀ tables l = 40 - l
 
 loop-holds : tie.Need-loop-holds Inv-loop μ-loop
 loop-holds c = search (needs, stored-none)
 
-mul-rows : tie.Need-mul-rows Inv-loop μ-loop
-mul-rows c = search needs
+mul-tables : tie.Need-mul-tables Inv-loop μ-loop
+mul-tables c = search needs
 
-array-read-rows : tie.Need-array-read-rows Inv-loop μ-loop
-array-read-rows c = search needs
+array-read-tables : tie.Need-array-read-tables Inv-loop μ-loop
+array-read-tables c = search needs
 
-add-rows : tie.Need-add-rows Inv-loop μ-loop
-add-rows c = search needs
+add-tables : tie.Need-add-tables Inv-loop μ-loop
+add-tables c = search needs
 
-mul-rows-2 : tie.Need-mul-rows-2 Inv-loop μ-loop
-mul-rows-2 c = search needs
+mul-tables-2 : tie.Need-mul-tables-2 Inv-loop μ-loop
+mul-tables-2 c = search needs
 
-slice-write-rows : tie.Need-slice-write-rows Inv-loop μ-loop
-slice-write-rows c = search needs
+slice-write-tables : tie.Need-slice-write-tables Inv-loop μ-loop
+slice-write-tables c = search needs
 
 add-l : tie.Need-add-l Inv-loop μ-loop
 add-l c = search needs
@@ -54,11 +54,11 @@ store-block-spec =
     Inv-loop
     μ-loop
     loop-holds
-    mul-rows
-    array-read-rows
-    add-rows
-    mul-rows-2
-    slice-write-rows
+    mul-tables
+    array-read-tables
+    add-tables
+    mul-tables-2
+    slice-write-tables
     add-l
     loop-less
     loop-again

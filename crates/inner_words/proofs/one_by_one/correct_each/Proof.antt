@@ -1,6 +1,6 @@
 -- `inner_words::one_by_one::correct_each` meets its contract. Assumes nothing.
 use borrow.Author.Needs.{needs}
-use Rattle.decoding.specs.PowerTables.{Rows}
+use Rattle.decoding.specs.PowerTables.{PowerTables}
 use Rattle.inner_words.proofs.WordErrors.{left-ahead}
 use Rattle.inner_words.proofs.InnerPass.{Passing, passing-start, passing-wrong, passing-next, passing-end, passing-codes}
 use Prim.Native.Nat.{_-_}
@@ -8,22 +8,22 @@ use Rattle.inner_words.proofs.one_by_one.correct_each.Statement.{statem
 use Rattle.inner_words.proofs.one_by_one.correct_each.Tie as tie
 
 abbrev Inv-loop : tie.InvT-loop
-Inv-loop exp log residues wrong block₀ rows₀ all₀ k₀ block rows all k = Passing block₀ k all block × Rows exp rows
+Inv-loop exp log residues wrong block₀ tables₀ all₀ k₀ block tables all k = Passing block₀ k all block × PowerTables exp tables
 
 abbrev μ-loop : tie.MeasureT-loop
-μ-loop exp log residues wrong block₀ rows₀ all₀ k₀ block rows all k = 64 - k
+μ-loop exp log residues wrong block₀ tables₀ all₀ k₀ block tables all k = 64 - k
 
-blank-rows-requires : tie.Need-blank-rows-requires Inv-loop μ-loop
-blank-rows-requires c κs = search needs
+blank-tables-requires : tie.Need-blank-tables-requires Inv-loop μ-loop
+blank-tables-requires c κs = search needs
 
-slice-aggregate-empty-rows : tie.Need-slice-aggregate-empty-rows Inv-loop μ-loop
-slice-aggregate-empty-rows c = search needs
+slice-aggregate-empty-tables : tie.Need-slice-aggregate-empty-tables Inv-loop μ-loop
+slice-aggregate-empty-tables c = search needs
 
-empty-rows-requires : tie.Need-empty-rows-requires Inv-loop μ-loop
-empty-rows-requires c κs = search needs
+empty-tables-requires : tie.Need-empty-tables-requires Inv-loop μ-loop
+empty-tables-requires c κs = search needs
 
 loop-holds : tie.Need-loop-holds Inv-loop μ-loop
-loop-holds c = (search (needs, passing-start), c .before .empty-rows .ensures _)
+loop-holds c = (search (needs, passing-start), c .before .empty-tables .ensures _)
 
 slice-aggregate-correct-wrong : tie.Need-slice-aggregate-correct-wrong Inv-loop μ-loop
 slice-aggregate-correct-wrong c = search needs
@@ -55,9 +55,9 @@ correct-each-spec =
     (tie.spec
     Inv-loop
     μ-loop
-    blank-rows-requires
-    slice-aggregate-empty-rows
-    empty-rows-requires
+    blank-tables-requires
+    slice-aggregate-empty-tables
+    empty-tables-requires
     loop-holds
     slice-aggregate-correct-wrong
     correct-wrong-requires

@@ -7,8 +7,8 @@ use Rattle.inner_words.proofs.one_by_one.correct_word.Tie as tie
 odd-values-requires : tie.Need-odd-values-requires
 odd-values-requires c κs = search needs
 
-errors-by-rows-requires : tie.Need-errors-by-rows-requires
-errors-by-rows-requires c κs = search needs
+errors-by-tables-requires : tie.Need-errors-by-tables-requires
+errors-by-tables-requires c κs = search needs
 
 explains-requires : tie.Need-explains-requires
 explains-requires c κs = search needs
@@ -36,7 +36,7 @@ correct-word-spec =
     tie.close
     (tie.spec
     odd-values-requires
-    errors-by-rows-requires
+    errors-by-tables-requires
     explains-requires
     same-length
     returns

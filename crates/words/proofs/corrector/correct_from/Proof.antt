@@ -1,6 +1,6 @@
 -- `words::corrector::correct_from` meets its contract. Assumes nothing.
 use borrow.Author.Needs.{needs}
-use Rattle.words.proofs.Steps.Corrections.{tables-lent, word-fits, correct-outer-lost, correct-outer-found}
+use Rattle.words.proofs.Steps.Corrections.{tables-given, word-fits, correct-outer-lost, correct-outer-found}
 use Rattle.words.proofs.corrector.correct_from.Statement.{statement}
 use Rattle.words.proofs.corrector.correct_from.Tie as tie
 
@@ -26,7 +26,7 @@ slice-aggregate-decode-2 : tie.Need-slice-aggregate-decode-2
 slice-aggregate-decode-2 c = search needs
 
 decode-requires : tie.Need-decode-requires
-decode-requires c κs = (search (needs, tables-lent), (search (needs, word-fits), search needs))
+decode-requires c κs = (search (needs, tables-given), (search (needs, word-fits), search needs))
 
 slice-aggregate-all-below : tie.Need-slice-aggregate-all-below
 slice-aggregate-all-below c = search needs

@@ -1,10 +1,10 @@
--- `decoding::power_tables::rows_of` meets its contract. Assumes nothing.
+-- `decoding::power_tables::tables_of` meets its contract. Assumes nothing.
 use Prim.Native.Nat.{_-_}
 use borrow.Author.Needs.{needs}
 use Rattle.fields.proofs.Places.Filling.{Filled, filled-start}
-use Rattle.decoding.proofs.Steps.RowSearch.{termBase, termStart, bases-next, starts-next, bases-end, starts-end}
-use Rattle.decoding.proofs.power_tables.rows_of.Statement.{statement}
-use Rattle.decoding.proofs.power_tables.rows_of.Tie as tie
+use Rattle.decoding.proofs.Steps.PowerTables.{termBase, termStart, bases-next, starts-next, bases-end, starts-end}
+use Rattle.decoding.proofs.power_tables.tables_of.Statement.{statement}
+use Rattle.decoding.proofs.power_tables.tables_of.Tie as tie
 
 abbrev Inv-loop : tie.InvT-loop
 Inv-loop log n polynomial bases₀ starts₀ d₀ bases starts d = Filled 8 (termBase polynomial) d bases × Filled 8 (termStart log polynomial n) d starts
@@ -27,11 +27,11 @@ mul-c c = search needs
 array-read-c : tie.Need-array-read-c Inv-loop μ-loop
 array-read-c c = search needs
 
-add-row-base : tie.Need-add-row-base Inv-loop μ-loop
-add-row-base c = search needs
+add-table-base : tie.Need-add-table-base Inv-loop μ-loop
+add-table-base c = search needs
 
-row-base-requires : tie.Need-row-base-requires Inv-loop μ-loop
-row-base-requires c κs = search needs
+table-base-requires : tie.Need-table-base-requires Inv-loop μ-loop
+table-base-requires c κs = search needs
 
 mul-bases : tie.Need-mul-bases Inv-loop μ-loop
 mul-bases c = search needs
@@ -39,11 +39,11 @@ mul-bases c = search needs
 array-write-bases : tie.Need-array-write-bases Inv-loop μ-loop
 array-write-bases c = search needs
 
-add-row-start : tie.Need-add-row-start Inv-loop μ-loop
-add-row-start c = search needs
+add-table-start : tie.Need-add-table-start Inv-loop μ-loop
+add-table-start c = search needs
 
-row-start-requires : tie.Need-row-start-requires Inv-loop μ-loop
-row-start-requires c κs = search needs
+table-start-requires : tie.Need-table-start-requires Inv-loop μ-loop
+table-start-requires c κs = search needs
 
 mul-starts : tie.Need-mul-starts Inv-loop μ-loop
 mul-starts c = search needs
@@ -63,8 +63,8 @@ loop-again c = search (needs, bases-next, starts-next)
 returns : tie.Need-returns Inv-loop μ-loop
 returns c = search (needs, bases-end, starts-end)
 
-pub rows-of-spec : {M : Type 1} → statement M
-rows-of-spec =
+pub tables-of-spec : {M : Type 1} → statement M
+tables-of-spec =
     tie.close
     (tie.spec
     Inv-loop
@@ -74,12 +74,12 @@ rows-of-spec =
     sub-c-2
     mul-c
     array-read-c
-    add-row-base
-    row-base-requires
+    add-table-base
+    table-base-requires
     mul-bases
     array-write-bases
-    add-row-start
-    row-start-requires
+    add-table-start
+    table-start-requires
     mul-starts
     array-write-starts
     add-d

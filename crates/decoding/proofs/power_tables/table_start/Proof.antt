@@ -1,8 +1,8 @@
--- `decoding::power_tables::row_start` meets its contract. Assumes nothing.
+-- `decoding::power_tables::table_start` meets its contract. Assumes nothing.
 use borrow.Author.Needs.{needs}
-use Rattle.decoding.proofs.Steps.RowSearch.{start-zero, start-row}
-use Rattle.decoding.proofs.power_tables.row_start.Statement.{statement}
-use Rattle.decoding.proofs.power_tables.row_start.Tie as tie
+use Rattle.decoding.proofs.Steps.PowerTables.{start-zero, start-table}
+use Rattle.decoding.proofs.power_tables.table_start.Statement.{statement}
+use Rattle.decoding.proofs.power_tables.table_start.Tie as tie
 
 returns : tie.Need-returns
 returns c = search (needs, start-zero)
@@ -32,10 +32,10 @@ add-result-2 : tie.Need-add-result-2
 add-result-2 c = search needs
 
 returns-2 : tie.Need-returns-2
-returns-2 c = search (needs, start-row)
+returns-2 c = search (needs, start-table)
 
-pub row-start-spec : {M : Type 1} → statement M
-row-start-spec =
+pub table-start-spec : {M : Type 1} → statement M
+table-start-spec =
     tie.close
     (tie.spec
     returns

@@ -1,17 +1,17 @@
--- `decoding::power_tables::need_rows` meets its contract. Assumes nothing.
+-- `decoding::power_tables::need_tables` meets its contract. Assumes nothing.
 use mathlib.Core.Path.{_≡_}
 use Prim.Native.Nat.{_-_}
 use borrow.Author.Needs.{needs}
 use Rattle.fields.specs.Places.{at}
-use Rattle.decoding.specs.PowerTables.{Rows}
-use Rattle.decoding.proofs.power_tables.need_rows.Statement.{statement}
-use Rattle.decoding.proofs.power_tables.need_rows.Tie as tie
+use Rattle.decoding.specs.PowerTables.{PowerTables}
+use Rattle.decoding.proofs.power_tables.need_tables.Statement.{statement}
+use Rattle.decoding.proofs.power_tables.need_tables.Tie as tie
 
 abbrev Inv-loop : tie.InvT-loop
-Inv-loop exp rows₀ degree d₀ rows d = Rows exp rows × (d ≡ at rows 18783)
+Inv-loop exp tables₀ degree d₀ tables d = PowerTables exp tables × (d ≡ at tables 18783)
 
 abbrev μ-loop : tie.MeasureT-loop
-μ-loop exp rows₀ degree d₀ rows d = degree - d
+μ-loop exp tables₀ degree d₀ tables d = degree - d
 
 sub-d : tie.Need-sub-d Inv-loop μ-loop
 sub-d c = search needs
@@ -31,8 +31,8 @@ loop-holds c = search needs
 add-d : tie.Need-add-d Inv-loop μ-loop
 add-d c = search needs
 
-fill-row-requires : tie.Need-fill-row-requires Inv-loop μ-loop
-fill-row-requires c κs = search needs
+fill-table-requires : tie.Need-fill-table-requires Inv-loop μ-loop
+fill-table-requires c κs = search needs
 
 loop-less : tie.Need-loop-less Inv-loop μ-loop
 loop-less c = search needs
@@ -46,8 +46,8 @@ same-length c = search needs
 returns : tie.Need-returns Inv-loop μ-loop
 returns c = search needs
 
-pub need-rows-spec : {M : Type 1} → statement M
-need-rows-spec =
+pub need-tables-spec : {M : Type 1} → statement M
+need-tables-spec =
     tie.close
     (tie.spec
     Inv-loop
@@ -58,7 +58,7 @@ need-rows-spec =
     cast-d
     loop-holds
     add-d
-    fill-row-requires
+    fill-table-requires
     loop-less
     loop-again
     same-length

@@ -1,8 +1,8 @@
--- `decoding::annihilator::massey_step` meets its contract. Assumes nothing.
+-- `decoding::annihilator::berlekamp_massey_step` meets its contract. Assumes nothing.
 use borrow.Author.Needs.{needs}
-use Rattle.decoding.proofs.Steps.Massey.{step-same, step-new}
-use Rattle.decoding.proofs.annihilator.massey_step.Statement.{statement}
-use Rattle.decoding.proofs.annihilator.massey_step.Tie as tie
+use Rattle.decoding.proofs.Steps.BerlekampMassey.{step-same, step-new}
+use Rattle.decoding.proofs.annihilator.berlekamp_massey_step.Statement.{statement}
+use Rattle.decoding.proofs.annihilator.berlekamp_massey_step.Tie as tie
 
 slice-aggregate-convolved : tie.Need-slice-aggregate-convolved
 slice-aggregate-convolved c = search needs
@@ -22,8 +22,8 @@ adjusted-requires c κs = search needs
 returns-2 : tie.Need-returns-2
 returns-2 c = search (needs, step-new)
 
-pub massey-step-spec : {M : Type 1} → statement M
-massey-step-spec =
+pub berlekamp-massey-step-spec : {M : Type 1} → statement M
+berlekamp-massey-step-spec =
     tie.close
     (tie.spec
     slice-aggregate-convolved

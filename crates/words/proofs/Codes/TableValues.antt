@@ -12,7 +12,7 @@ use Rattle.fields.specs.ByTables.{tableProduct}
 use Rattle.fields.specs.Places.{at, horner, value}
 use Rattle.fields.proofs.ByTables.{table-product}
 use Rattle.fields.proofs.Lists.{tabulate-lt}
-use Rattle.decoding.specs.ByTables.{lentValue}
+use Rattle.decoding.specs.ByTables.{tableValue}
 use Rattle.decoding.proofs.Algebra.Values.{value-lt}
 use Rattle.words.specs.OuterCode.{shiftedIn, divided}
 
@@ -20,15 +20,15 @@ module _ (m p : ℕ) (F : Field m p) where
   pub product-same : (x y : ℕ) → x < 2 ^ m → y < 2 ^ m → tableProduct (powers m p) (exponents m p) x y ≡ times m p x y
   product-same x y hx hy = table-product m p F x y ∙ ap₂ (times m p) (mod-eq-of-lt hx) (mod-eq-of-lt hy)
 
-  pub horner-lent : (x : ℕ) → x < 2 ^ m → (b : ℕ → ℕ) → ((i : ℕ) → b i < 2 ^ m) → (n : ℕ) → horner (λ v. tableProduct (powers m p) (exponents m p) v x) b n ≡ value m p x b n
+  pub horner-by-tables : (x : ℕ) → x < 2 ^ m → (b : ℕ → ℕ) → ((i : ℕ) → b i < 2 ^ m) → (n : ℕ) → horner (λ v. tableProduct (powers m p) (exponents m p) v x) b n ≡ value m p x b n
   unfolding horner
-  horner-lent x hx b h zero = refl
-  horner-lent x hx b h (suc n) =
-      ap (λ (v : ℕ). xor v (b n)) (ap (λ (v : ℕ). tableProduct (powers m p) (exponents m p) v x) (horner-lent x hx b h n) ∙ product-same _ x (value-lt m p F x b h n) hx)
+  horner-by-tables x hx b h zero = refl
+  horner-by-tables x hx b h (suc n) =
+      ap (λ (v : ℕ). xor v (b n)) (ap (λ (v : ℕ). tableProduct (powers m p) (exponents m p) v x) (horner-by-tables x hx b h n) ∙ product-same _ x (value-lt m p F x b h n) hx)
 
-  pub value-lent : (x : ℕ) → x < 2 ^ m → (w : List ℕ) → ((i : ℕ) → at w i < 2 ^ m) → lentValue (powers m p) (exponents m p) w x ≡ value m p x (at w) (length w)
-  unfolding lentValue
-  value-lent x hx w h = horner-lent x hx (at w) h (length w)
+  pub value-by-tables : (x : ℕ) → x < 2 ^ m → (w : List ℕ) → ((i : ℕ) → at w i < 2 ^ m) → tableValue (powers m p) (exponents m p) w x ≡ value m p x (at w) (length w)
+  unfolding tableValue
+  value-by-tables x hx w h = horner-by-tables x hx (at w) h (length w)
 
   -- the register of a division of elements by elements holds elements
   module _ (n : ℕ) (g d : ℕ → ℕ) (hg : (i : ℕ) → g i < 2 ^ m) (hd : (i : ℕ) → d i < 2 ^ m) where

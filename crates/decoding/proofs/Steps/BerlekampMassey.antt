@@ -21,8 +21,8 @@ use Rattle.fields.proofs.Ways.{past}
 use Rattle.fields.proofs.Places.Filling.{zeros-at}
 use Rattle.decoding.specs.declared.annihilator.Recurrence.{Recurrence}
 use Rattle.decoding.specs.Decoder.{Tables, xorTo}
-use Rattle.decoding.specs.Annihilator.{applied, Annihilates, convolved, plusShifted, adjusted, masseyStep, massey, reversedAt}
-use Rattle.decoding.proofs.Algebra.Tables.{lent-laws, xorTo-same}
+use Rattle.decoding.specs.Annihilator.{applied, Annihilates, convolved, plusShifted, adjusted, berlekampMasseyStep, berlekampMassey, reversedAt}
+use Rattle.decoding.proofs.Algebra.Tables.{table-laws, xorTo-same}
 
 -- ---- sums
 
@@ -68,25 +68,25 @@ module _ (es ls : List ℕ) (n d : ℕ) (s : Recurrence) (i f : ℕ) (c : List �
 
 module _ (es ls t : List ℕ) where
   module _ (n : ℕ) (s : Recurrence) (d : ℕ) (ed : d ≡ convolved es ls (s .coefficients) t n (s .order + 1)) where
-    pub step-same : d ≡ 0 → s ≡ masseyStep es ls t n s
-    unfolding masseyStep
+    pub step-same : d ≡ 0 → s ≡ berlekampMasseyStep es ls t n s
+    unfolding berlekampMasseyStep
     step-same z = rw (← ed, eq-eqb d 0 z)
 
-    pub step-new : (d ≡ 0 → ⊥) → (r : Recurrence) → r ≡ adjusted es ls n d s → r ≡ masseyStep es ls t n s
-    unfolding masseyStep
+    pub step-new : (d ≡ 0 → ⊥) → (r : Recurrence) → r ≡ adjusted es ls n d s → r ≡ berlekampMasseyStep es ls t n s
+    unfolding berlekampMasseyStep
     step-new z r e = rw (← ed, ne-eqb d 0 z) e
 
-  pub massey-none : record { coefficients = 1 ∷ replicate 8 0; previous = 1 ∷ replicate 8 0; order = 0; since = 0; discrepancy = 1 } ≡ massey es ls t 0
-  unfolding massey
-  massey-none = refl
+  pub berlekamp-massey-none : record { coefficients = 1 ∷ replicate 8 0; previous = 1 ∷ replicate 8 0; order = 0; since = 0; discrepancy = 1 } ≡ berlekampMassey es ls t 0
+  unfolding berlekampMassey
+  berlekamp-massey-none = refl
 
-  module _ (n : ℕ) (s : Recurrence) (so-far : s ≡ massey es ls t n) where
-    pub massey-next : (r : Recurrence) → r ≡ masseyStep es ls t n s → r ≡ massey es ls t (n + 1)
-    unfolding massey
-    massey-next r e = rw (add-one, ← so-far) e
+  module _ (n : ℕ) (s : Recurrence) (so-far : s ≡ berlekampMassey es ls t n) where
+    pub berlekamp-massey-next : (r : Recurrence) → r ≡ berlekampMasseyStep es ls t n s → r ≡ berlekampMassey es ls t (n + 1)
+    unfolding berlekampMassey
+    berlekamp-massey-next r e = rw (add-one, ← so-far) e
 
-    pub massey-end : n ≤ 16 → 16 ≤ n → s ≡ massey es ls t 16
-    massey-end lo hi = let q : n ≡ 16 = omega arith in rw q at so-far
+    pub berlekamp-massey-end : n ≤ 16 → 16 ≤ n → s ≡ berlekampMassey es ls t 16
+    berlekamp-massey-end lo hi = let q : n ≡ 16 = omega arith in rw q at so-far
 
 -- ---- the polynomial
 
@@ -109,7 +109,7 @@ module _ (es ls t : List ℕ) (T : Tables es ls) where
     where
       go : Dec (k ≡ i) → Dec (i < length c) → at (set c i x) k < length ls
       go (yes e) (yes l) = rw (e, getD-set-same c i x 0 l) hx
-      go (yes e) (no l) = rw (sym (past (set c i x) k (rw (length-set c i x) (omega arith)))) (lent-laws es ls T .in-zero)
+      go (yes e) (no l) = rw (sym (past (set c i x) k (rw (length-set c i x) (omega arith)))) (table-laws es ls T .in-zero)
       go (no e) _ = rw (getD-set-other c i k x 0 e) (hc k)
 
   shifted-elements : (c : List ℕ) (f : ℕ) (p : List ℕ) (s k : ℕ) → Elements c → Elements (plusShifted es ls c f p s k)
@@ -117,10 +117,10 @@ module _ (es ls t : List ℕ) (T : Tables es ls) where
   shifted-elements c f p s zero h = h
   shifted-elements c f p s (suc k) h =
       let before = shifted-elements c f p s k h in
-      set-elements (plusShifted es ls c f p s k) (s + k) _ before (lent-laws es ls T .in-add _ _ (before (s + k)) (lent-laws es ls T .in-mul f (at p k)))
+      set-elements (plusShifted es ls c f p s k) (s + k) _ before (table-laws es ls T .in-add _ _ (before (s + k)) (table-laws es ls T .in-mul f (at p k)))
 
-  step-elements : (n : ℕ) (s : Recurrence) → Elements (s .coefficients) → Elements (masseyStep es ls t n s .coefficients)
-  unfolding masseyStep adjusted
+  step-elements : (n : ℕ) (s : Recurrence) → Elements (s .coefficients) → Elements (berlekampMasseyStep es ls t n s .coefficients)
+  unfolding berlekampMasseyStep adjusted
   step-elements n s h = go (eqb (convolved es ls (s .coefficients) t n (s .order + 1)) 0)
     where
       d : ℕ
@@ -137,21 +137,21 @@ module _ (es ls t : List ℕ) (T : Tables es ls) where
       go false = pick (ltb n (2 * s .order)) _ (shifted-elements (s .coefficients) _ (s .previous) _ _ h)
 
   start-elements : Elements (1 ∷ replicate 8 0)
-  start-elements zero = lent-laws es ls T .in-one
-  start-elements (suc k) = rw (zeros-at 8 k) (lent-laws es ls T .in-zero)
+  start-elements zero = table-laws es ls T .in-one
+  start-elements (suc k) = rw (zeros-at 8 k) (table-laws es ls T .in-zero)
 
-  massey-elements : (n : ℕ) → Elements (massey es ls t n .coefficients)
-  unfolding massey
-  massey-elements zero = start-elements
-  massey-elements (suc n) = step-elements n (massey es ls t n) (massey-elements n)
+  berlekamp-massey-elements : (n : ℕ) → Elements (berlekampMassey es ls t n .coefficients)
+  unfolding berlekampMassey
+  berlekamp-massey-elements zero = start-elements
+  berlekamp-massey-elements (suc n) = step-elements n (berlekampMassey es ls t n) (berlekamp-massey-elements n)
 
-  pub reversed-elements : (s : Recurrence) (v : List ℕ) → s ≡ massey es ls t 16 → v ≡ tabulate 9 (reversedAt (s .coefficients) (s .order)) → (k : ℕ) → at v k < length ls
+  pub reversed-elements : (s : Recurrence) (v : List ℕ) → s ≡ berlekampMassey es ls t 16 → v ≡ tabulate 9 (reversedAt (s .coefficients) (s .order)) → (k : ℕ) → at v k < length ls
   unfolding reversedAt
-  reversed-elements s v e ev k = rw ev (tabulate-lt (length ls) 9 _ (lent-laws es ls T .in-zero) (λ i. go (ltb (i + s .order) 8) (i + s .order - 8)) k)
+  reversed-elements s v e ev k = rw ev (tabulate-lt (length ls) 9 _ (table-laws es ls T .in-zero) (λ i. go (ltb (i + s .order) 8) (i + s .order - 8)) k)
     where
       go : (b : Bool) (i : ℕ) → cond b 0 (at (s .coefficients) i) < length ls
-      go true i = lent-laws es ls T .in-zero
-      go false i = rw e (massey-elements 16 i)
+      go true i = table-laws es ls T .in-zero
+      go false i = rw e (berlekamp-massey-elements 16 i)
 
 -- ---- the test
 

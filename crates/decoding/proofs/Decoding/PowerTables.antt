@@ -1,4 +1,4 @@
--- The rows of powers give the values of a polynomial at the locators of a word: a block whose sums are not its last coefficient has no root. Assumes nothing.
+-- The tables of powers give the values of a polynomial at the locators of a word: a block whose sums are not its last coefficient has no root. Assumes nothing.
 use mathlib.Core.Path.{_≡_, refl, sym, ap, ap₂, _∙_}
 use mathlib.Core.List.{List}
 use Prim.Native.Nat.{ℕ, zero, suc, _+_, _-_, _*_, _/_, _%_, _≤_, _<_}
@@ -14,19 +14,19 @@ use Rattle.fields.specs.ByTables.{tableProduct, tablePower}
 use Rattle.fields.specs.Places.{at}
 use Rattle.fields.proofs.Lists.{tabulate-at}
 use Rattle.fields.proofs.Xor.{xor-assoc, xor-zero-l}
-use Rattle.decoding.specs.ByTables.{lentValue}
+use Rattle.decoding.specs.ByTables.{tableValue}
 use Rattle.decoding.specs.Decoder.{Tables, locator, timesPower, xorTo}
-use Rattle.decoding.specs.PowerTables.{reciprocals, rowBase, rowStart, rowBases, rowStarts, rowPosition, fourAt, eightAt, rowsSum, RowsFor}
+use Rattle.decoding.specs.PowerTables.{reciprocals, tableBase, tableStart, tableBases, tableStarts, tablePosition, fourAt, eightAt, tablesSum, TablesFor}
 use Rattle.decoding.proofs.Algebra.Field as F
 use Rattle.decoding.proofs.Algebra.Field.{Ops, Laws}
 use Rattle.decoding.proofs.Algebra.Elements.{isZero}
 use Rattle.decoding.proofs.Algebra.PowerSums.{valueAt, value-same}
-use Rattle.decoding.proofs.Algebra.Tables.{lentOps, Powers, lent-laws, lent-powers, lent-exponent, lent-power-at, lent-power-sum, lentValue-is}
+use Rattle.decoding.proofs.Algebra.Tables.{tableOps, Powers, table-laws, table-powers, table-exponent, table-power-at, table-power-sum, tableValue-is}
 use Rattle.decoding.proofs.Decoding.Search.{value-more}
 
 -- ---- exponents modulo 2,047
 
--- where r is 1 / d: the exponent of the row of degree d at the entry of place i + l, and that of the term a^e x^d there, differ by a multiple of 2,047
+-- where r is 1 / d: the exponent of the table of degree d at the entry of place i + l, and that of the term a^e x^d there, differ by a multiple of 2,047
 abbrev Congruent : ℕ → ℕ → ℕ → Type 0
 Congruent d r c =
     (f e g w n i l s j t k : ℕ) → f + e ≡ 2047 → g + suc (i + l) ≡ n → w + n ≡ 2048 → j * 2047 + s ≡ f * r + w → k * 2047 + t ≡ s + i →
@@ -89,21 +89,21 @@ starts-right (suc (suc (suc (suc (suc (suc (suc (suc (suc d))))))))) pos h = abs
 
 module _ (es ls : List ℕ) (T : Tables es ls) where
   abbrev O : Ops ℕ
-  O = lentOps es ls
+  O = tableOps es ls
 
   K : Laws O (λ a. a < length ls)
-  K = lent-laws es ls T
+  K = table-laws es ls T
 
   P : Powers es ls
-  P = lent-powers es ls T
+  P = table-powers es ls T
 
   power-times : (x j : ℕ) → timesPower (tableProduct es ls) (tablePower es x) 1 j ≡ tablePower es (x * j)
   unfolding timesPower
   power-times x zero = sym (ap (tablePower es) (mul-zero x) ∙ P .first)
   power-times x (suc j) =
-      ap (tableProduct es ls (tablePower es x)) (power-times x j) ∙ sym (lent-power-sum es ls T x (x * j)) ∙ ap (tablePower es) (add-comm x (x * j) ∙ sym (mul-suc x j))
+      ap (tableProduct es ls (tablePower es x)) (power-times x j) ∙ sym (table-power-sum es ls T x (x * j)) ∙ ap (tablePower es) (add-comm x (x * j) ∙ sym (mul-suc x j))
 
-  module _ (v : List ℕ) (n : ℕ) (rows : List ℕ) (R : RowsFor es ls v n rows) (nine : length v ≡ 9) where
+  module _ (v : List ℕ) (n : ℕ) (tables : List ℕ) (R : TablesFor es ls v n tables) (nine : length v ≡ 9) where
     -- the term of degree d at the locator x
     abbrev term : ℕ → ℕ → ℕ
     term x d = tableProduct es ls (timesPower (tableProduct es ls) x 1 d) (at v (8 - d))
@@ -116,28 +116,28 @@ module _ (es ls : List ℕ) (T : Tables es ls) where
       abbrev X : ℕ
       X = locator es n (i + l)
 
-      -- the entry of the row of degree d + 1
+      -- the entry of the table of degree d + 1
       module _ (d : ℕ) (h : d < 8) where
         abbrev c : ℕ
         c = at v (7 - d)
 
-        entry-zero : c ≡ 0 → at rows (rowBase c (d + 1) + (rowStart ls c (d + 1) n + i) % 2047 + l) ≡ tableProduct es ls (timesPower (tableProduct es ls) X 1 (suc d)) c
-        unfolding rowBase rowStart
+        entry-zero : c ≡ 0 → at tables (tableBase c (d + 1) + (tableStart ls c (d + 1) n + i) % 2047 + l) ≡ tableProduct es ls (timesPower (tableProduct es ls) X 1 (suc d)) c
+        unfolding tableBase tableStart
         entry-zero z =
             let q : 0 + (0 + i) % 2047 + l ≡ i % 2047 + l = simp zero-add in
-            rw (eq-eqb c 0 z) (ap (at rows) q ∙ R .rows-are .zeros (i % 2047 + l) (omega (arith, mod-lt i {m = 2047} (lit< tt)))
+            rw (eq-eqb c 0 z) (ap (at tables) q ∙ R .tables-are .zeros (i % 2047 + l) (omega (arith, mod-lt i {m = 2047} (lit< tt)))
             ∙ sym (ap (tableProduct es ls (timesPower (tableProduct es ls) X 1 (suc d))) z ∙ F.mul-zero O K _))
 
-        entry-power : ¬ (c ≡ 0) → at rows (rowBase c (d + 1) + (rowStart ls c (d + 1) n + i) % 2047 + l) ≡ tableProduct es ls (timesPower (tableProduct es ls) X 1 (suc d)) c
-        unfolding rowBase rowStart locator
+        entry-power : ¬ (c ≡ 0) → at tables (tableBase c (d + 1) + (tableStart ls c (d + 1) n + i) % 2047 + l) ≡ tableProduct es ls (timesPower (tableProduct es ls) X 1 (suc d)) c
+        unfolding tableBase tableStart locator
         entry-power nz =
             rw (ne-eqb c 0 nz, add-one, add-assoc (2087 * suc d))
-            (R .rows-are .powers (suc d) m (omega arith) there (omega (arith, mod-lt ((start + i)) {m = 2047} (lit< tt)))
+            (R .tables-are .powers (suc d) m (omega arith) there (omega (arith, mod-lt ((start + i)) {m = 2047} (lit< tt)))
             ∙ by-remainder ((2047 - suc d) * m) ((n - suc (i + l)) * suc d + e) (starts-right (suc d) (omega arith) (omega arith) e n i l e-lt (R .short) inside)
-            ∙ lent-power-sum es ls T ((n - suc (i + l)) * suc d) e ∙ ap₂ (tableProduct es ls) (sym (power-times (n - suc (i + l)) (suc d))) e-is)
+            ∙ table-power-sum es ls T ((n - suc (i + l)) * suc d) e ∙ ap₂ (tableProduct es ls) (sym (power-times (n - suc (i + l)) (suc d))) e-is)
           where
             by-c : (at ls c < length es) × (at es (at ls c) ≡ c)
-            by-c = lent-exponent es ls T c nz (R .elements (7 - d))
+            by-c = table-exponent es ls T c nz (R .elements (7 - d))
 
             e : ℕ
             e = at ls c
@@ -146,7 +146,7 @@ module _ (es ls : List ℕ) (T : Tables es ls) where
             e-lt = rw (← R .order) (by-c .0)
 
             e-is : tablePower es e ≡ c
-            e-is = sym (lent-power-at es ls T e (by-c .0)) ∙ by-c .1
+            e-is = sym (table-power-at es ls T e (by-c .0)) ∙ by-c .1
 
             start : ℕ
             start = ((2047 - e) * at reciprocals (suc d) + (2048 - n)) % 2047
@@ -154,20 +154,20 @@ module _ (es ls : List ℕ) (T : Tables es ls) where
             m : ℕ
             m = (start + i) % 2047 + l
 
-            there : suc d ≤ at rows 18783
-            there = go (decLt (7 - d + at rows 18783) 8)
+            there : suc d ≤ at tables 18783
+            there = go (decLt (7 - d + at tables 18783) 8)
               where
-                go : Dec (7 - d + at rows 18783 < 8) → suc d ≤ at rows 18783
+                go : Dec (7 - d + at tables 18783 < 8) → suc d ≤ at tables 18783
                 go (yes b) = absurd (nz (R .enough (7 - d) b))
                 go (no b) = omega arith
 
-        entry-is : at rows (rowPosition (rowBases v) (rowStarts ls v n) i d + l) ≡ term X (suc d)
-        unfolding rowPosition rowBases rowStarts
+        entry-is : at tables (tablePosition (tableBases v) (tableStarts ls v n) i d + l) ≡ term X (suc d)
+        unfolding tablePosition tableBases tableStarts
         entry-is =
             let q : 8 - suc d ≡ 7 - d = omega arith in
-            rw (q, tabulate-at 8 (λ d. rowBase (at v (7 - d)) (d + 1)) d 0 h, tabulate-at 8 (λ d. rowStart ls (at v (7 - d)) (d + 1) n) d 0 h) (go (isZero c))
+            rw (q, tabulate-at 8 (λ d. tableBase (at v (7 - d)) (d + 1)) d 0 h, tabulate-at 8 (λ d. tableStart ls (at v (7 - d)) (d + 1) n) d 0 h) (go (isZero c))
           where
-            go : Dec (c ≡ 0) → at rows (rowBase c (d + 1) + (rowStart ls c (d + 1) n + i) % 2047 + l) ≡ tableProduct es ls (timesPower (tableProduct es ls) X 1 (suc d)) c
+            go : Dec (c ≡ 0) → at tables (tableBase c (d + 1) + (tableStart ls c (d + 1) n + i) % 2047 + l) ≡ tableProduct es ls (timesPower (tableProduct es ls) X 1 (suc d)) c
             go (yes z) = entry-zero z
             go (no z) = entry-power z
 
@@ -177,9 +177,9 @@ module _ (es ls : List ℕ) (T : Tables es ls) where
       value-terms zero h = refl
       value-terms (suc d) h = value-more es ls T n v (R .elements) X d h ∙ ap (λ (u : ℕ). xor u (term X d)) (value-terms d (omega arith))
 
-      pub rows-value : lentValue es ls v X ≡ xor (at v 8) (rowsSum rows (rowBases v) (rowStarts ls v n) i l)
-      unfolding xorTo rowsSum eightAt fourAt timesPower
-      rows-value =
-          lentValue-is es ls v X 9 nine ∙ value-same O K X _ _ 9 (λ k h. ap (at v) (sym (zero-add k))) ∙ value-terms 9 (le-refl 9)
+      pub tables-value : tableValue es ls v X ≡ xor (at v 8) (tablesSum tables (tableBases v) (tableStarts ls v n) i l)
+      unfolding xorTo tablesSum eightAt fourAt timesPower
+      tables-value =
+          tableValue-is es ls v X 9 nine ∙ value-same O K X _ _ 9 (λ k h. ap (at v) (sym (zero-add k))) ∙ value-terms 9 (le-refl 9)
           ∙ rw (entry-is 0 (lit< tt), entry-is 1 (lit< tt), entry-is 2 (lit< tt), entry-is 3 (lit< tt), entry-is 4 (lit< tt), entry-is 5 (lit< tt), entry-is 6 (lit< tt), entry-is 7 (lit< tt))
           (simp (xor-assoc, xor-zero-l, K .one-mul (at v 8) (R .elements 8)))

@@ -1,15 +1,15 @@
--- `decoding::power_tables::finish_row` meets its contract. Assumes nothing.
+-- `decoding::power_tables::finish_table` meets its contract. Assumes nothing.
 use Prim.Native.Nat.{_-_}
 use borrow.Author.Needs.{needs}
-use Rattle.decoding.proofs.Steps.RowSearch.{RowBlocks, blocks-none, blocks-next, blocks-end}
-use Rattle.decoding.proofs.power_tables.finish_row.Statement.{statement}
-use Rattle.decoding.proofs.power_tables.finish_row.Tie as tie
+use Rattle.decoding.proofs.Steps.PowerTables.{TableBlocks, blocks-none, blocks-next, blocks-end}
+use Rattle.decoding.proofs.power_tables.finish_table.Statement.{statement}
+use Rattle.decoding.proofs.power_tables.finish_table.Tie as tie
 
 abbrev Inv-loop : tie.InvT-loop
-Inv-loop rows₀ d p q m₀ rows m = RowBlocks rows₀ d m rows
+Inv-loop tables₀ d p q m₀ tables m = TableBlocks tables₀ d m tables
 
 abbrev μ-loop : tie.MeasureT-loop
-μ-loop rows₀ d p q m₀ rows m = 2087 - m
+μ-loop tables₀ d p q m₀ tables m = 2087 - m
 
 near-requires : tie.Need-near-requires Inv-loop μ-loop
 near-requires c κs = search needs
@@ -44,8 +44,8 @@ same-length c = search needs
 returns : tie.Need-returns Inv-loop μ-loop
 returns c = search (needs, blocks-end)
 
-pub finish-row-spec : {M : Type 1} → statement M
-finish-row-spec =
+pub finish-table-spec : {M : Type 1} → statement M
+finish-table-spec =
     tie.close
     (tie.spec
     Inv-loop

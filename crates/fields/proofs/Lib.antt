@@ -9,7 +9,7 @@ pub mod Cycle
 pub mod Powers
 pub mod Laws
 pub mod Instances
-pub mod Rows
+pub mod Pieces
 pub mod TableTests
 pub mod Ways
 pub mod ByTables

@@ -23,9 +23,9 @@ use Rattle.frames.specs.Frames.{symbolAt, dataIn, frameOfWords}
 use Rattle.frames.specs.Correction.{receivedBit, receivedSymbol, receivedWord, isPermitted, outerRestored, everyOf, outerPass, restoredFrame, reportOf, total}
 use Rattle.frames.specs.Answers.{Corrected, noCounts, refused, reported, frameCorrected, withoutReport}
 use Rattle.frames.specs.Received.{outerCodes}
-use Rattle.frames.specs.Symbols.{InRow, Sent, rowWord}
-use Rattle.frames.specs.Passes.{provided, written, rowWords}
-use Rattle.frames.proofs.ReceivedWords.{received-cases, received-first, received-padding, received-last, row-room}
+use Rattle.frames.specs.Symbols.{Concatenated, Sent, wordIn}
+use Rattle.frames.specs.Passes.{provided, written, wordsIn}
+use Rattle.frames.proofs.ReceivedWords.{received-cases, received-first, received-padding, received-last, symbols-room}
 use Rattle.frames.proofs.FrameAnswers.{frame-written, is-block}
 use Rattle.frames.proofs.RestoredWords.{frame-kept}
 
@@ -42,7 +42,7 @@ module _ (b c : ℕ → ℕ) (same : (i : ℕ) → i < 130560 → b i ≡ c i) w
   unfolding receivedWord receivedSymbol symbolAt
   received-same w k =
       tabulate-same (dataIn w + 16) _ _ (λ s l.
-      numberOf-same 10 _ _ (λ j m. received-bit-same (10 * (781 * w + s) + j) (omega (arith, row-room w s k l))))
+      numberOf-same 10 _ _ (λ j m. received-bit-same (10 * (781 * w + s) + j) (omega (arith, symbols-room w s k l))))
 
 -- the outer pass over a block after the inner pass
 pub passes-done : (block copy passed : List ℕ) → copy ≡ block → InnerPassed copy passed → outerPass (bitAt passed) ≡ outerPass (innerPass (bitAt block))
@@ -53,10 +53,10 @@ passes-done block copy passed e p =
 
 -- ---- the outer pass
 
--- the words of a row stand in it
-row-words : (row : List ℕ) → length row ≡ 12496 → InRow (rowWords row) row
-unfolding rowWords rowWord
-row-words row long =
+-- the words of outer symbols stand in them
+symbols-words : (outer : List ℕ) → length outer ≡ 12496 → Concatenated (wordsIn outer) outer
+unfolding wordsIn wordIn
+symbols-words outer long =
     record {
       long = long;
       place = λ w s k l. sym (ap (λ (c : List ℕ). at c s) (tabulate-at 16 _ w [] k) ∙ tabulate-at (dataIn w + 16) _ s 0 l);
@@ -70,7 +70,7 @@ unfolding written
 pass-kept passed out o s t long bytes inner hs et h room e =
     rw (frame-kept passed (is-block passed long bytes) (sym et ∙ h) (inner hs), e ∙ copied-same passed o (room ∙ sym long))
 
-module _ (passed next o : List ℕ) (t : Bool) (restored : provided t (rowWords next) ≡ outerPass (bitAt passed)) where
+module _ (passed next o : List ℕ) (t : Bool) (restored : provided t (wordsIn next) ≡ outerPass (bitAt passed)) where
   pub pass-none : not t ≡ true → _≡_ {A = Bool × List ℕ} (false, o) (written o (Option·map frameOfWords (outerPass (bitAt passed))))
   unfolding written provided
   pass-none h = rw (← restored, not-true t h)
@@ -79,7 +79,7 @@ module _ (passed next o : List ℕ) (t : Bool) (restored : provided t (rowWords 
       _≡_ {A = Bool × List ℕ} (true, out) (written o (Option·map frameOfWords (outerPass (bitAt passed))))
   unfolding written provided
   pass-written h mid out long sent made =
-      rw (← restored, not-false t h, made ∙ frame-written (rowWords next) next mid (row-words next long) sent)
+      rw (← restored, not-false t h, made ∙ frame-written (wordsIn next) next mid (symbols-words next long) sent)
 
 -- ---- the entry
 

@@ -70,7 +70,7 @@ module _ (lost : ℕ → Bool) (payload block : List ℕ) (valid : isPayload pay
     where
       go : (t : Bool) → lost (i % 64) ≡ t → differs (passed block i) (sent i) ≤ cond t (differs (bitAt block i) (sent i)) 0
       go true e =
-          let same = inner-lost (bitAt block) (i % 64) (omega arith) (premise .beyond (i % 64) (omega arith) e) in
+          let same = inner-lost (bitAt block) (i % 64) (omega arith) (premise .lost-words (i % 64) (omega arith) e) in
           rw (word-to-bit (passed block) (bitAt block) i l same) (omega arith)
       go false e =
           let near : apart (innerWord (bitAt block) (i % 64)) (innerWord sent (i % 64)) ≤ 8 =

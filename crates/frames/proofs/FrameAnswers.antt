@@ -19,10 +19,10 @@ use Rattle.inner_words.specs.Passes.{innerCodes}
 use Rattle.inner_words.proofs.InterleavedBits.{data-same, parity-before, parity-after, parity-cases}
 use Rattle.frames.specs.Frames.{isBlock, outerWords, sentBit, frameOfWords, frameOf}
 use Rattle.frames.specs.Answers.{isFrame, frameEncoded, frameChecked, payloadExtracted}
-use Rattle.frames.specs.Received.{receivedRow, outerCodes}
-use Rattle.frames.specs.Symbols.{InRow, Sent, payloadInRow}
+use Rattle.frames.specs.Received.{receivedSymbols, outerCodes}
+use Rattle.frames.specs.Symbols.{Concatenated, Sent, payloadIn}
 use Rattle.frames.proofs.ReceivedWords.{is-frame}
-use Rattle.frames.proofs.RowWords.{received-payload, row-sent}
+use Rattle.frames.proofs.RowWords.{received-payload, symbols-sent}
 
 -- ---- encoding
 
@@ -32,11 +32,11 @@ with-parity-same b c h i l =
     parity-cases (λ x. x ≡ withParity c i) b i (λ m. h i m ∙ sym (parity-before c i m))
     (λ m. ap (λ (d : List ℕ). at (innerParity d) (i / 64 - 1952)) (data-same b c h (i % 64) (omega arith)) ∙ sym (parity-after c i m))
 
--- the words of a row, what is sent of it and the parity bits after that are the frame of the words
-pub frame-written : (words : List (List ℕ)) (row mid : List ℕ) → InRow words row → Sent row mid → bytesOf 16320 (withParity (bitAt mid)) ≡ frameOfWords words
+-- outer words, what is sent of their symbols and the parity bits after that are the frame of the words
+pub frame-written : (words : List (List ℕ)) (outer mid : List ℕ) → Concatenated words outer → Sent outer mid → bytesOf 16320 (withParity (bitAt mid)) ≡ frameOfWords words
 unfolding frameOfWords
-frame-written words row mid r s =
-    bits-same 16320 _ _ (with-parity-same (bitAt mid) (sentBit words) (λ i l. s .bits i l ∙ row-sent words row r i l))
+frame-written words outer mid r s =
+    bits-same 16320 _ _ (with-parity-same (bitAt mid) (sentBit words) (λ i l. s .bits i l ∙ symbols-sent words outer r i l))
 
 module _ (p o : List ℕ) where
   pub encode-length : (length p ≡ 15296 → ⊥) → _≡_ {A = ℕ × List ℕ} (1, o) (frameEncoded p o)
@@ -48,10 +48,10 @@ module _ (p o : List ℕ) where
     unfolding frameEncoded answered
     encode-space n = rw (eq-eqb (length p) 15296 e, ne-eqb (length o) 16320 n)
 
-    pub encode-written : (row mid out : List ℕ) → length o ≡ 16320 → InRow (outerWords p) row → Sent row mid → out ≡ bytesOf 16320 (withParity (bitAt mid)) →
+    pub encode-written : (outer mid out : List ℕ) → length o ≡ 16320 → Concatenated (outerWords p) outer → Sent outer mid → out ≡ bytesOf 16320 (withParity (bitAt mid)) →
         _≡_ {A = ℕ × List ℕ} (0, out) (frameEncoded p o)
     unfolding frameEncoded answered frameOf
-    encode-written row mid out f r s w = rw (eq-eqb (length p) 15296 e, eq-eqb (length o) 16320 f, w, frame-written (outerWords p) row mid r s)
+    encode-written outer mid out f r s w = rw (eq-eqb (length p) 15296 e, eq-eqb (length o) 16320 f, w, frame-written (outerWords p) outer mid r s)
 
 -- ---- blocks
 
@@ -100,7 +100,7 @@ module _ (b o : List ℕ) where
       unfolding payloadExtracted answered
       extract-no-frame h = rw (eq-eqb (length b) 16320 e, eq-eqb (length o) 15296 f, block-tested b e bytes t test, not-true t h)
 
-      pub extract-written : (row out : List ℕ) → not t ≡ false → row ≡ receivedRow (bitAt b) → out ≡ payloadInRow row → _≡_ {A = ℕ × List ℕ} (0, out) (payloadExtracted b o)
+      pub extract-written : (outer out : List ℕ) → not t ≡ false → outer ≡ receivedSymbols (bitAt b) → out ≡ payloadIn outer → _≡_ {A = ℕ × List ℕ} (0, out) (payloadExtracted b o)
       unfolding payloadExtracted answered
-      extract-written row out h r w =
+      extract-written outer out h r w =
           rw (eq-eqb (length b) 16320 e, eq-eqb (length o) 15296 f, block-tested b e bytes t test, not-false t h, w, r, received-payload b)

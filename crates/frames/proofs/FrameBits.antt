@@ -20,7 +20,7 @@ use Rattle.words.proofs.Bits.Numbers.{bitOf-lt, bitOf-number, numberOf-lt}
 use Rattle.words.proofs.Bits.Bytes.{bitAt-lt, place-past, bytes-length, bytes-below, bytes-bit, bytes-same}
 use Rattle.words.proofs.Codes.Proved.{codes}
 use Rattle.inner_words.proofs.InterleavedBits.{data-same, places-code, parity-before, parity-after, withParity-lt}
-use Rattle.frames.specs.Frames.{symbolAt, isPayload, isBlock, dataIn, outerData, outerWord, outerWords, rowBit, rowPlace, sentBit, frameOfWords, frameOf, payloadPlace, payloadOf}
+use Rattle.frames.specs.Frames.{symbolAt, isPayload, isBlock, dataIn, outerData, outerWord, outerWords, outerBit, outerPlace, sentBit, frameOfWords, frameOf, payloadPlace, payloadOf}
 
 pub payload-is : (p : List ℕ) → isPayload p ≡ true → (length p ≡ 15296) × (allBelow 256 p ≡ true)
 unfolding isPayload
@@ -50,8 +50,8 @@ payloadOf-bit b i l = bytes-bit 15296 (λ i. bitAt b (payloadPlace i)) (λ i. bi
 -- ---- the frame of outer words
 
 pub sentBit-lt : (ws : List (List ℕ)) (i : ℕ) → sentBit ws i < 2
-unfolding sentBit rowBit
-sentBit-lt ws i = bitOf-lt 10 _ (rowPlace i % 10)
+unfolding sentBit outerBit
+sentBit-lt ws i = bitOf-lt 10 _ (outerPlace i % 10)
 
 module _ (ws : List (List ℕ)) where
   pub frame-length : length (frameOfWords ws) ≡ 16320
@@ -138,36 +138,36 @@ outer-bit p w s j l m =
     ap (λ (x : ℕ). bitOf 10 x j) (List·getD-append (outerData p w) _ 0 s (omega (arith, outer-data-length p w)) ∙ outer-data-at p w s l)
     ∙ bitOf-number (λ j. bitAt p (7650 * w + 10 * s + j)) (λ j. bitAt-lt p (7650 * w + 10 * s + j)) 10 j m
 
--- ---- the row
+-- ---- the outer symbols
 
-pub place-first : (i : ℕ) → i < 124768 → rowPlace i ≡ i
-unfolding rowPlace
+pub place-first : (i : ℕ) → i < 124768 → outerPlace i ≡ i
+unfolding outerPlace
 place-first i l = rw (lt-ltb i 124768 l)
 
-pub place-last : (i : ℕ) → 124768 ≤ i → rowPlace i ≡ i + 2
-unfolding rowPlace
+pub place-last : (i : ℕ) → 124768 ≤ i → outerPlace i ≡ i + 2
+unfolding outerPlace
 place-last i g = rw (le-ltb i 124768 g)
 
-pub place-near : (i : ℕ) → (i ≤ rowPlace i) × (rowPlace i ≤ i + 2)
+pub place-near : (i : ℕ) → (i ≤ outerPlace i) × (outerPlace i ≤ i + 2)
 place-near i = go (decLt i 124768)
   where
-    go : Dec (i < 124768) → (i ≤ rowPlace i) × (rowPlace i ≤ i + 2)
+    go : Dec (i < 124768) → (i ≤ outerPlace i) × (outerPlace i ≤ i + 2)
     go (yes l) = omega (arith, place-first i l)
     go (no l) = omega (arith, place-last i (omega arith))
 
--- symbol s of word w stands in the row from bit 10 (781 w + s) on
-pub row-bit : (ws : List (List ℕ)) (w s j : ℕ) → s < 781 → j < 10 → rowBit ws (10 * (781 * w + s) + j) ≡ bitOf 10 (at (getD ws w []) s) j
-unfolding rowBit
-row-bit ws w s j l m =
+-- symbol s of word w stands in the outer symbols from bit 10 (781 w + s) on
+pub symbols-bit : (ws : List (List ℕ)) (w s j : ℕ) → s < 781 → j < 10 → outerBit ws (10 * (781 * w + s) + j) ≡ bitOf 10 (at (getD ws w []) s) j
+unfolding outerBit
+symbols-bit ws w s j l m =
     let a : (10 * (781 * w + s) + j) / 7810 ≡ w = omega arith in
     let b : (10 * (781 * w + s) + j) % 7810 / 10 ≡ s = omega arith in
     let c : (10 * (781 * w + s) + j) % 10 ≡ j = omega arith in
     rw (a, b, c)
 
-pub payload-row : (p : List ℕ) (w s j : ℕ) → w < 16 → s < dataIn w → j < 10 → rowBit (outerWords p) (10 * (781 * w + s) + j) ≡ bitAt p (7650 * w + 10 * s + j)
+pub payload-symbols : (p : List ℕ) (w s j : ℕ) → w < 16 → s < dataIn w → j < 10 → outerBit (outerWords p) (10 * (781 * w + s) + j) ≡ bitAt p (7650 * w + 10 * s + j)
 unfolding outerWords
-payload-row p w s j k l m =
-    row-bit (tabulate 16 (outerWord p)) w s j (omega (arith, dataIn-le w)) m ∙ rw (tabulate-at 16 (outerWord p) w [] k) (outer-bit p w s j l m)
+payload-symbols p w s j k l m =
+    symbols-bit (tabulate 16 (outerWord p)) w s j (omega (arith, dataIn-le w)) m ∙ rw (tabulate-at 16 (outerWord p) w [] k) (outer-bit p w s j l m)
 
 -- ---- the payload in its frame
 
@@ -176,8 +176,8 @@ unfolding frameOf payloadPlace sentBit
 payload-bits p i l =
     let r = 7810 * (i / 7650) + i % 7650 in
     let e : r ≡ 10 * (781 * (i / 7650) + i % 7650 / 10) + i % 10 = omega arith in
-    frame-data (outerWords p) r (omega arith) ∙ ap (rowBit (outerWords p)) (place-first r (omega arith) ∙ e)
-    ∙ payload-row p (i / 7650) (i % 7650 / 10) (i % 10) (omega arith) (fits (decLt (i / 7650) 15)) (omega arith) ∙ ap (bitAt p) (omega arith)
+    frame-data (outerWords p) r (omega arith) ∙ ap (outerBit (outerWords p)) (place-first r (omega arith) ∙ e)
+    ∙ payload-symbols p (i / 7650) (i % 7650 / 10) (i % 10) (omega arith) (fits (decLt (i / 7650) 15)) (omega arith) ∙ ap (bitAt p) (omega arith)
   where
     fits : Dec (i / 7650 < 15) → i % 7650 / 10 < dataIn (i / 7650)
     fits (yes a) = omega (arith, dataIn-first (i / 7650) a)

@@ -110,20 +110,20 @@ symbol-inside bytes k j x l e =
 pub ten-wide : (x : ℕ) → Fits w64 (bitAnd x 1023)
 ten-wide x = record { fits = omega (arith, and-mask x 10) }
 
-module _ (row : List ℕ) (t : ℕ) where
+module _ (outer : List ℕ) (t : ℕ) where
   abbrev symbol : ℕ → ℕ
-  symbol m = bitAnd (getD row (t + m) 0) 1023
+  symbol m = bitAnd (getD outer (t + m) 0) 1023
 
   symbol-lt : (m : ℕ) → symbol m < 2 ^ 10
-  symbol-lt m = mask-lt (getD row (t + m) 0) 10
+  symbol-lt m = mask-lt (getD outer (t + m) 0) 10
 
   abbrev symbol-bits : ℕ → ℕ
-  symbol-bits j = symbolBit (at row) (10 * t + j)
+  symbol-bits j = symbolBit (at outer) (10 * t + j)
 
   symbol-is : (m : ℕ) → numberOf 10 (λ j. symbol-bits (10 * m + j)) ≡ symbol m
   unfolding symbolBit
   symbol-is m =
-      let y = getD row (t + m) 0 in
+      let y = getD outer (t + m) 0 in
       let e : 10 - (0 + 10) ≡ 0 = omega arith in
       numberOf-same 10 _ (λ j. bitOf 10 y (0 + j)) (λ j h.
       let q : (10 * t + (10 * m + j)) / 10 ≡ t + m = omega arith in
@@ -135,11 +135,11 @@ module _ (row : List ℕ) (t : ℕ) where
       bitOr x (symbol m * 2 ^ k % 2 ^ 64) ≡ numberOf (10 * m + 10) symbol-bits * 2 ^ k
   next-symbol = next-digit 64 10 symbol-bits symbol symbol-lt symbol-is
 
-  pub four-made : bitOr (bitOr (bitOr (bitAnd (getD row t 0) 1023 * 2 ^ 30 % 2 ^ 64) (symbol 1 * 2 ^ 20 % 2 ^ 64)) (symbol 2 * 2 ^ 10 % 2 ^ 64)) (symbol 3)
-      ≡ numberAt 40 (symbolBit (at row)) (10 * t)
+  pub four-made : bitOr (bitOr (bitOr (bitAnd (getD outer t 0) 1023 * 2 ^ 30 % 2 ^ 64) (symbol 1 * 2 ^ 20 % 2 ^ 64)) (symbol 2 * 2 ^ 10 % 2 ^ 64)) (symbol 3)
+      ≡ numberAt 40 (symbolBit (at outer)) (10 * t)
   unfolding numberAt
   four-made =
-      let e : getD row t 0 ≡ getD row (t + 0) 0 = ap (λ (i : ℕ). getD row i 0) (omega arith) in
+      let e : getD outer t 0 ≡ getD outer (t + 0) 0 = ap (λ (i : ℕ). getD outer i 0) (omega arith) in
       let one = ap (λ (x : ℕ). bitAnd x 1023 * 2 ^ 30 % 2 ^ 64) e ∙ first-digit 64 10 symbol-bits symbol symbol-lt symbol-is 30 (lit≤ tt) in
       last-digit 64 10 symbol-bits symbol symbol-lt symbol-is 3 (next-symbol 2 10 (lit≤ tt) (next-symbol 1 20 (lit≤ tt) one))
 
@@ -163,14 +163,14 @@ pub parts-at : (n m : ℕ) (b : ℕ → ℕ) (i s : ℕ) → s < m → at (parts
 unfolding partsOf
 parts-at n m b i s l = tabulate-at m _ s 0 l
 
-pub parts-end : (n m : ℕ) (b : ℕ → ℕ) (i : ℕ) {t s : ℕ} {before row : List ℕ} → Placing t (partsOf n m b i) s before row → m ≤ s →
-    Placed t (partsOf n m b i) before row
+pub parts-end : (n m : ℕ) (b : ℕ → ℕ) (i : ℕ) {t s : ℕ} {before outer : List ℕ} → Placing t (partsOf n m b i) s before outer → m ≤ s →
+    Placed t (partsOf n m b i) before outer
 parts-end n m b i p l = placing-end p (omega (arith, parts-length n m b i))
 
 -- one part more
 module _ (n m : ℕ) (x t : ℕ) (before : List ℕ) (room : t + m ≤ length before) where
-  part-next : (s k : ℕ) {row : List ℕ} → n * s + n + k ≡ 40 → s < m → Placing t (partsOf n m (bitOf 40 x) 0) s before row →
-      Placing t (partsOf n m (bitOf 40 x) 0) (s + 1) before (set row (t + s) (bitAnd (x / 2 ^ k) (2 ^ n - 1)))
+  part-next : (s k : ℕ) {outer : List ℕ} → n * s + n + k ≡ 40 → s < m → Placing t (partsOf n m (bitOf 40 x) 0) s before outer →
+      Placing t (partsOf n m (bitOf 40 x) 0) (s + 1) before (set outer (t + s) (bitAnd (x / 2 ^ k) (2 ^ n - 1)))
   part-next s k h l p =
       placing-next p (omega (arith, parts-length n m (bitOf 40 x) 0)) (omega (arith, parts-length n m (bitOf 40 x) 0))
       (part-read n s k x h ∙ sym (parts-at n m (bitOf 40 x) 0 s l))
@@ -192,9 +192,9 @@ unfolding symbolBit
 symbolBit-lt f i = bitOf-lt 10 (f (i / 10)) (i % 10)
 
 module _ (n g w : ℕ) (whole : n * g ≡ w) (b : ℕ → ℕ) where
-  pub group-next : (i : ℕ) {t m q : ℕ} {before row after : List ℕ} → Placing t (partsOf n (g * m) b i) (g * q) before row → q < m →
-      Placed (t + g * q) (partsOf n g b (i + w * q)) row after → Placing t (partsOf n (g * m) b i) (g * (q + 1)) before after
-  group-next i {t} {m} {q} {before} {row} {after} p l placed =
+  pub group-next : (i : ℕ) {t m q : ℕ} {before outer after : List ℕ} → Placing t (partsOf n (g * m) b i) (g * q) before outer → q < m →
+      Placed (t + g * q) (partsOf n g b (i + w * q)) outer after → Placing t (partsOf n (g * m) b i) (g * (q + 1)) before after
+  group-next i {t} {m} {q} {before} {outer} {after} p l placed =
       let step : g * (q + 1) ≡ g * q + g = mul-add g q 1 ∙ omega arith in
       let room : g * q + g ≤ g * m = omega (arith, mul-le-mul-left g l) in
       rw step (placing-more p placed (parts-length n g b (i + w * q)) (omega (arith, parts-length n (g * m) b i)) (λ s h.
@@ -216,8 +216,8 @@ module _ (n g w : ℕ) (whole : n * g ≡ w) (b : ℕ → ℕ) where
     unfolding partsOf
     group-parts i x e = ap (λ (y : ℕ). partsOf n g (bitOf w y) 0) e ∙ tabulate-same g _ _ (group-part i)
 
-pub groups-end : (n g : ℕ) (b : ℕ → ℕ) (i : ℕ) {t m q : ℕ} {before row : List ℕ} → Placing t (partsOf n (g * m) b i) (g * q) before row → m ≤ q →
-    Placed t (partsOf n (g * m) b i) before row
+pub groups-end : (n g : ℕ) (b : ℕ → ℕ) (i : ℕ) {t m q : ℕ} {before outer : List ℕ} → Placing t (partsOf n (g * m) b i) (g * q) before outer → m ≤ q →
+    Placed t (partsOf n (g * m) b i) before outer
 groups-end n g b i {t} {m} {q} p l = parts-end n (g * m) b i p (mul-le-mul-left g l)
 
 pub bytes-next : (symbols : List ℕ) (t : ℕ) {k m q x : ℕ} {before out after : List ℕ} →
@@ -243,19 +243,19 @@ eight-are b k e₀ e₁ e₂ e₃ e₄ e₅ e₆ e₇ =
     (cons (e₃ ∙ ap (numberAt 10 b) (omega arith)) (cons (e₄ ∙ ap (numberAt 10 b) (omega arith)) (cons (e₅ ∙ ap (numberAt 10 b) (omega arith))
     (cons (e₆ ∙ ap (numberAt 10 b) (omega arith)) (cons (e₇ ∙ ap (numberAt 10 b) (omega arith)) refl)))))))
 
-pub symbols-stored : (s : List ℕ) (t : ℕ) (row : List ℕ) → length s ≡ 8 → t + 8 ≤ length row → Placed t s row
-    (set (set (set (set (set (set (set (set row t (at s 0)) (t + 1) (at s 1)) (t + 2) (at s 2)) (t + 3) (at s 3)) (t + 4) (at s 4)) (t + 5) (at s 5))
+pub symbols-stored : (s : List ℕ) (t : ℕ) (outer : List ℕ) → length s ≡ 8 → t + 8 ≤ length outer → Placed t s outer
+    (set (set (set (set (set (set (set (set outer t (at s 0)) (t + 1) (at s 1)) (t + 2) (at s 2)) (t + 3) (at s 3)) (t + 4) (at s 4)) (t + 5) (at s 5))
     (t + 6) (at s 6)) (t + 7) (at s 7))
-symbols-stored s t row long room =
+symbols-stored s t outer long room =
     let one = rw (add-zero t) at (next 0 (lit< tt) placing-start) in
     let four = next 3 (lit< tt) (next 2 (lit< tt) (next 1 (lit< tt) one)) in
     placing-end (next 7 (lit< tt) (next 6 (lit< tt) (next 5 (lit< tt) (next 4 (lit< tt) four)))) (omega arith)
   where
-    next : (j : ℕ) {now : List ℕ} → j < 8 → Placing t s j row now → Placing t s (j + 1) row (set now (t + j) (at s j))
+    next : (j : ℕ) {now : List ℕ} → j < 8 → Placing t s j outer now → Placing t s (j + 1) outer (set now (t + j) (at s j))
     next j l p = placing-next p (omega arith) (omega arith) refl
 
-pub eights-next : (bytes : List ℕ) (k : ℕ) {t m q : ℕ} {s before row after : List ℕ} → Placing t (partsOf 10 (8 * m) (bitAt bytes) (8 * k)) (8 * q) before row →
-    q < m → s ≡ partsOf 10 8 (bitAt bytes) (8 * (k + 10 * q)) → Placed (t + 8 * q) s row after →
+pub eights-next : (bytes : List ℕ) (k : ℕ) {t m q : ℕ} {s before outer after : List ℕ} → Placing t (partsOf 10 (8 * m) (bitAt bytes) (8 * k)) (8 * q) before outer →
+    q < m → s ≡ partsOf 10 8 (bitAt bytes) (8 * (k + 10 * q)) → Placed (t + 8 * q) s outer after →
     Placing t (partsOf 10 (8 * m) (bitAt bytes) (8 * k)) (8 * (q + 1)) before after
 eights-next bytes k {t} {m} {q} p l e placed =
     let i : 8 * (k + 10 * q) ≡ 8 * k + 80 * q = omega arith in
@@ -263,8 +263,8 @@ eights-next bytes k {t} {m} {q} p l e placed =
 
 -- ---- symbols one by one; and before and after eights
 
-pub each-next : (bytes : List ℕ) (i : ℕ) {t n s v : ℕ} {before row : List ℕ} → Placing t (partsOf 10 n (bitAt bytes) i) s before row → s < n →
-    t + n ≤ length before → v ≡ symbolAt (bitAt bytes) (i + 10 * s) → Placing t (partsOf 10 n (bitAt bytes) i) (s + 1) before (set row (t + s) v)
+pub each-next : (bytes : List ℕ) (i : ℕ) {t n s v : ℕ} {before outer : List ℕ} → Placing t (partsOf 10 n (bitAt bytes) i) s before outer → s < n →
+    t + n ≤ length before → v ≡ symbolAt (bitAt bytes) (i + 10 * s) → Placing t (partsOf 10 n (bitAt bytes) i) (s + 1) before (set outer (t + s) v)
 unfolding symbolAt numberAt
 each-next bytes i {t} {n} {s} p l room e =
     placing-next p (omega (arith, parts-length 10 n (bitAt bytes) i)) (omega (arith, parts-length 10 n (bitAt bytes) i))

@@ -17,6 +17,6 @@ pub mod CorrectionAnswers
 pub mod FarApart
 pub mod DemandThree
 pub mod ZeroFrame
-pub mod Bench
+pub mod ExamplesHold
 pub mod Proved
 pub mod Demands

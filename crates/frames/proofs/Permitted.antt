@@ -18,9 +18,9 @@ use Rattle.words.proofs.Bits.Bytes.{number-of-bits}
 use Rattle.words.proofs.Codes.OuterWords.{outer-is}
 use Rattle.words.proofs.Codes.Nearest.{nearest-lost, decodes}
 use Rattle.words.proofs.Codes.Proved.{codes}
-use Rattle.frames.specs.Frames.{outerWord, outerWords, rowBit}
+use Rattle.frames.specs.Frames.{outerWord, outerWords, outerBit}
 use Rattle.frames.specs.Correction.{isPadded, isPermitted}
-use Rattle.frames.proofs.FrameBits.{outer-code, row-bit}
+use Rattle.frames.proofs.FrameBits.{outer-code, symbols-bit}
 use Rattle.frames.proofs.ReceivedWords.{payload-padding}
 
 pub permitted-is : (w : ℕ) (c : List ℕ) → isPermitted w c ≡ true → (isOuter c ≡ true) × (isPadded w c ≡ true)
@@ -67,20 +67,20 @@ low-bits : (x : ℕ) → 2 * bitOf 10 x 8 + bitOf 10 x 9 ≡ x % 4
 unfolding numberOf
 low-bits x = omega (arith, number-of-bits 10 x 8 2 (omega arith))
 
--- the padding bits of the row are those of symbol 761 of word 15
+-- the padding bits of the outer symbols are those of symbol 761 of word 15
 module _ (ws : List (List ℕ)) where
   abbrev last : ℕ
   last = at (getD ws 15 []) 761
 
-  padding-bit : (j : ℕ) → j < 10 → rowBit ws (124760 + j) ≡ bitOf 10 last j
-  padding-bit j l = row-bit ws 15 761 j (omega arith) l
+  padding-bit : (j : ℕ) → j < 10 → outerBit ws (124760 + j) ≡ bitOf 10 last j
+  padding-bit j l = symbols-bit ws 15 761 j (omega arith) l
 
   -- they are zeros where word 15 is padded, and it is padded where they are
-  pub padded-row : isPadded 15 (getD ws 15 []) ≡ true → (r : ℕ) → 124768 ≤ r → r < 124770 → rowBit ws r ≡ 0
+  pub padded-symbols : isPadded 15 (getD ws 15 []) ≡ true → (r : ℕ) → 124768 ≤ r → r < 124770 → outerBit ws r ≡ 0
   unfolding isPadded
-  padded-row h r g l =
+  padded-symbols h r g l =
       let e : r ≡ 124760 + r % 10 = omega arith in
-      ap (rowBit ws) e ∙ padding-bit (r % 10) (omega arith) ∙ go (ℕ-discrete (r % 10) 8)
+      ap (outerBit ws) e ∙ padding-bit (r % 10) (omega arith) ∙ go (ℕ-discrete (r % 10) 8)
     where
       zero-low : 2 * bitOf 10 last 8 + bitOf 10 last 9 ≡ 0
       zero-low = low-bits last ∙ eqb-true (last % 4) 0 h
@@ -89,9 +89,9 @@ module _ (ws : List (List ℕ)) where
       go (yes e) = rw e (omega (arith, zero-low))
       go (no n) = let e : r % 10 ≡ 9 = omega arith in rw e (omega (arith, zero-low))
 
-  row-padded : ((r : ℕ) → 124768 ≤ r → r < 124770 → rowBit ws r ≡ 0) → isPadded 15 (getD ws 15 []) ≡ true
+  symbols-padded : ((r : ℕ) → 124768 ≤ r → r < 124770 → outerBit ws r ≡ 0) → isPadded 15 (getD ws 15 []) ≡ true
   unfolding isPadded
-  row-padded h =
+  symbols-padded h =
       let first : bitOf 10 last 8 ≡ 0 = sym (padding-bit 8 (omega arith)) ∙ h 124768 (omega arith) (omega arith) in
       let second : bitOf 10 last 9 ≡ 0 = sym (padding-bit 9 (omega arith)) ∙ h 124769 (omega arith) (omega arith) in
       eq-eqb (last % 4) 0 (omega (arith, low-bits last))
@@ -105,4 +105,4 @@ payload-permitted p long w k = is-permitted w (outerWord p w) (outer-code p w) (
     go (yes l) = rw (lt-ltb w 15 l)
     go (no g) =
         let e : w ≡ 15 = omega arith in
-        rw e (ap (isPadded 15) (sym (tabulate-at 16 (outerWord p) 15 [] (omega arith))) ∙ row-padded (outerWords p) (payload-padding p long))
+        rw e (ap (isPadded 15) (sym (tabulate-at 16 (outerWord p) 15 [] (omega arith))) ∙ symbols-padded (outerWords p) (payload-padding p long))

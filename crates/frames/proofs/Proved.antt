@@ -8,7 +8,7 @@ use Rattle.frames.specs.Frames.{isPayload, outerWords, frameOf, payloadO
 use Rattle.frames.specs.FrameLaws.{FrameLaws}
 use Rattle.frames.proofs.FrameBits.{payload-is, payloadOf-length, payloadOf-below, frame-block, frame-parity, frame-inner, outer-code, payload-bits, payload-back}
 use Rattle.frames.proofs.ReceivedWords.{frame-same, same-frame}
-use Rattle.frames.proofs.Bench.{bench}
+use Rattle.frames.proofs.ExamplesHold.{bench}
 
 back : (p : List ℕ) → isPayload p ≡ true → payloadOf (frameOf p) ≡ p
 back p h = let t = payload-is p h in payload-back p (t .0) (t .1)
@@ -30,5 +30,5 @@ frame-laws =
       place-to-bit = place-to-bit;
       bit-to-place = bit-to-place;
       parity-bits = λ payload p k h l m. frame-parity (outerWords payload) p k l m;
-      bench = bench;
+      examples-hold = examples-hold;
     }

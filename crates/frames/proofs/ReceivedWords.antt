@@ -23,13 +23,13 @@ use Rattle.words.proofs.Codes.OuterWords.{outer-is}
 use Rattle.words.proofs.Codes.Proved.{codes}
 use Rattle.inner_words.specs.Passes.{innerCodes}
 use Rattle.inner_words.proofs.InterleavedBits.{data-same, code-places, parity-cases}
-use Rattle.frames.specs.Frames.{symbolAt, isBlock, dataIn, outerData, outerWord, outerWords, rowBit, rowPlace, sentBit, frameOfWords, frameOf, payloadPlace, payloadOf}
+use Rattle.frames.specs.Frames.{symbolAt, isBlock, dataIn, outerData, outerWord, outerWords, outerBit, outerPlace, sentBit, frameOfWords, frameOf, payloadPlace, payloadOf}
 use Rattle.frames.specs.Answers.{isFrame}
 use Rattle.frames.specs.Correction.{receivedBit, receivedSymbol, receivedWord}
 use Rattle.frames.specs.Received.{outerCodes}
-use Rattle.frames.proofs.FrameBits.{block-is, payload-past, payloadOf-length, payloadOf-bit, frame-length, frame-data, frame-inner, dataIn-last, dataIn-le, dataIn-is, outer-data-length, outer-word-length, outer-code, place-first, place-last, place-near, row-bit, payload-row}
+use Rattle.frames.proofs.FrameBits.{block-is, payload-past, payloadOf-length, payloadOf-bit, frame-length, frame-data, frame-inner, dataIn-last, dataIn-le, dataIn-is, outer-data-length, outer-word-length, outer-code, place-first, place-last, place-near, symbols-bit, payload-symbols}
 
--- ---- reading the row
+-- ---- reading the outer symbols
 
 pub received-first : (b : ℕ → ℕ) (r : ℕ) → r < 124768 → receivedBit b r ≡ b r
 unfolding receivedBit
@@ -53,17 +53,17 @@ received-cases P b r first padding last = go (decLt r 124768) (decLt r 124770)
     go (no g) (yes l) = let h : 124768 ≤ r = omega arith in rw (received-padding b r h l) (padding h l)
     go (no g) (no l) = let h : 124770 ≤ r = omega arith in rw (received-last b r h) (last h)
 
--- bit `rowPlace i` of the row is bit i
-received-place : (b : ℕ → ℕ) (i : ℕ) → receivedBit b (rowPlace i) ≡ b i
+-- bit `outerPlace i` of the outer symbols is bit i
+received-place : (b : ℕ → ℕ) (i : ℕ) → receivedBit b (outerPlace i) ≡ b i
 received-place b i = go (decLt i 124768)
   where
-    go : Dec (i < 124768) → receivedBit b (rowPlace i) ≡ b i
+    go : Dec (i < 124768) → receivedBit b (outerPlace i) ≡ b i
     go (yes l) = rw (place-first i l) (received-first b i l)
     go (no g) = rw (place-last i (omega arith)) (received-last b (i + 2) (omega arith) ∙ ap b (omega arith))
 
--- a symbol of an outer word is a symbol of the row
-pub row-room : (w s : ℕ) → w < 16 → s < dataIn w + 16 → 781 * w + s < 12493
-row-room w s k l = omega (arith, dataIn-is w k)
+-- a symbol of an outer word is an outer symbol
+pub symbols-room : (w s : ℕ) → w < 16 → s < dataIn w + 16 → 781 * w + s < 12493
+symbols-room w s k l = omega (arith, dataIn-is w k)
 
 pub received-length : (b : ℕ → ℕ) (w : ℕ) → length (receivedWord b w) ≡ dataIn w + 16
 unfolding receivedWord
@@ -85,10 +85,10 @@ module _ (b : ℕ → ℕ) (bits : (i : ℕ) → b i < 2) where
   unfolding receivedSymbol symbolAt
   symbol-bit t j l = bitOf-number (λ j. receivedBit b (10 * t + j)) (λ j. received-lt (10 * t + j)) 10 j l
 
-  -- the row of the received words
-  received-row : (r : ℕ) → r < 124930 → rowBit (tabulate 16 (receivedWord b)) r ≡ receivedBit b r
-  unfolding rowBit
-  received-row r l =
+  -- the outer symbols of the received words
+  received-symbols : (r : ℕ) → r < 124930 → outerBit (tabulate 16 (receivedWord b)) r ≡ receivedBit b r
+  unfolding outerBit
+  received-symbols r l =
       let w = r / 7810 in
       let s = r % 7810 / 10 in
       ap (λ (x : List ℕ). bitOf 10 (at x s) (r % 10)) (tabulate-at 16 (receivedWord b) w [] (omega arith))
@@ -98,12 +98,12 @@ module _ (b : ℕ → ℕ) (bits : (i : ℕ) → b i < 2) where
 -- ---- the words of a frame
 
 -- sixteen outer words, with zeros for padding, that a frame was made of stand in it
-module _ (ws : List (List ℕ)) (padding : (r : ℕ) → 124768 ≤ r → r < 124770 → rowBit ws r ≡ 0) where
-  frame-row : (r : ℕ) → r < 124930 → receivedBit (bitAt (frameOfWords ws)) r ≡ rowBit ws r
+module _ (ws : List (List ℕ)) (padding : (r : ℕ) → 124768 ≤ r → r < 124770 → outerBit ws r ≡ 0) where
+  frame-symbols : (r : ℕ) → r < 124930 → receivedBit (bitAt (frameOfWords ws)) r ≡ outerBit ws r
   unfolding sentBit
-  frame-row r l =
-      received-cases (λ x. x ≡ rowBit ws r) (bitAt (frameOfWords ws)) r (λ h. frame-data ws r (omega arith) ∙ ap (rowBit ws) (place-first r h))
-      (λ g h. sym (padding r g h)) (λ g. frame-data ws (r - 2) (omega arith) ∙ ap (rowBit ws) (place-last (r - 2) (omega arith) ∙ omega arith))
+  frame-symbols r l =
+      received-cases (λ x. x ≡ outerBit ws r) (bitAt (frameOfWords ws)) r (λ h. frame-data ws r (omega arith) ∙ ap (outerBit ws) (place-first r h))
+      (λ g h. sym (padding r g h)) (λ g. frame-data ws (r - 2) (omega arith) ∙ ap (outerBit ws) (place-last (r - 2) (omega arith) ∙ omega arith))
 
   pub received-words : (w : ℕ) → w < 16 → length (getD ws w []) ≡ dataIn w + 16 → ((s : ℕ) → at (getD ws w []) s < 1024) →
       receivedWord (bitAt (frameOfWords ws)) w ≡ getD ws w []
@@ -111,14 +111,14 @@ module _ (ws : List (List ℕ)) (padding : (r : ℕ) → 124768 ≤ r → r < 12
   received-words w k long small =
       sym (tabulate-is (dataIn w + 16) _ (getD ws w []) 0 long (λ s l.
       sym (numberOf-same 10 _ (bitOf 10 (at (getD ws w []) s)) (λ j m.
-      frame-row (10 * (781 * w + s) + j) (omega (arith, row-room w s k l)) ∙ row-bit ws w s j (omega (arith, dataIn-le w)) m)
+      frame-symbols (10 * (781 * w + s) + j) (omega (arith, symbols-room w s k l)) ∙ symbols-bit ws w s j (omega (arith, dataIn-le w)) m)
       ∙ numberOf-bits 10 (at (getD ws w []) s) (small s))))
 
 -- the padding bits of a payload's words are bits past its end
-pub payload-padding : (p : List ℕ) → length p ≡ 15296 → (r : ℕ) → 124768 ≤ r → r < 124770 → rowBit (outerWords p) r ≡ 0
+pub payload-padding : (p : List ℕ) → length p ≡ 15296 → (r : ℕ) → 124768 ≤ r → r < 124770 → outerBit (outerWords p) r ≡ 0
 payload-padding p long r g l =
     let e : r ≡ 10 * (781 * 15 + 761) + r % 10 = omega arith in
-    ap (rowBit (outerWords p)) e ∙ payload-row p 15 761 (r % 10) (omega arith) (omega (arith, dataIn-last 15 (omega arith))) (omega arith)
+    ap (outerBit (outerWords p)) e ∙ payload-symbols p 15 761 (r % 10) (omega arith) (omega (arith, dataIn-last 15 (omega arith))) (omega arith)
     ∙ payload-past p long (7650 * 15 + 10 * 761 + r % 10) (omega arith)
 
 pub received-own : (p : List ℕ) → length p ≡ 15296 → (w : ℕ) → w < 16 → receivedWord (bitAt (frameOf p)) w ≡ outerWord p w
@@ -158,8 +158,8 @@ module _ (b : List ℕ) where
     sent-same : (i : ℕ) → i < 124928 → sentBit (outerWords (payloadOf b)) i ≡ bitAt b i
     unfolding sentBit outerWords
     sent-same i l =
-        ap (λ (ws : List (List ℕ)). rowBit ws (rowPlace i)) (tabulate-same 16 _ _ (λ w k. received-outer w k (outer w k)))
-        ∙ received-row (bitAt b) (bitAt-lt b) (rowPlace i) (omega (arith, place-near i)) ∙ received-place (bitAt b) i
+        ap (λ (ws : List (List ℕ)). outerBit ws (outerPlace i)) (tabulate-same 16 _ _ (λ w k. received-outer w k (outer w k)))
+        ∙ received-symbols (bitAt b) (bitAt-lt b) (outerPlace i) (omega (arith, place-near i)) ∙ received-place (bitAt b) i
 
     bit-same : (i : ℕ) → i < 130560 → withParity (sentBit (outerWords (payloadOf b))) i ≡ bitAt b i
     unfolding parityPlace

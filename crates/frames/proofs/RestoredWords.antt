@@ -34,7 +34,7 @@ use Rattle.frames.specs.Demands.{Uncorrectable, Restored}
 use Rattle.frames.proofs.FrameBits.{frame-block, frame-inner, dataIn-le, outer-word-length, payloadOf-length}
 use Rattle.frames.proofs.ReceivedWords.{received-length, received-words, received-own, code-words-frame, same-frame}
 use Rattle.frames.proofs.Options.{every-some, every-missing, every-none, every-all}
-use Rattle.frames.proofs.Permitted.{permitted-is, permitted-nearest, padded-row, payload-permitted}
+use Rattle.frames.proofs.Permitted.{permitted-is, permitted-nearest, padded-symbols, payload-permitted}
 
 -- ---- the inner pass
 
@@ -110,7 +110,7 @@ module _ (b : ℕ → ℕ) where
   -- sixteen permitted words are those of their frame, which is one that the encoder writes
   restored-frame : (ws : List (List ℕ)) → Restored b ws → isFrame (frameOfWords ws) ≡ true
   restored-frame ws r =
-      let padding = padded-row ws (permitted-is 15 (getD ws 15 []) (r .permitted 15 (omega arith)) .1) in
+      let padding = padded-symbols ws (permitted-is 15 (getD ws 15 []) (r .permitted 15 (omega arith)) .1) in
       same-frame (frameOfWords ws) (code-words-frame (frameOfWords ws) (frame-block ws)
       (λ w k.
       let code = permitted-is w (getD ws w []) (r .permitted w k) .0 in

@@ -50,12 +50,12 @@ unfolding bitAt
 zero-bit bytes z i = rw (z (i / 8)) (bitOf-zero 8 (i % 8))
 
 module _ (b : ℕ → ℕ) (z : (i : ℕ) → b i ≡ 0) where
-  zero-row : (r : ℕ) → receivedBit b r ≡ 0
-  zero-row r = received-cases (λ x. x ≡ 0) b r (λ l. z r) (λ g l. refl) (λ g. z (r - 2))
+  zero-symbols : (r : ℕ) → receivedBit b r ≡ 0
+  zero-symbols r = received-cases (λ x. x ≡ 0) b r (λ l. z r) (λ g l. refl) (λ g. z (r - 2))
 
   zero-symbol : (t : ℕ) → receivedSymbol b t ≡ 0
   unfolding receivedSymbol symbolAt
-  zero-symbol t = numberOf-same 10 _ (bitOf 10 0) (λ j l. zero-row (10 * t + j) ∙ sym (bitOf-zero 10 j)) ∙ numberOf-bits 10 0 (lit< tt)
+  zero-symbol t = numberOf-same 10 _ (bitOf 10 0) (λ j l. zero-symbols (10 * t + j) ∙ sym (bitOf-zero 10 j)) ∙ numberOf-bits 10 0 (lit< tt)
 
   zero-outers : (w : ℕ) → isOuter (receivedWord b w) ≡ true
   unfolding receivedWord

@@ -14,11 +14,11 @@ use Rattle.words.specs.Nearest.{nearest}
 use Rattle.words.specs.InnerWords.{innerWord, innerPass}
 use Rattle.frames.specs.Frames.{dataIn, symbolAt, frameOfWords}
 
--- bit r of the row of outer words; the two padding bits, which are not sent, count as zeros
+-- bit r of the outer symbols; the two padding bits, which are not sent, count as zeros
 unfoldable pub receivedBit : (ℕ → ℕ) → ℕ → ℕ
 receivedBit b r = cond (ltb r 124768) (b r) (cond (ltb r 124770) 0 (b (r - 2)))
 
--- symbol t of the row; and outer word w, whose symbols stand in the row from 781 w on
+-- outer symbol t; and outer word w, whose symbols stand among them from 781 w on
 unfoldable pub receivedSymbol : (ℕ → ℕ) → ℕ → ℕ
 receivedSymbol b t = symbolAt (receivedBit b) (10 * t)
 

@@ -70,7 +70,7 @@ lostSymbols lost block frame w =
 -- the premise: the inner words that `lost` names lie beyond eight places of every inner code word, the others have at most eight wrong bits, and each outer
 -- word has at most eight symbols with a wrong bit from a lost inner word
 pub record Premise (lost : ℕ → Bool) (payload block : List ℕ) : Type 0 where
-  pub beyond : (k : ℕ) → k < 64 → lost k ≡ true → (c : List ℕ) → isInner c ≡ true → 8 < apart (innerWord (bitAt block) k) c
+  pub lost-words : (k : ℕ) → k < 64 → lost k ≡ true → (c : List ℕ) → isInner c ≡ true → 8 < apart (innerWord (bitAt block) k) c
   pub within : (k : ℕ) → k < 64 → lost k ≡ false → wrongIn block (frameOf payload) k ≤ 8
   pub few : (w : ℕ) → w < 16 → lostSymbols lost block (frameOf payload) w ≤ 8
 

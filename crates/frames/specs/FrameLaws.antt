@@ -10,7 +10,7 @@ use Rattle.words.specs.InnerCode.{isInner, innerParity}
 use Rattle.words.specs.InnerWords.{innerData, innerWord, parityPlace}
 use Rattle.frames.specs.Frames.{isPayload, isBlock, outerWord, frameOf, payloadPlace, payloadOf}
 use Rattle.frames.specs.Answers.{isFrame}
-use Rattle.frames.specs.BenchRows.{AllHold, benchRows}
+use Rattle.frames.specs.Examples.{AllHold, examples}
 
 pub record FrameLaws : Type 0 where
   -- the payload of the frame of a payload is that payload
@@ -29,5 +29,5 @@ pub record FrameLaws : Type 0 where
   -- parity bit p of inner word k is frame bit 124,928 + 64 p + k
   pub parity-bits : (payload : List ℕ) (p k : ℕ) → isPayload payload ≡ true → p < 88 → k < 64
       → bitAt (frameOf payload) (parityPlace p k) ≡ at (innerParity (innerData (bitAt (frameOf payload)) k)) p
-  -- document 01's bench rows
-  pub bench : AllHold benchRows
+  -- document 01's examples
+  pub examples-hold : AllHold examples

@@ -37,16 +37,16 @@ outerWord payload w = outerData payload w ++ outerParity (outerData payload w)
 unfoldable pub outerWords : List ℕ → List (List ℕ)
 outerWords payload = tabulate 16 (outerWord payload)
 
--- sixteen words stand in a row of 781 symbols each, ten bits a symbol: bit r of the row
-unfoldable pub rowBit : List (List ℕ) → ℕ → ℕ
-rowBit words r = bitOf 10 (at (getD words (r / 7810) []) (r % 7810 / 10)) (r % 10)
+-- the outer symbols are those of sixteen words one after the other, 781 each, ten bits a symbol: bit r of them
+unfoldable pub outerBit : List (List ℕ) → ℕ → ℕ
+outerBit words r = bitOf 10 (at (getD words (r / 7810) []) (r % 7810 / 10)) (r % 10)
 
--- the padding bits, 124,768 and 124,769 of the row, are not sent: frame bit i below 124,928 is bit `rowPlace i` of the row
-unfoldable pub rowPlace : ℕ → ℕ
-rowPlace i = cond (ltb i 124768) i (i + 2)
+-- the padding bits, 124,768 and 124,769 of the outer symbols, are not sent: frame bit i below 124,928 is bit `outerPlace i` of them
+unfoldable pub outerPlace : ℕ → ℕ
+outerPlace i = cond (ltb i 124768) i (i + 2)
 
 unfoldable pub sentBit : List (List ℕ) → ℕ → ℕ
-sentBit words i = rowBit words (rowPlace i)
+sentBit words i = outerBit words (outerPlace i)
 
 -- the frame of sixteen outer words, and of a payload
 unfoldable pub frameOfWords : List (List ℕ) → List ℕ

@@ -1,8 +1,8 @@
--- Frames: the definitions in document 01's order, correction, what the entries answer, the bench rows, and what is proved: `Demands` lists it all.
+-- Frames: the definitions in document 01's order, correction, what the entries answer, the examples, and what is proved: `Demands` lists it all.
 pub mod Frames
 pub mod Correction
 pub mod Answers
-pub mod BenchRows
+pub mod Examples
 pub mod FrameLaws
 pub mod Demands
 -- need not be believed: what the functions below the entries give

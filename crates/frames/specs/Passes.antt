@@ -1,4 +1,4 @@
--- What the functions give that correct a block: its inner words one by one, the outer words of its row, and the report.
+-- What the functions give that correct a block: its inner words one by one, its outer words, and the report.
 use mathlib.Core.Path.{_≡_}
 use mathlib.Core.Bool.{Bool, true, false, cond}
 use mathlib.Core.List.{List}
@@ -8,7 +8,7 @@ use lib.ListN.{length}
 use Rattle.fields.specs.Lists.{tabulate}
 use Rattle.words.specs.Nearest.{nearest}
 use Rattle.frames.specs.Correction.{isPermitted}
-use Rattle.frames.specs.Symbols.{rowWord}
+use Rattle.frames.specs.Symbols.{wordIn}
 
 -- ---- outer words
 
@@ -21,12 +21,12 @@ unfoldable pub written : List ℕ → Option (List ℕ) → Bool × List ℕ
 written buffer none = (false, buffer)
 written buffer (some answer) = (true, answer)
 
--- outer word w of a row becomes the permitted code word within eight symbols, if there is one, and the other words are as they were
+-- outer word w of outer symbols becomes the permitted code word within eight symbols, if there is one, and the other words are as they were
 pub record WordRestored (w : ℕ) (before after : List ℕ) (r : Bool) : Type 0 where
   pub long : length after ≡ length before
-  pub word : provided r (rowWord after w) ≡ nearest (isPermitted w) 1024 8 (rowWord before w)
-  pub others : (v : ℕ) → v < 16 → (v ≡ w → ⊥) → rowWord after v ≡ rowWord before v
+  pub word : provided r (wordIn after w) ≡ nearest (isPermitted w) 1024 8 (wordIn before w)
+  pub others : (v : ℕ) → v < 16 → (v ≡ w → ⊥) → wordIn after v ≡ wordIn before v
 
--- the sixteen words of a row
-unfoldable pub rowWords : List ℕ → List (List ℕ)
-rowWords row = tabulate 16 (rowWord row)
+-- the sixteen words of outer symbols
+unfoldable pub wordsIn : List ℕ → List (List ℕ)
+wordsIn outer = tabulate 16 (wordIn outer)

@@ -1,4 +1,4 @@
--- What a received block holds: the row of its outer words, and whether they are code words. b is the block's bits.
+-- What a received block holds: its outer symbols, and whether they are code words. b is the block's bits.
 use mathlib.Core.Bool.{Bool}
 use mathlib.Core.List.{List}
 use Prim.Native.Nat.{ℕ}
@@ -8,9 +8,9 @@ use Rattle.fields.specs.Places.{at, every}
 use Rattle.words.specs.OuterCode.{generator, divided, isOuter}
 use Rattle.frames.specs.Correction.{receivedSymbol, receivedWord}
 
--- the row
-unfoldable pub receivedRow : (ℕ → ℕ) → List ℕ
-receivedRow b = tabulate 12496 (receivedSymbol b)
+-- the outer symbols
+unfoldable pub receivedSymbols : (ℕ → ℕ) → List ℕ
+receivedSymbols b = tabulate 12496 (receivedSymbol b)
 
 -- the division register after the first n symbols of outer word w
 unfoldable pub dividedTo : (ℕ → ℕ) → ℕ → ℕ → List ℕ

@@ -1,4 +1,4 @@
--- What the functions on bits and on the row of outer words give.
+-- What the functions on bits and on the outer symbols give.
 use mathlib.Core.Path.{_≡_}
 use mathlib.Core.List.{List, []}
 use Prim.Native.Nat.{ℕ, _+_, _*_, _/_, _%_, _<_}
@@ -6,7 +6,7 @@ use lib.ListN.{length, getD}
 use Rattle.fields.specs.Lists.{tabulate}
 use Rattle.fields.specs.Places.{at}
 use Rattle.words.specs.Bits.{bitOf, numberOf, bitAt}
-use Rattle.frames.specs.Frames.{dataIn, rowPlace}
+use Rattle.frames.specs.Frames.{dataIn, outerPlace}
 
 -- the byte that eight of the twenty bits of two symbols make, from bit i on
 unfoldable pub byteAt : ℕ → ℕ → ℕ → ℕ
@@ -23,14 +23,14 @@ partsOf n m b i = tabulate m (λ s. numberAt n b (i + n * s))
 unfoldable pub partFrom : (ℕ → ℕ) → ℕ → ℕ → List ℕ
 partFrom f k n = tabulate n (λ m. f (k + m))
 
--- sixteen outer words stand in the row, 781 places each
-pub record InRow (words : List (List ℕ)) (row : List ℕ) : Type 0 where
-  pub long : length row ≡ 12496
-  pub place : (w s : ℕ) → w < 16 → s < dataIn w + 16 → at row (781 * w + s) ≡ at (getD words w []) s
+-- sixteen outer words stand in the outer symbols, 781 places each
+pub record Concatenated (words : List (List ℕ)) (outer : List ℕ) : Type 0 where
+  pub long : length outer ≡ 12496
+  pub place : (w s : ℕ) → w < 16 → s < dataIn w + 16 → at outer (781 * w + s) ≡ at (getD words w []) s
 
--- outer word w of a row
-unfoldable pub rowWord : List ℕ → ℕ → List ℕ
-rowWord row w = tabulate (dataIn w + 16) (λ s. at row (781 * w + s))
+-- outer word w of outer symbols
+unfoldable pub wordIn : List ℕ → ℕ → List ℕ
+wordIn outer w = tabulate (dataIn w + 16) (λ s. at outer (781 * w + s))
 
 -- bit i of the symbols f 0, f 1, ..; and the byte that eight bits make, from bit i on
 unfoldable pub symbolBit : (ℕ → ℕ) → ℕ → ℕ
@@ -39,21 +39,21 @@ symbolBit f i = bitOf 10 (f (i / 10)) (i % 10)
 unfoldable pub symbolByte : (ℕ → ℕ) → ℕ → ℕ
 symbolByte f i = numberOf 8 (λ j. symbolBit f (i + j))
 
--- the bits of the row that are sent are the first in the buffer
-pub record Sent (row out : List ℕ) : Type 0 where
+-- the bits of the outer symbols that are sent are the first in the buffer
+pub record Sent (outer out : List ℕ) : Type 0 where
   pub long : length out ≡ 16320
-  pub bits : (i : ℕ) → i < 124928 → bitAt out i ≡ symbolBit (at row) (rowPlace i)
+  pub bits : (i : ℕ) → i < 124928 → bitAt out i ≡ symbolBit (at outer) (outerPlace i)
 
--- data symbol u of all outer words stands at this place of the row
+-- data symbol u of all outer words stands at this place of the outer symbols
 unfoldable pub dataPlace : ℕ → ℕ
 dataPlace u = 781 * (u / 765) + u % 765
 
 unfoldable pub dataSymbol : List ℕ → ℕ → ℕ
-dataSymbol row u = at row (dataPlace u)
+dataSymbol outer u = at outer (dataPlace u)
 
--- the payload in a row
+-- the payload in outer symbols
 unfoldable pub payloadByte : List ℕ → ℕ → ℕ
-payloadByte row k = symbolByte (dataSymbol row) (8 * k)
+payloadByte outer k = symbolByte (dataSymbol outer) (8 * k)
 
 -- four data symbols are five payload bytes: the bytes of those that end before outer word w, and that end with it
 unfoldable pub startOf : ℕ → ℕ
@@ -62,5 +62,5 @@ startOf w = 5 * (765 * w / 4)
 unfoldable pub endOf : ℕ → ℕ
 endOf w = 5 * ((765 * w + dataIn w) / 4)
 
-unfoldable pub payloadInRow : List ℕ → List ℕ
-payloadInRow row = tabulate 15296 (payloadByte row)
+unfoldable pub payloadIn : List ℕ → List ℕ
+payloadIn outer = tabulate 15296 (payloadByte outer)

@@ -1,12 +1,12 @@
 // Frames of G.975.1, appendix I.4: the frame of a payload, whether a block is a frame, the payload of a frame, and the frame restored from a received block.
 //
-//     encode   the payload's bits, ten to a symbol, make sixteen outer words with their parity symbols, which stand in a row (module outer_words); the row's
+//     encode   the payload's bits, ten to a symbol, make sixteen outer words with their parity symbols, the outer symbols (module outer_words); their
 //              bits, but for the two padding bits, are the frame's first bytes; the parity bits of the 64 inner words follow (crate inner_words)
 //     check    a frame is a block whose outer words (module outer_test) and inner words are all code words
-//     extract  after the same test, the block's bytes make the row again, and its data symbols are the payload
+//     extract  after the same test, the block's bytes make the outer symbols again, and the data symbols among them are the payload
 //     correct  inner pass: the inner words of a copy of the block that are no code words become the code words within eight places, those that have none
 //              stay; outer pass: the copy's bytes make one outer word after the other, which becomes the code word within eight symbols; if each has one,
-//              the row of them is sent and parity bits are made as in encoding, and the report compares block and frame (module comparison); a copy that is
+//              they are sent and parity bits are made as in encoding, and the report compares block and frame (module comparison); a copy that is
 //              a frame after the inner pass is the answer as it stands
 //
 // Every input is answered: an entry returns 0, or the number of the refusal; a refusal leaves the output buffer as it was. Where there is more than one
@@ -46,8 +46,8 @@ impl Frame {
 
     pub const LAST_DATA_SYMBOLS: usize = 762;
 
-    // The row of outer words, in symbols.
-    pub const ROW: usize = Frame::WORDS * Frame::WORD_SYMBOLS;
+    // The symbols of all outer words.
+    pub const OUTER_SYMBOLS: usize = Frame::WORDS * Frame::WORD_SYMBOLS;
 
     pub const SYMBOL_BITS: usize = 10;
 
@@ -74,9 +74,9 @@ pub fn encode_frame(payload: &[u8], out: &mut [u8]) -> u8
     if out.len() != Frame::BYTES {
         return 3;
     }
-    let mut row = outer_words::blank();
-    outer_words::encode(payload, &mut row);
-    outer_words::send(&row, out);
+    let mut outer = outer_words::blank();
+    outer_words::encode(payload, &mut outer);
+    outer_words::send(&outer, out);
     inner_words::encode(out);
     0
 }
@@ -116,9 +116,9 @@ pub fn extract_payload(block: &[u8], out: &mut [u8]) -> u8
     if !is_frame(block) {
         return 4;
     }
-    let mut row = outer_words::blank();
-    outer_words::receive(block, &mut row);
-    outer_words::extract(&row, out);
+    let mut outer = outer_words::blank();
+    outer_words::receive(block, &mut outer);
+    outer_words::extract(&outer, out);
     0
 }
 
@@ -153,11 +153,11 @@ fn outer_pass(passed: &[u8], inner: bool, out: &mut [u8]) -> bool
             return true;
         }
     }
-    let mut row = outer_words::blank();
-    if !outer_words::correct(passed, &mut row) {
+    let mut outer = outer_words::blank();
+    if !outer_words::correct(passed, &mut outer) {
         return false;
     }
-    outer_words::send(&row, out);
+    outer_words::send(&outer, out);
     inner_words::encode(out);
     true
 }

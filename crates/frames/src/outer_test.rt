@@ -10,7 +10,7 @@ ghost use Prim.Native.Nat.{_+_, _^_, _≤_, _<_};
 ghost use lib.ListN.{length};
 ghost use Rattle.words.specs.Bits.{bitAt};
 ghost use Rattle.words.specs.OuterCode.{isOuter};
-ghost use Rattle.words.specs.SixSymbols.{joinedFrom, Packs, parities};
+ghost use Rattle.words.specs.SixSymbols.{joinedFrom, Packs, digitParities};
 ghost use Rattle.frames.specs.Frames.{dataIn};
 ghost use Rattle.frames.specs.Correction.{receivedWord};
 ghost use Rattle.frames.specs.Received.{dividedTo, outerCodes};
@@ -42,7 +42,7 @@ fn parity_symbols(block: &[u8], w: usize, i: usize, n: usize) -> u64
 
 // The register after the first n symbols of outer word w.
 fn first_symbols(table: &[u64], block: &[u8], w: usize, n: usize) -> Packed
-    requires { ⌜ (now table ≡ parities) × (length (now block) ≡ 16320) × (w < 16) × (n < 6) ⌝ }
+    requires { ⌜ (now table ≡ digitParities) × (length (now block) ≡ 16320) × (w < 16) × (n < 6) ⌝ }
     ensures { λ r. ⌜ Packs (r .high) (r .middle) (r .low) (dividedTo (bitAt (now (block .entry))) w n) ⌝ }
 {
     packed::six_parity(table, data_symbols(block, w, 0, n))
@@ -50,7 +50,7 @@ fn first_symbols(table: &[u64], block: &[u8], w: usize, n: usize) -> Packed
 
 // The register after six data symbols more, from symbol i on.
 fn six_more(table: &[u64], block: &[u8], w: usize, i: usize, p: Packed) -> Packed
-    requires { ⌜ (now table ≡ parities) × (length (now block) ≡ 16320) × (w < 16) × (i + 6 ≤ dataIn w) × (i ≤ 765) ⌝ }
+    requires { ⌜ (now table ≡ digitParities) × (length (now block) ≡ 16320) × (w < 16) × (i + 6 ≤ dataIn w) × (i ≤ 765) ⌝ }
     requires { ⌜ Packs (p .high) (p .middle) (p .low) (dividedTo (bitAt (now block)) w i) ⌝ }
     ensures { λ r. ⌜ Packs (r .high) (r .middle) (r .low) (dividedTo (bitAt (now (block .entry))) w (i + 6)) ⌝ }
 {
@@ -59,7 +59,7 @@ fn six_more(table: &[u64], block: &[u8], w: usize, i: usize, p: Packed) -> Packe
 
 // The parity of the data symbols of outer word w: the register after all of them.
 fn divide(table: &[u64], block: &[u8], w: usize) -> Packed
-    requires { ⌜ (now table ≡ parities) × (length (now block) ≡ 16320) × (w < 16) ⌝ }
+    requires { ⌜ (now table ≡ digitParities) × (length (now block) ≡ 16320) × (w < 16) ⌝ }
     ensures { λ r. ⌜ Packs (r .high) (r .middle) (r .low) (dividedTo (bitAt (now (block .entry))) w (dataIn w)) ⌝ }
 {
     let end = outer_words::data_in(w);
@@ -87,7 +87,7 @@ fn ends_with(block: &[u8], w: usize, p: Packed) -> bool
 }
 
 fn is_code_word(table: &[u64], block: &[u8], w: usize) -> bool
-    requires { ⌜ (now table ≡ parities) × (length (now block) ≡ 16320) × (w < 16) ⌝ }
+    requires { ⌜ (now table ≡ digitParities) × (length (now block) ≡ 16320) × (w < 16) ⌝ }
     ensures { λ r. ⌜ r ≡ isOuter (receivedWord (bitAt (now (block .entry))) w) ⌝ }
 {
     ends_with(block, w, divide(table, block, w))
@@ -101,7 +101,7 @@ struct Two {
 
 // The parities of the data symbols of outer words w and w + 1, neither of them the last: a step of the one does not wait for that of the other.
 fn divide_two(table: &[u64], block: &[u8], w: usize) -> Two
-    requires { ⌜ (now table ≡ parities) × (length (now block) ≡ 16320) × (w + 1 < 15) ⌝ }
+    requires { ⌜ (now table ≡ digitParities) × (length (now block) ≡ 16320) × (w + 1 < 15) ⌝ }
     ensures first { λ r. ⌜ Packs (r .first .high) (r .first .middle) (r .first .low) (dividedTo (bitAt (now (block .entry))) w 765) ⌝ }
     ensures second { λ r. ⌜ Packs (r .second .high) (r .second .middle) (r .second .low) (dividedTo (bitAt (now (block .entry))) (w + 1) 765) ⌝ }
 {
@@ -118,7 +118,7 @@ fn divide_two(table: &[u64], block: &[u8], w: usize) -> Two
 
 // Whether outer words w and w + 1 are code words.
 fn are_two(table: &[u64], block: &[u8], w: usize) -> bool
-    requires { ⌜ (now table ≡ parities) × (length (now block) ≡ 16320) × (w + 1 < 15) ⌝ }
+    requires { ⌜ (now table ≡ digitParities) × (length (now block) ≡ 16320) × (w + 1 < 15) ⌝ }
     ensures { λ r. ⌜ r ≡ (isOuter (receivedWord (bitAt (now (block .entry))) w) && isOuter (receivedWord (bitAt (now (block .entry))) (w + 1))) ⌝ }
 {
     let two = divide_two(table, block, w);

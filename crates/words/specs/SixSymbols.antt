@@ -29,25 +29,25 @@ pub record Packs (high middle low : ℕ) (cells : List ℕ) : Type 0 where
   pub low-six : low ≡ six cells 12
 
 -- number k of the three; and the sixteen cells that they are
-unfoldable pub numberAt : ℕ → ℕ → ℕ → ℕ → ℕ
-numberAt high middle low zero = high
-numberAt high middle low (suc zero) = middle
-numberAt high middle low (suc (suc k)) = low
+unfoldable pub packedNumber : ℕ → ℕ → ℕ → ℕ → ℕ
+packedNumber high middle low zero = high
+packedNumber high middle low (suc zero) = middle
+packedNumber high middle low (suc (suc k)) = low
 
 unfoldable pub unpacked : ℕ → ℕ → ℕ → List ℕ
-unpacked high middle low = tabulate 16 (λ i. symbolOf (numberAt high middle low (i / 6)) (i % 6))
+unpacked high middle low = tabulate 16 (λ i. symbolOf (packedNumber high middle low (i / 6)) (i % 6))
 
 -- the parity of six symbols in a number
 unfoldable pub sixParity : ℕ → List ℕ
 sixParity x = divided timesA 16 (at generator) (symbolOf x) 6
 
--- The table has a row of 64 entries for each of the three numbers of a register and each of the ten digits of six bits that six symbols have:
--- row 10 k + d has number k of the parity of the digit v at the place of digit d
+-- The table has 64 entries for each of the three numbers of a register and each of the ten digits of six bits that six symbols have:
+-- those from 64 (10 k + d) on have number k of the parity of the digit v at the place of digit d
 unfoldable pub parityEntry : ℕ → ℕ
 parityEntry n = six (sixParity (n % 64 * 2 ^ (6 * (n / 64 % 10)))) (6 * (n / 640))
 
-unfoldable pub parities : List ℕ
-parities = tabulate 1920 parityEntry
+unfoldable pub digitParities : List ℕ
+digitParities = tabulate 1920 parityEntry
 
 -- the parities of the sixty single bits, from which the entries are added up: the sixty first numbers, then the middle and the low ones
 unfoldable pub unitParities : List ℕ

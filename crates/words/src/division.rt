@@ -1,5 +1,5 @@
 // Division of outer words by the generator, a symbol at a step. A step takes a multiple of the generator away. An element is the sum
-// of a low and a high digit of five bits, so a step adds a row of sixteen symbols for each digit, from two tables that are made once, and multiplies nothing.
+// of a low and a high digit of five bits, so a step adds sixteen symbols for each digit, from two tables that are made once, and multiplies nothing.
 use crate::Outer;
 use crate::reed_solomon;
 use decoding::symbols::sum;
@@ -17,7 +17,7 @@ const DIGITS: u16 = 32;
 
 const CELLS: usize = DIGITS as usize * Outer::PARITY;
 
-// The multiples of the generator by `unit` times each digit, without their leading coefficients: row k is that of the digit k.
+// The multiples of the generator by `unit` times each digit, without their leading coefficients: sixteen symbols for each digit.
 fn multiples(unit: u16) -> [u16; CELLS]
     requires { ⌜ unit ≤ 32 ⌝ }
     ensures { λ r. ⌜ r ≡ multiples unit ⌝ }
@@ -25,14 +25,14 @@ fn multiples(unit: u16) -> [u16; CELLS]
     let exp = fields::exp_a();
     let log = fields::log_a();
     let generator = reed_solomon::generator();
-    let mut rows = [0u16; CELLS];
+    let mut table = [0u16; CELLS];
     let mut n: usize = 0;
     while n < CELLS {
         let k = (n / Outer::PARITY) as u16;
-        rows[n] = fields::product(&exp, &log, unit * k, generator[n % Outer::PARITY + 1]);
+        table[n] = fields::product(&exp, &log, unit * k, generator[n % Outer::PARITY + 1]);
         n += 1;
     }
-    rows
+    table
 }
 
 // The multiples by the low digits.

@@ -14,7 +14,7 @@ ghost use Rattle.fields.specs.Places.{at, allBelow};
 ghost use Rattle.decoding.specs.ByTables.{rootValues};
 ghost use Rattle.words.specs.OuterCode.{outerParity};
 ghost use Rattle.words.specs.Division.{outerRemainder};
-ghost use Rattle.words.specs.SixSymbols.{joinedFrom, symbolOf, six, Packs, numberAt, unpacked, sixParity, parityEntry, parities, unitParities, Stored};
+ghost use Rattle.words.specs.SixSymbols.{joinedFrom, symbolOf, six, Packs, packedNumber, unpacked, sixParity, parityEntry, digitParities, unitParities, Stored};
 
 // So many symbols are taken at a step.
 pub const SYMBOLS: usize = 6;
@@ -28,24 +28,24 @@ pub const LAST_SYMBOLS: usize = Outer::PARITY - 2 * SYMBOLS;
 
 pub const LAST_ZEROS: usize = SYMBOL_BITS * (SYMBOLS - LAST_SYMBOLS);
 
-// Six symbols have so many digits of six bits, and a digit has so many values: a row of the table for each digit.
+// Six symbols have so many digits of six bits, and a digit has so many values: so many entries of the table for each digit.
 const DIGITS: usize = 10;
 
 const DIGIT_BITS: usize = 6;
 
-const ROW: usize = 64;
+const DIGIT_VALUES: usize = 64;
 
 const DIGIT_MASK: u64 = 63;
 
 // The table has three parts, one for each number of a register.
-const PART: usize = DIGITS * ROW;
+const PART: usize = DIGITS * DIGIT_VALUES;
 
-const ROWS: usize = 3 * DIGITS;
+const TABLE_DIGITS: usize = 3 * DIGITS;
 
 const ENTRIES: usize = 3 * PART;
 
 // The parities of the sixty single bits of six symbols, the lowest first: the first numbers of all, the middle ones, the low ones.
-const UNITS: [u64; ROWS * DIGIT_BITS] = [
+const UNITS: [u64; TABLE_DIGITS * DIGIT_BITS] = [
     640116682400607213,
     136310254757771219,
     272620509515541423,
@@ -228,7 +228,7 @@ const UNITS: [u64; ROWS * DIGIT_BITS] = [
     374914975425101824,
 ];
 
-fn units() -> [u64; ROWS * DIGIT_BITS]
+fn units() -> [u64; TABLE_DIGITS * DIGIT_BITS]
     ensures { λ r. ⌜ r ≡ unitParities ⌝ }
 {
     UNITS
@@ -253,13 +253,13 @@ fn blank() -> [u64; ENTRIES]
     [0; ENTRIES]
 }
 
-// Stores the entries of row r for the digits whose highest bit is bit b: each is the entry without that bit, plus that of the bit alone.
+// Stores the entries of digit r of the table for the values whose highest bit is bit b: each is the entry without that bit, plus that of the bit alone.
 fn store_bit(unit: u64, r: usize, b: usize, table: &mut [u64])
     requires { ⌜ (r < 30) × (b < 6) × (unit ≡ parityEntry (64 * r + 2 ^ b)) × Stored (64 * r + 2 ^ b) (now table) ⌝ }
     ensures { λ _. ⌜ Stored (64 * r + 2 ^ (b + 1)) (now (table .exit)) ⌝ }
 {
     let n: usize = 1 << b;
-    let from = ROW * r;
+    let from = DIGIT_VALUES * r;
     let mut v: usize = 0;
     while v < n {
         table[from + n + v] = plus(table[from + v], unit);
@@ -267,12 +267,12 @@ fn store_bit(unit: u64, r: usize, b: usize, table: &mut [u64])
     }
 }
 
-// Stores row r.
-fn store_row(units: &[u64], r: usize, table: &mut [u64])
+// Stores the entries of digit r.
+fn store_digit(units: &[u64], r: usize, table: &mut [u64])
     requires { ⌜ (r < 30) × (now units ≡ unitParities) × Stored (64 * r) (now table) ⌝ }
     ensures { λ _. ⌜ Stored (64 * (r + 1)) (now (table .exit)) ⌝ }
 {
-    table[ROW * r] = 0;
+    table[DIGIT_VALUES * r] = 0;
     let mut b: usize = 0;
     while b < DIGIT_BITS {
         store_bit(units[DIGIT_BITS * r + b], r, b, table);
@@ -282,18 +282,18 @@ fn store_row(units: &[u64], r: usize, table: &mut [u64])
 
 fn fill(units: &[u64], table: &mut [u64])
     requires { ⌜ (now units ≡ unitParities) × (length (now table) ≡ 1920) ⌝ }
-    ensures { λ _. ⌜ now (table .exit) ≡ parities ⌝ }
+    ensures { λ _. ⌜ now (table .exit) ≡ digitParities ⌝ }
 {
     let mut r: usize = 0;
-    while r < ROWS {
-        store_row(units, r, table);
+    while r < TABLE_DIGITS {
+        store_digit(units, r, table);
         r += 1;
     }
 }
 
 // The parities of the digits.
 pub fn table() -> [u64; ENTRIES]
-    ensures { λ r. ⌜ r ≡ parities ⌝ }
+    ensures { λ r. ⌜ r ≡ digitParities ⌝ }
 {
     let units = units();
     let mut table = blank();
@@ -354,7 +354,7 @@ impl Packed {
 
     // The register after six symbols more.
     pub fn next(self, table: &[u64], x: u64) -> Self
-        requires { ⌜ (now table ≡ parities) × (self .high < 2 ^ 60) × (x < 2 ^ 60) ⌝ }
+        requires { ⌜ (now table ≡ digitParities) × (self .high < 2 ^ 60) × (x < 2 ^ 60) ⌝ }
         ensures { λ r. ⌜ (r .high ≡ xor (self .middle) (six (sixParity (xor (self .high) x)) 0)) × (r .middle ≡ xor (self .low) (six (sixParity (xor (self .high) x)) 6)) × (r .low ≡ six (sixParity (xor (self .high) x)) 12) ⌝ }
     {
         let p = six_parity(table, plus(self.high, x));
@@ -376,13 +376,13 @@ fn digit(x: u64, d: usize) -> usize
 
 // The parity of six symbols, as they stand in x.
 pub fn six_parity(table: &[u64], x: u64) -> Packed
-    requires { ⌜ (now table ≡ parities) × (x < 2 ^ 60) ⌝ }
+    requires { ⌜ (now table ≡ digitParities) × (x < 2 ^ 60) ⌝ }
     ensures { λ r. ⌜ Packs (r .high) (r .middle) (r .low) (sixParity x) ⌝ }
 {
     let mut p = Packed::empty();
     let mut d: usize = 0;
     while d < DIGITS {
-        p = p.with_digit(table, ROW * d + digit(x, d));
+        p = p.with_digit(table, DIGIT_VALUES * d + digit(x, d));
         d += 1;
     }
     p
@@ -391,7 +391,7 @@ pub fn six_parity(table: &[u64], x: u64) -> Packed
 // The register after all symbols of data: the parity symbols. The first symbols, so many that sixes remain, stand in a number with zeros before them: zeros
 // leave the register empty.
 fn divide(table: &[u64], data: &[u16]) -> Packed
-    requires { ⌜ (now table ≡ parities) × (allBelow 1024 (now «data») ≡ true) ⌝ }
+    requires { ⌜ (now table ≡ digitParities) × (allBelow 1024 (now «data») ≡ true) ⌝ }
     ensures { λ r. ⌜ Packs (r .high) (r .middle) (r .low) (outerParity (now («data» .entry))) ⌝ }
 {
     let mut i = data.len() % SYMBOLS;
@@ -412,7 +412,7 @@ fn symbol(x: u64, i: usize) -> u16
 }
 
 fn number(p: Packed, k: usize) -> u64
-    ensures { λ r. ⌜ r ≡ numberAt (p .high) (p .middle) (p .low) k ⌝ }
+    ensures { λ r. ⌜ r ≡ packedNumber (p .high) (p .middle) (p .low) k ⌝ }
 {
     if k == 0 {
         return p.high;
@@ -438,7 +438,7 @@ fn unpacked(p: Packed) -> [u16; Outer::PARITY]
 
 // The parity symbols of data.
 pub fn parity(table: &[u64], data: &[u16]) -> [u16; Outer::PARITY]
-    requires { ⌜ (now table ≡ parities) × (allBelow 1024 (now «data») ≡ true) ⌝ }
+    requires { ⌜ (now table ≡ digitParities) × (allBelow 1024 (now «data») ≡ true) ⌝ }
     ensures { λ r. ⌜ r ≡ outerParity (now («data» .entry)) ⌝ }
 {
     unpacked(divide(table, data))
@@ -446,7 +446,7 @@ pub fn parity(table: &[u64], data: &[u16]) -> [u16; Outer::PARITY]
 
 // The remainder of a word after division by the generator: the parity of all but the last sixteen symbols, and these, added. It is zero for a code word.
 pub fn remainder(table: &[u64], word: &[u16]) -> Packed
-    requires { ⌜ (now table ≡ parities) × (16 ≤ length (now word)) × (allBelow 1024 (now word) ≡ true) ⌝ }
+    requires { ⌜ (now table ≡ digitParities) × (16 ≤ length (now word)) × (allBelow 1024 (now word) ≡ true) ⌝ }
     ensures { λ r. ⌜ Packs (r .high) (r .middle) (r .low) (outerRemainder (now (word .entry))) ⌝ }
 {
     let from = word.len() - Outer::PARITY;

@@ -79,7 +79,7 @@ module _ (block : List ℕ) (long : length block ≡ 130560) (bits : allBits blo
     premise : Premise (λ k. isIn k lost) payload bytes
     premise =
         record {
-          beyond = lost-beyond;
+          lost-words = lost-beyond;
           within = λ k l t. subst (λ (n : ℕ). n ≤ 8)
               (count-agrees block (frameOf payload) bytes frame same same-sent k l ∙ wrong-in bytes frame k) (within k l t);
           few = λ w l. subst (λ (n : ℕ). n ≤ 8) (lost-symbols-agree lost block (frameOf payload) bytes frame same same-sent w l) (few w l);

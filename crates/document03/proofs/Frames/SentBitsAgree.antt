@@ -8,7 +8,7 @@ use lib.Seq.{getD-take, getD-drop, length-take-le}
 use Rattle.fields.specs.Places.{at}
 use Rattle.fields.proofs.Places.Placing.{append-at}
 use Rattle.words.specs.Bits.{bitOf}
-use Rattle.frames.specs.Frames.{dataIn, rowBit, rowPlace, sentBit}
+use Rattle.frames.specs.Frames.{dataIn, outerBit, outerPlace, sentBit}
 use Rattle.frames.proofs.FrameBits.{dataIn-first, place-first, place-last, place-near}
 use Rattle.document03.proofs.Words.Statements.{bitsFrom}
 use Rattle.document03.proofs.Words.BitRegister.{bits-length, bits-at}
@@ -32,16 +32,16 @@ symbol-bit (s ∷ ss) i h =
     symbol-bit ss (i - 10) (omega arith) ∙ rw (q, r))
 
 -- our row of words: the bits of the first word, and those of the others
-row-first : (ss : List ℕ) (rest : List (List ℕ)) (r : ℕ) → r < 7810 → rowBit (ss ∷ rest) r ≡ bitOf 10 (at ss (r / 10)) (r % 10)
-unfolding rowBit
-row-first ss rest r h =
+symbols-first : (ss : List ℕ) (rest : List (List ℕ)) (r : ℕ) → r < 7810 → outerBit (ss ∷ rest) r ≡ bitOf 10 (at ss (r / 10)) (r % 10)
+unfolding outerBit
+symbols-first ss rest r h =
     let q : r / 7810 ≡ 0 = omega arith in
     let m : r % 7810 ≡ r = omega arith in
     rw (q, m)
 
-row-rest : (ss : List ℕ) (rest : List (List ℕ)) (r : ℕ) → rowBit (ss ∷ rest) (7810 + r) ≡ rowBit rest r
-unfolding rowBit
-row-rest ss rest r =
+symbols-rest : (ss : List ℕ) (rest : List (List ℕ)) (r : ℕ) → outerBit (ss ∷ rest) (7810 + r) ≡ outerBit rest r
+unfolding outerBit
+symbols-rest ss rest r =
     let q : (7810 + r) / 7810 ≡ suc (r / 7810) = omega arith in
     let m : (7810 + r) % 7810 ≡ r % 7810 = omega arith in
     let t : (7810 + r) % 10 ≡ r % 10 = omega arith in
@@ -80,12 +80,12 @@ module _ (ss : List ℕ) (long : length ss ≡ 778) where
   last-bits-long : length (sentBits 15 ss) ≡ 7778
   last-bits-long = length-append (take 7618 b) (drop 7620 b) ∙ omega (arith, start-long, length-drop 7620 b, b-long)
 
-  last-bit : (i r : ℕ) → i < 7778 → rowPlace (i + 117150) ≡ r + 117150 → at (sentBits 15 ss) i ≡ rowBit (ss ∷ []) r
+  last-bit : (i r : ℕ) → i < 7778 → outerPlace (i + 117150) ≡ r + 117150 → at (sentBits 15 ss) i ≡ outerBit (ss ∷ []) r
   last-bit i r h p =
       append-at (take 7618 b) (drop 7620 b) 7618 i start-long
       (λ l. let q : i ≡ r = omega (arith, place-first (i + 117150) (omega arith)) in getD-take 7618 b i 0 l ∙ ap (at b) q)
       (λ l. let q : 7620 + (i - 7618) ≡ r = omega (arith, place-last (i + 117150) (omega arith)) in getD-drop 7620 b (i - 7618) 0 ∙ ap (at b) q)
-      ∙ symbol-bit ss r (omega (arith, place-near (i + 117150))) ∙ sym (row-first ss [] r (omega (arith, place-near (i + 117150))))
+      ∙ symbol-bit ss r (omega (arith, place-near (i + 117150))) ∙ sym (symbols-first ss [] r (omega (arith, place-near (i + 117150))))
 
 -- the bits from word w on
 module _ (w : ℕ) (ss : List ℕ) where
@@ -107,8 +107,8 @@ from-long w (ss ∷ s ∷ rest) l h =
     ap length (sent-first w ss (s ∷ rest) f) ∙ length-append (symbolBits ss) after in
     omega (arith, n, symbol-bits-long ss, first-long w f h, from-long (suc w) (s ∷ rest) (omega arith) (others h))
 
-from-at : (w : ℕ) (ws : List (List ℕ)) (i r : ℕ) → Words w ws → i + 7810 * w < 124928 → rowPlace (i + 7810 * w) ≡ r + 7810 * w
-    → at (sentFrom w ws) i ≡ rowBit ws r
+from-at : (w : ℕ) (ws : List (List ℕ)) (i r : ℕ) → Words w ws → i + 7810 * w < 124928 → outerPlace (i + 7810 * w) ≡ r + 7810 * w
+    → at (sentFrom w ws) i ≡ outerBit ws r
 from-at w [] i r h l p = absurd (omega (arith, h .count))
 from-at w (ss ∷ []) i r h l p =
     let e : w ≡ 15 = omega (arith, h .count) in
@@ -118,16 +118,16 @@ from-at w (ss ∷ s ∷ rest) i r h l p =
     ap (λ (b : List ℕ). at b i) (sent-first w ss (s ∷ rest) f)
     ∙ append-at (symbolBits ss) (sentFrom (suc w) (s ∷ rest)) 7810 i (omega (arith, symbol-bits-long ss, first-long w f h))
     (λ a. let q : i ≡ r = omega (arith, place-first (i + 7810 * w) (omega arith)) in
-    symbol-bit ss i (omega (arith, first-long w f h)) ∙ sym (row-first ss (s ∷ rest) i a) ∙ ap (rowBit (ss ∷ s ∷ rest)) q)
+    symbol-bit ss i (omega (arith, first-long w f h)) ∙ sym (symbols-first ss (s ∷ rest) i a) ∙ ap (outerBit (ss ∷ s ∷ rest)) q)
     (λ a. let c : i - 7810 + 7810 * suc w ≡ i + 7810 * w = omega arith in
-    let m : i + 7810 * w ≤ rowPlace (i + 7810 * w) = place-near (i + 7810 * w) .0 in
+    let m : i + 7810 * w ≤ outerPlace (i + 7810 * w) = place-near (i + 7810 * w) .0 in
     let q : 7810 + (r - 7810) ≡ r = omega arith in
-    from-at (suc w) (s ∷ rest) (i - 7810) (r - 7810) (others h) (omega arith) (ap rowPlace c ∙ p ∙ omega arith)
-    ∙ sym (row-rest ss (s ∷ rest) (r - 7810)) ∙ ap (rowBit (ss ∷ s ∷ rest)) q)
+    from-at (suc w) (s ∷ rest) (i - 7810) (r - 7810) (others h) (omega arith) (ap outerPlace c ∙ p ∙ omega arith)
+    ∙ sym (symbols-rest ss (s ∷ rest) (r - 7810)) ∙ ap (outerBit (ss ∷ s ∷ rest)) q)
 
 pub sent-long : (ws : List (List ℕ)) → Words 0 ws → length (sentFrom 0 ws) ≡ 124928
 sent-long ws h = omega (arith, from-long 0 ws (omega arith) h)
 
 pub sent-at : (ws : List (List ℕ)) → Words 0 ws → (i : ℕ) → i < 124928 → at (sentFrom 0 ws) i ≡ sentBit ws i
 unfolding sentBit
-sent-at ws h i l = let c : i + 7810 * 0 ≡ i = omega arith in from-at 0 ws i (rowPlace i) h (omega arith) (ap rowPlace c ∙ omega arith)
+sent-at ws h i l = let c : i + 7810 * 0 ≡ i = omega arith in from-at 0 ws i (outerPlace i) h (omega arith) (ap outerPlace c ∙ omega arith)

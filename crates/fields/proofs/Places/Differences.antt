@@ -27,7 +27,7 @@ unfolding sumTo
 sum-plus m zero f = rw (add-zero m) (omega arith)
 sum-plus m (suc n) f = rw add-suc (omega (arith, sum-plus m n f))
 
--- a sum by rows is the sum by columns
+-- a sum of sums may be taken in either order
 pub sum-grid : (m n : ℕ) (f : ℕ → ℕ) → sumTo m (λ k. sumTo n (λ p. f (m * p + k))) ≡ sumTo (m * n) f
 unfolding sumTo
 sum-grid m zero f = rw mul-zero (sum-zero m _ (λ k l. refl))

@@ -19,7 +19,7 @@ use Rattle.fields.proofs.Lists.{tabulate-at, tabulate-is, tabulate-same, tabula
 use Rattle.fields.proofs.Xor.{xor-zero-l, xor-zero-r, xor-self, xor-assoc, xor-comm, xor-four, xor-lt, xor-high, xor-shifted, additive-zero}
 use Rattle.fields.proofs.Places.Tests.{below-at}
 use Rattle.words.specs.OuterCode.{generator, shiftedIn, divided}
-use Rattle.words.specs.SixSymbols.{joined, joinedFrom, symbolOf, six, Packs, numberAt, unpacked, sixParity, parityEntry, parities}
+use Rattle.words.specs.SixSymbols.{joined, joinedFrom, symbolOf, six, Packs, packedNumber, unpacked, sixParity, parityEntry, digitParities}
 use Rattle.words.proofs.Codes.Horner.{Additive, horner-same, horner-sum, horner-zero}
 use Rattle.words.proofs.Codes.TableValues.{divided-lt}
 use Rattle.words.proofs.Codes.Division.{divided-length}
@@ -246,8 +246,8 @@ entry-is k d v hd hv =
     let ev : n % 64 ≡ v = omega arith in
     rw (ek, ed, ev)
 
-entry-at : (k d v : ℕ) → k < 3 → d < 10 → v < 64 → at parities (640 * k + (64 * d + v)) ≡ six (sixParity (v * 2 ^ (6 * d))) (6 * k)
-unfolding parities
+entry-at : (k d v : ℕ) → k < 3 → d < 10 → v < 64 → at digitParities (640 * k + (64 * d + v)) ≡ six (sixParity (v * 2 ^ (6 * d))) (6 * k)
+unfolding digitParities
 entry-at k d v hk hd hv = tabulate-at 1920 parityEntry (640 * k + (64 * d + v)) 0 (omega arith) ∙ entry-is k d v hd hv
 
 -- one digit more
@@ -260,21 +260,21 @@ module _ (x d : ℕ) (few : d < 10) where
       let e : 6 * (d + 1) ≡ 6 + 6 * d = omega arith in
       rw e (mod-pow-add x 6 (6 * d) ∙ sym (xor-shifted digit (6 * d) (x % 2 ^ (6 * d)) (mod-lt x (pow-pos (6 * d)))))
 
-  pub six-digit : (k v : ℕ) → k < 3 → v ≡ digit → six (sixParity (x % 2 ^ (6 * (d + 1)))) (6 * k) ≡ xor (six (sixParity (x % 2 ^ (6 * d))) (6 * k)) (at parities (640 * k + (64 * d + v)))
+  pub six-digit : (k v : ℕ) → k < 3 → v ≡ digit → six (sixParity (x % 2 ^ (6 * (d + 1)))) (6 * k) ≡ xor (six (sixParity (x % 2 ^ (6 * d))) (6 * k)) (at digitParities (640 * k + (64 * d + v)))
   six-digit k v hk ev =
       ap (λ (y : ℕ). six (sixParity y) (6 * k)) digit-more ∙ parity-sum (6 * k) _ _ ∙ xor-comm _ _
       ∙ ap (xor (six (sixParity (x % 2 ^ (6 * d))) (6 * k))) (sym (rw ev (entry-at k d digit hk few (mod-lt (x / 2 ^ (6 * d)) (lit< tt)))))
 
 -- the symbols of numbers are the cells that they pack
 module _ (h m l : ℕ) (cells : List ℕ) (long : length cells ≡ 16) (small : (i : ℕ) → at cells i < 1024) (p : Packs h m l cells) where
-  number-six : (k : ℕ) → k < 3 → numberAt h m l k ≡ six cells (6 * k)
-  unfolding numberAt
+  number-six : (k : ℕ) → k < 3 → packedNumber h m l k ≡ six cells (6 * k)
+  unfolding packedNumber
   number-six zero b = p .high-six
   number-six (suc zero) b = p .middle-six
   number-six (suc (suc zero)) b = p .low-six
   number-six (suc (suc (suc k))) b = absurd (omega arith)
 
-  cell-at : (i : ℕ) → i < 18 → symbolOf (numberAt h m l (i / 6)) (i % 6) ≡ at cells i
+  cell-at : (i : ℕ) → i < 18 → symbolOf (packedNumber h m l (i / 6)) (i % 6) ≡ at cells i
   unfolding symbolOf joinedFrom
   cell-at i b =
       let k = 6 * (i / 6) in
@@ -289,16 +289,16 @@ module _ (h m l : ℕ) (cells : List ℕ) (long : length cells ≡ 16) (small : 
 
   -- the cells are zeros just where the three numbers are
   pub cells-zero : h ≡ 0 → m ≡ 0 → l ≡ 0 → (i : ℕ) → i < 16 → at cells i ≡ 0
-  unfolding symbolOf numberAt
+  unfolding symbolOf packedNumber
   cells-zero eh em el i b =
       sym (cell-at i (omega arith)) ∙ ap (λ (x : ℕ). x / 2 ^ (10 * (5 - i % 6)) % 1024) (none (i / 6)) ∙ ap (λ (x : ℕ). x % 1024) (div-eq-of-lt (pow-pos (10 * (5 - i % 6))))
     where
-      none : (k : ℕ) → numberAt h m l k ≡ 0
+      none : (k : ℕ) → packedNumber h m l k ≡ 0
       none zero = eh
       none (suc zero) = em
       none (suc (suc k)) = el
 
-  pub numbers-zero : ((i : ℕ) → i < 16 → at cells i ≡ 0) → (k : ℕ) → k < 3 → numberAt h m l k ≡ 0
+  pub numbers-zero : ((i : ℕ) → i < 16 → at cells i ≡ 0) → (k : ℕ) → k < 3 → packedNumber h m l k ≡ 0
   unfolding joinedFrom joined
   numbers-zero z k b = number-six k b ∙ horner-zero (λ v. v * 1024) (shift-sum 10) (λ i. at cells (6 * k + i)) (λ i. everywhere (6 * k + i) (decLt (6 * k + i) 16)) 6
     where

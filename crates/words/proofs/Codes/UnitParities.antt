@@ -14,7 +14,7 @@ use Rattle.fields.specs.Lists.{tabulate}
 use Rattle.fields.specs.Places.{at, every, horner}
 use Rattle.fields.proofs.Instances.{field-a}
 use Rattle.fields.proofs.Lists.{tabulate-at, tabulate-is, tabulate-same}
-use Rattle.fields.proofs.Rows.{rows, look, look-is, once, once-is}
+use Rattle.fields.proofs.Pieces.{pieces, look, look-is, once, once-is}
 use Rattle.fields.proofs.Xor.{xor-zero-l, additive-zero}
 use Rattle.fields.proofs.Places.Tests.{every-at}
 use Rattle.words.specs.OuterCode.{withRoot, withRoots, generator, shiftedIn, divided}
@@ -140,13 +140,13 @@ shown : (b : Bool) → T b → b ≡ true
 shown true t = refl
 shown false t = absurd t
 
--- the test of a table that is cut into rows
+-- the test of a table that is cut into pieces
 abbrev test : List (List ℕ) → Bool
 test rs = tested coefficients (look rs)
 
-pub units-right : (us : List ℕ) → length us ≡ 180 → T (once test (rows us)) → us ≡ unitParities
+pub units-right : (us : List ℕ) → length us ≡ 180 → T (once test (pieces us)) → us ≡ unitParities
 unfolding unitParities
 units-right us long t =
-    let read = look (rows us) in
-    let both = and-eq-true-iff (begun coefficients read) (continued coefficients read) .0 (shown _ (once-is test (rows us) t)) in
+    let read = look (pieces us) in
+    let both = and-eq-true-iff (begun coefficients read) (continued coefficients read) .0 (shown _ (once-is test (pieces us) t)) in
     tabulate-is 180 _ us 0 long (λ n h. sym (look-is us n (rw long h)) ∙ entry-right coefficients read coefficients-are (both .0) (both .1) n h)

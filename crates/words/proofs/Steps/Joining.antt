@@ -22,7 +22,7 @@ use Rattle.fields.proofs.Places.Filling.{Filled, filled-next, filled-end}
 use Rattle.decoding.specs.ByTables.{rootValues}
 use Rattle.words.specs.OuterCode.{isOuter, generator, divided, outerParity}
 use Rattle.words.specs.Division.{outerRemainder}
-use Rattle.words.specs.SixSymbols.{joined, joinedFrom, symbolOf, six, Packs, numberAt, unpacked, sixParity, parityEntry, parities, unitParities, Stored}
+use Rattle.words.specs.SixSymbols.{joined, joinedFrom, symbolOf, six, Packs, packedNumber, unpacked, sixParity, parityEntry, digitParities, unitParities, Stored}
 use Rattle.words.proofs.Codes.OuterWords.{outer-length, parity-below, remainder-cell, remainder-length, remainder-below, zero-code, code-zero, remainder-roots}
 use Rattle.words.proofs.Codes.Packing.{shift-sum, parity-sum, joined-same, joined-lt, parity-joined, high-lt, packs-more, entry-is, six-digit, six-sum, unpacked-is, cells-zero, numbers-zero, joined-last}
 use Rattle.words.proofs.Steps.Loops.{dividedUpTo}
@@ -59,12 +59,12 @@ digit-masked x = Bits.and-mask x 6
 pub sum-six : (h x f : ℕ) → f ≡ xor h x → h < 2 ^ 60 → x < 2 ^ 60 → f < 2 ^ 60
 sum-six h x f e hh hx = rw e (xor-lt 60 h x hh hx)
 
-pub parities-long : (t : List ℕ) → t ≡ parities → length t ≡ 1920
-unfolding parities
+pub parities-long : (t : List ℕ) → t ≡ digitParities → length t ≡ 1920
+unfolding digitParities
 parities-long t e = rw e (tabulate-length 1920 parityEntry)
 
-pub digit-row : (x d v : ℕ) → d < 10 → v ≡ x / 2 ^ (6 * d) % 64 → 64 * d + v < 640
-digit-row x d v h e =
+pub digit-inside : (x d v : ℕ) → d < 10 → v ≡ x / 2 ^ (6 * d) % 64 → 64 * d + v < 640
+digit-inside x d v h e =
     let small : x / 2 ^ (6 * d) % 64 < 64 = mod-lt (x / 2 ^ (6 * d)) (lit< tt) in
     omega arith
 
@@ -77,7 +77,7 @@ module _ (x h m l : ℕ) where
       record { high-six = eh ∙ sym (z 0); middle-six = em ∙ sym (z 6); low-six = el ∙ sym (z 12) }
 
   module _ (d : ℕ) (so-far : Packs h m l (sixParity (x % 2 ^ (6 * d)))) where
-    pub parity-next : (table : List ℕ) (v a b c : ℕ) → table ≡ parities → d < 10 → v ≡ x / 2 ^ (6 * d) % 64 →
+    pub parity-next : (table : List ℕ) (v a b c : ℕ) → table ≡ digitParities → d < 10 → v ≡ x / 2 ^ (6 * d) % 64 →
         a ≡ xor h (getD table (64 * d + v) 0) → b ≡ xor m (getD table (64 * d + v + 640) 0) → c ≡ xor l (getD table (64 * d + v + 1280) 0) →
         Packs a b c (sixParity (x % 2 ^ (6 * (d + 1))))
     parity-next table v a b c et hd ev ea eb ec =
@@ -97,13 +97,13 @@ module _ (x h m l : ℕ) where
         let whole : x % 2 ^ (6 * d) ≡ x = rw e (mod-eq-of-lt lt) in
         rw whole at so-far
 
--- entries of a row: that of no bit, and that of a digit with one more bit above the others
+-- entries of a digit: that of no bit, and that of a digit with one more bit above the others
 module _ (r : ℕ) where
   abbrev place : ℕ
   place = 6 * (r % 10)
 
-  row-entry : (v : ℕ) → v < 64 → parityEntry (64 * r + v) ≡ six (sixParity (v * 2 ^ place)) (6 * (r / 10))
-  row-entry v h =
+  digit-entry : (v : ℕ) → v < 64 → parityEntry (64 * r + v) ≡ six (sixParity (v * 2 ^ place)) (6 * (r / 10))
+  digit-entry v h =
       let e : 640 * (r / 10) + (64 * (r % 10) + v) ≡ 64 * r + v = omega arith in
       rw (← e) (entry-is (r / 10) (r % 10) v (mod-lt r (lit< tt)) h)
 
@@ -111,7 +111,7 @@ module _ (r : ℕ) where
   entry-none =
       let z : 64 * r + 0 ≡ 64 * r = omega arith in
       let n : 0 * 2 ^ place ≡ 0 = omega arith in
-      sym (rw z at (row-entry 0 (lit< tt)) ∙ ap (λ (x : ℕ). six (sixParity x) (6 * (r / 10))) n ∙ additive-zero (λ x. six (sixParity x) (6 * (r / 10))) (parity-sum (6 * (r / 10))))
+      sym (rw z at (digit-entry 0 (lit< tt)) ∙ ap (λ (x : ℕ). six (sixParity x) (6 * (r / 10))) n ∙ additive-zero (λ x. six (sixParity x) (6 * (r / 10))) (parity-sum (6 * (r / 10))))
 
   module _ (b : ℕ) (hb : b < 6) where
     pub bit-few : 2 ^ b ≤ 32
@@ -126,9 +126,9 @@ module _ (r : ℕ) where
         let one : 1 * 2 ^ b ≡ 2 ^ b = omega arith in
         let both : 64 * r + 2 ^ b + v ≡ 64 * r + (2 ^ b + v) = omega arith in
         let sum : 2 ^ b + v ≡ xor v (2 ^ b) = sym (xor-comm v (2 ^ b) ∙ rw one at (xor-shifted 1 b v h)) in
-        ap parityEntry both ∙ row-entry (2 ^ b + v) (omega (arith, bit-few)) ∙ ap (λ (x : ℕ). six (sixParity (x * 2 ^ place)) k) sum
+        ap parityEntry both ∙ digit-entry (2 ^ b + v) (omega (arith, bit-few)) ∙ ap (λ (x : ℕ). six (sixParity (x * 2 ^ place)) k) sum
         ∙ ap (λ (x : ℕ). six (sixParity x) k) (shift-sum place v (2 ^ b)) ∙ parity-sum k (v * 2 ^ place) (2 ^ b * 2 ^ place)
-        ∙ sym (ap₂ xor (row-entry v (omega (arith, bit-few))) (row-entry (2 ^ b) (omega (arith, bit-few))))
+        ∙ sym (ap₂ xor (digit-entry v (omega (arith, bit-few))) (digit-entry (2 ^ b) (omega (arith, bit-few))))
 
     module _ (t : List ℕ) where
       pub bit-start : Stored (64 * r + 2 ^ b) t → Stored (64 * r + 1 * 2 ^ b % 2 ^ 64 + 0) t
@@ -156,9 +156,9 @@ bit-next r b n v unit u t hr hb en l eunit eu s =
     let new : u ≡ parityEntry (64 * r + n + v) = eu ∙ ap₂ xor old eunit ∙ sym (entry-bit r b hb v (rw en at l)) ∙ ap parityEntry here in
     rw q at (stored-next (64 * r + n + v) t s (omega arith) u new)
 
--- a row, and the table
-pub row-start : (r : ℕ) (t : List ℕ) → r < 30 → Stored (64 * r) t → Stored (64 * r + 2 ^ 0) (set t (64 * r) 0)
-row-start r t h s = stored-next (64 * r) t s (omega arith) 0 (entry-none r)
+-- a digit, and the table
+pub digit-start : (r : ℕ) (t : List ℕ) → r < 30 → Stored (64 * r) t → Stored (64 * r + 2 ^ 0) (set t (64 * r) 0)
+digit-start r t h s = stored-next (64 * r) t s (omega arith) 0 (entry-none r)
 
 pub unit-entry : (us : List ℕ) (r b : ℕ) → us ≡ unitParities → r < 30 → b < 6 → getD us (6 * r + b) 0 ≡ parityEntry (64 * r + 2 ^ b)
 unfolding unitParities
@@ -167,14 +167,14 @@ unit-entry us r b e hr hb =
     let bit : n % 60 ≡ b + 6 * (r % 10) = omega arith in
     let part : n / 60 ≡ r / 10 = omega arith in
     rw (e, tabulate-at 180 (λ (n : ℕ). six (sixParity (2 ^ (n % 60))) (6 * (n / 60))) n 0 (omega arith), bit, part, pow-add)
-    (sym (row-entry r (2 ^ b) (omega (arith, bit-few r b hb))))
+    (sym (digit-entry r (2 ^ b) (omega (arith, bit-few r b hb))))
 
 pub unit-within : (us : List ℕ) (r b : ℕ) → us ≡ unitParities → r < 30 → b < 6 → 6 * r + b < length us
 unfolding unitParities
 unit-within us r b e hr hb = rw (e, tabulate-length 180 (λ (n : ℕ). six (sixParity (2 ^ (n % 60))) (6 * (n / 60)))) (omega arith)
 
-pub row-end : (r b : ℕ) (t : List ℕ) → b ≤ 6 → 6 ≤ b → Stored (64 * r + 2 ^ b) t → Stored (64 * (r + 1)) t
-row-end r b t lo hi s =
+pub digit-end : (r b : ℕ) (t : List ℕ) → b ≤ 6 → 6 ≤ b → Stored (64 * r + 2 ^ b) t → Stored (64 * (r + 1)) t
+digit-end r b t lo hi s =
     let e : b ≡ 6 = omega arith in
     let q : 64 * r + 2 ^ b ≡ 64 * (r + 1) = rw e (omega arith) in
     rw q at s
@@ -182,8 +182,8 @@ row-end r b t lo hi s =
 pub stored-none : (t : List ℕ) → length t ≡ 1920 → Stored (64 * 0) t
 stored-none t e = record { long = e; entry = λ i h. absurd (not-suc-le-zero h) }
 
-pub stored-end : (r : ℕ) (t : List ℕ) → 30 ≤ r → Stored (64 * r) t → t ≡ parities
-unfolding parities
+pub stored-end : (r : ℕ) (t : List ℕ) → 30 ≤ r → Stored (64 * r) t → t ≡ digitParities
+unfolding digitParities
 stored-end r t h s = tabulate-is 1920 parityEntry t 0 (s .long) (λ i l. s .entry i (omega arith))
 
 -- six symbols more
@@ -233,26 +233,26 @@ pub symbol-fits : (x : ℕ) → Bits.bitAnd x 1023 < 65536
 symbol-fits x = omega (arith, Bits.mask-lt x 10)
 
 module _ (h m l k : ℕ) where
-  pub number-first : k ≡ 0 → h ≡ numberAt h m l k
-  unfolding numberAt
+  pub number-first : k ≡ 0 → h ≡ packedNumber h m l k
+  unfolding packedNumber
   number-first e = rw e
 
-  pub number-second : k ≡ 1 → m ≡ numberAt h m l k
-  unfolding numberAt
+  pub number-second : k ≡ 1 → m ≡ packedNumber h m l k
+  unfolding packedNumber
   number-second e = rw e
 
-pub number-third : (h m l k : ℕ) → (k ≡ 0 → ⊥) → (k ≡ 1 → ⊥) → l ≡ numberAt h m l k
-unfolding numberAt
+pub number-third : (h m l k : ℕ) → (k ≡ 0 → ⊥) → (k ≡ 1 → ⊥) → l ≡ packedNumber h m l k
+unfolding packedNumber
 number-third h m l zero a b = absurd (a refl)
 number-third h m l (suc zero) a b = absurd (b refl)
 number-third h m l (suc (suc k)) a b = refl
 
 -- cell i of a register
 unfoldable pub cellOf : ℕ → ℕ → ℕ → ℕ → ℕ
-cellOf h m l i = symbolOf (numberAt h m l (i / 6)) (i % 6)
+cellOf h m l i = symbolOf (packedNumber h m l (i / 6)) (i % 6)
 
 module _ (h m l i : ℕ) (cells : List ℕ) (so-far : Filled 16 (cellOf h m l) i cells) where
-  pub cells-next : (x v : ℕ) → i < 16 → x ≡ numberAt h m l (i / 6) → v ≡ symbolOf x (i % 6) → Filled 16 (cellOf h m l) (i + 1) (set cells i v)
+  pub cells-next : (x v : ℕ) → i < 16 → x ≡ packedNumber h m l (i / 6) → v ≡ symbolOf x (i % 6) → Filled 16 (cellOf h m l) (i + 1) (set cells i v)
   unfolding cellOf
   cells-next x v b ex ev = filled-next so-far b (rw ex at ev)
 
@@ -297,7 +297,7 @@ module _ (w : List ℕ) (least : 16 ≤ length w) (small : allBelow 1024 w ≡ t
     long = remainder-length w (length w - 16) refl least small
 
     pub outer-zero : length w ≤ 1023 → eqb (Bits.bitOr (Bits.bitOr h m) l) 0 ≡ isOuter w
-    unfolding numberAt
+    unfolding packedNumber
     outer-zero most =
         tests-agree _ _
         (λ t. let z = none (eqb-true (Bits.bitOr (Bits.bitOr h m) l) 0 t) in

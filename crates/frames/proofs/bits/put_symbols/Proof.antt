@@ -6,98 +6,98 @@ use Rattle.frames.proofs.Groups.{symbols-stored}
 use Rattle.frames.proofs.bits.put_symbols.Statement.{statement}
 use Rattle.frames.proofs.bits.put_symbols.Tie as tie
 
-array-read-row : tie.Need-array-read-row
-array-read-row c = search needs
+array-read-outer : tie.Need-array-read-outer
+array-read-outer c = search needs
 
-mul-row : tie.Need-mul-row
-mul-row c = search needs
+mul-outer : tie.Need-mul-outer
+mul-outer c = search needs
 
-slice-write-row : tie.Need-slice-write-row
-slice-write-row c = search needs
+slice-write-outer : tie.Need-slice-write-outer
+slice-write-outer c = search needs
 
-array-read-row-2 : tie.Need-array-read-row-2
-array-read-row-2 c = search needs
+array-read-outer-2 : tie.Need-array-read-outer-2
+array-read-outer-2 c = search needs
 
-add-row : tie.Need-add-row
-add-row c = search needs
+add-outer : tie.Need-add-outer
+add-outer c = search needs
 
-mul-row-2 : tie.Need-mul-row-2
-mul-row-2 c = search needs
+mul-outer-2 : tie.Need-mul-outer-2
+mul-outer-2 c = search needs
 
-slice-write-row-2 : tie.Need-slice-write-row-2
-slice-write-row-2 c = simp length-set (omega arith)
+slice-write-outer-2 : tie.Need-slice-write-outer-2
+slice-write-outer-2 c = simp length-set (omega arith)
 
-array-read-row-3 : tie.Need-array-read-row-3
-array-read-row-3 c = search needs
+array-read-outer-3 : tie.Need-array-read-outer-3
+array-read-outer-3 c = search needs
 
-add-row-2 : tie.Need-add-row-2
-add-row-2 c = search needs
+add-outer-2 : tie.Need-add-outer-2
+add-outer-2 c = search needs
 
-mul-row-3 : tie.Need-mul-row-3
-mul-row-3 c = search needs
+mul-outer-3 : tie.Need-mul-outer-3
+mul-outer-3 c = search needs
 
-slice-write-row-3 : tie.Need-slice-write-row-3
-slice-write-row-3 c = simp length-set (omega arith)
+slice-write-outer-3 : tie.Need-slice-write-outer-3
+slice-write-outer-3 c = simp length-set (omega arith)
 
-array-read-row-4 : tie.Need-array-read-row-4
-array-read-row-4 c = search needs
+array-read-outer-4 : tie.Need-array-read-outer-4
+array-read-outer-4 c = search needs
 
-add-row-3 : tie.Need-add-row-3
-add-row-3 c = search needs
+add-outer-3 : tie.Need-add-outer-3
+add-outer-3 c = search needs
 
-mul-row-4 : tie.Need-mul-row-4
-mul-row-4 c = search needs
+mul-outer-4 : tie.Need-mul-outer-4
+mul-outer-4 c = search needs
 
-slice-write-row-4 : tie.Need-slice-write-row-4
-slice-write-row-4 c = simp length-set (omega arith)
+slice-write-outer-4 : tie.Need-slice-write-outer-4
+slice-write-outer-4 c = simp length-set (omega arith)
 
-array-read-row-5 : tie.Need-array-read-row-5
-array-read-row-5 c = search needs
+array-read-outer-5 : tie.Need-array-read-outer-5
+array-read-outer-5 c = search needs
 
-add-row-4 : tie.Need-add-row-4
-add-row-4 c = search needs
+add-outer-4 : tie.Need-add-outer-4
+add-outer-4 c = search needs
 
-mul-row-5 : tie.Need-mul-row-5
-mul-row-5 c = search needs
+mul-outer-5 : tie.Need-mul-outer-5
+mul-outer-5 c = search needs
 
-slice-write-row-5 : tie.Need-slice-write-row-5
-slice-write-row-5 c = simp length-set (omega arith)
+slice-write-outer-5 : tie.Need-slice-write-outer-5
+slice-write-outer-5 c = simp length-set (omega arith)
 
-array-read-row-6 : tie.Need-array-read-row-6
-array-read-row-6 c = search needs
+array-read-outer-6 : tie.Need-array-read-outer-6
+array-read-outer-6 c = search needs
 
-add-row-5 : tie.Need-add-row-5
-add-row-5 c = search needs
+add-outer-5 : tie.Need-add-outer-5
+add-outer-5 c = search needs
 
-mul-row-6 : tie.Need-mul-row-6
-mul-row-6 c = search needs
+mul-outer-6 : tie.Need-mul-outer-6
+mul-outer-6 c = search needs
 
-slice-write-row-6 : tie.Need-slice-write-row-6
-slice-write-row-6 c = simp length-set (omega arith)
+slice-write-outer-6 : tie.Need-slice-write-outer-6
+slice-write-outer-6 c = simp length-set (omega arith)
 
-array-read-row-7 : tie.Need-array-read-row-7
-array-read-row-7 c = search needs
+array-read-outer-7 : tie.Need-array-read-outer-7
+array-read-outer-7 c = search needs
 
-add-row-6 : tie.Need-add-row-6
-add-row-6 c = search needs
+add-outer-6 : tie.Need-add-outer-6
+add-outer-6 c = search needs
 
-mul-row-7 : tie.Need-mul-row-7
-mul-row-7 c = search needs
+mul-outer-7 : tie.Need-mul-outer-7
+mul-outer-7 c = search needs
 
-slice-write-row-7 : tie.Need-slice-write-row-7
-slice-write-row-7 c = simp length-set (omega arith)
+slice-write-outer-7 : tie.Need-slice-write-outer-7
+slice-write-outer-7 c = simp length-set (omega arith)
 
-array-read-row-8 : tie.Need-array-read-row-8
-array-read-row-8 c = search needs
+array-read-outer-8 : tie.Need-array-read-outer-8
+array-read-outer-8 c = search needs
 
-add-row-7 : tie.Need-add-row-7
-add-row-7 c = search needs
+add-outer-7 : tie.Need-add-outer-7
+add-outer-7 c = search needs
 
-mul-row-8 : tie.Need-mul-row-8
-mul-row-8 c = search needs
+mul-outer-8 : tie.Need-mul-outer-8
+mul-outer-8 c = search needs
 
-slice-write-row-8 : tie.Need-slice-write-row-8
-slice-write-row-8 c = simp length-set (omega arith)
+slice-write-outer-8 : tie.Need-slice-write-outer-8
+slice-write-outer-8 c = simp length-set (omega arith)
 
 same-length : tie.Need-same-length
 same-length c = simp length-set
@@ -109,36 +109,36 @@ pub put-symbols-spec : {M : Type 1} → statement M
 put-symbols-spec =
     tie.close
     (tie.spec
-    array-read-row
-    mul-row
-    slice-write-row
-    array-read-row-2
-    add-row
-    mul-row-2
-    slice-write-row-2
-    array-read-row-3
-    add-row-2
-    mul-row-3
-    slice-write-row-3
-    array-read-row-4
-    add-row-3
-    mul-row-4
-    slice-write-row-4
-    array-read-row-5
-    add-row-4
-    mul-row-5
-    slice-write-row-5
-    array-read-row-6
-    add-row-5
-    mul-row-6
-    slice-write-row-6
-    array-read-row-7
-    add-row-6
-    mul-row-7
-    slice-write-row-7
-    array-read-row-8
-    add-row-7
-    mul-row-8
-    slice-write-row-8
+    array-read-outer
+    mul-outer
+    slice-write-outer
+    array-read-outer-2
+    add-outer
+    mul-outer-2
+    slice-write-outer-2
+    array-read-outer-3
+    add-outer-2
+    mul-outer-3
+    slice-write-outer-3
+    array-read-outer-4
+    add-outer-3
+    mul-outer-4
+    slice-write-outer-4
+    array-read-outer-5
+    add-outer-4
+    mul-outer-5
+    slice-write-outer-5
+    array-read-outer-6
+    add-outer-5
+    mul-outer-6
+    slice-write-outer-6
+    array-read-outer-7
+    add-outer-6
+    mul-outer-7
+    slice-write-outer-7
+    array-read-outer-8
+    add-outer-7
+    mul-outer-8
+    slice-write-outer-8
     same-length
     returns)

@@ -9,10 +9,10 @@ use Rattle.frames.proofs.bits.write_bytes.Statement.{statement}
 use Rattle.frames.proofs.bits.write_bytes.Tie as tie
 
 abbrev Inv-loop : tie.InvT-loop
-Inv-loop row t n out₀ k q₀ out q = (q ≤ n) × Placing k (partsOf 8 (5 * n) (symbolBit (at row)) (10 * t)) (5 * q) out₀ out
+Inv-loop outer t n out₀ k q₀ out q = (q ≤ n) × Placing k (partsOf 8 (5 * n) (symbolBit (at outer)) (10 * t)) (5 * q) out₀ out
 
 abbrev μ-loop : tie.MeasureT-loop
-μ-loop row t n out₀ k q₀ out q = n - q
+μ-loop outer t n out₀ k q₀ out q = n - q
 
 loop-holds : tie.Need-loop-holds Inv-loop μ-loop
 loop-holds c = search (needs, placing-start)

@@ -9,10 +9,10 @@ use Rattle.frames.proofs.bits.write_each.Statement.{statement}
 use Rattle.frames.proofs.bits.write_each.Tie as tie
 
 abbrev Inv-loop : tie.InvT-loop
-Inv-loop bytes i n row₀ t s₀ row s = Placing t (partsOf 10 n (bitAt bytes) i) s row₀ row
+Inv-loop bytes i n outer₀ t s₀ outer s = Placing t (partsOf 10 n (bitAt bytes) i) s outer₀ outer
 
 abbrev μ-loop : tie.MeasureT-loop
-μ-loop bytes i n row₀ t s₀ row s = n - s
+μ-loop bytes i n outer₀ t s₀ outer s = n - s
 
 loop-holds : tie.Need-loop-holds Inv-loop μ-loop
 loop-holds c = search (needs, placing-start)
@@ -26,14 +26,14 @@ add-symbol c = search needs
 symbol-requires : tie.Need-symbol-requires Inv-loop μ-loop
 symbol-requires c κs = search needs
 
-add-row : tie.Need-add-row Inv-loop μ-loop
-add-row c = search needs
+add-outer : tie.Need-add-outer Inv-loop μ-loop
+add-outer c = search needs
 
-mul-row : tie.Need-mul-row Inv-loop μ-loop
-mul-row c = search needs
+mul-outer : tie.Need-mul-outer Inv-loop μ-loop
+mul-outer c = search needs
 
-slice-write-row : tie.Need-slice-write-row Inv-loop μ-loop
-slice-write-row c = search needs
+slice-write-outer : tie.Need-slice-write-outer Inv-loop μ-loop
+slice-write-outer c = search needs
 
 add-s : tie.Need-add-s Inv-loop μ-loop
 add-s c = search needs
@@ -60,9 +60,9 @@ write-each-spec =
     mul-symbol
     add-symbol
     symbol-requires
-    add-row
-    mul-row
-    slice-write-row
+    add-outer
+    mul-outer
+    slice-write-outer
     add-s
     loop-less
     loop-again

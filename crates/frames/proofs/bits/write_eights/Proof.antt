@@ -9,10 +9,10 @@ use Rattle.frames.proofs.bits.write_eights.Statement.{statement}
 use Rattle.frames.proofs.bits.write_eights.Tie as tie
 
 abbrev Inv-loop : tie.InvT-loop
-Inv-loop bytes k n row₀ t q₀ row q = (q ≤ n) × Placing t (partsOf 10 (8 * n) (bitAt bytes) (8 * k)) (8 * q) row₀ row
+Inv-loop bytes k n outer₀ t q₀ outer q = (q ≤ n) × Placing t (partsOf 10 (8 * n) (bitAt bytes) (8 * k)) (8 * q) outer₀ outer
 
 abbrev μ-loop : tie.MeasureT-loop
-μ-loop bytes k n row₀ t q₀ row q = n - q
+μ-loop bytes k n outer₀ t q₀ outer q = n - q
 
 loop-holds : tie.Need-loop-holds Inv-loop μ-loop
 loop-holds c = search (needs, placing-start)

@@ -1,6 +1,6 @@
 -- `frames::outer_test::are_code_words` meets its contract. Assumes nothing.
 use borrow.Author.Needs.{needs}
-use Rattle.words.specs.SixSymbols.{parities}
+use Rattle.words.specs.SixSymbols.{digitParities}
 use Rattle.words.specs.Bits.{bitAt}
 use Rattle.frames.proofs.OuterTest.{outerUpTo, outer-none, two-not, two-next, last-not, last-all}
 use Prim.Native.Nat.{_-_, _%_, _≤_}
@@ -10,7 +10,7 @@ use Rattle.frames.proofs.outer_test.are_code_words.Statement.{statement
 use Rattle.frames.proofs.outer_test.are_code_words.Tie as tie
 
 abbrev Inv-loop : tie.InvT-loop
-Inv-loop block table w₀ w = (w ≤ 14) × (w % 2 ≡ 0) × (table ≡ parities) × (outerUpTo (bitAt block) w ≡ true)
+Inv-loop block table w₀ w = (w ≤ 14) × (w % 2 ≡ 0) × (table ≡ digitParities) × (outerUpTo (bitAt block) w ≡ true)
 
 abbrev μ-loop : tie.MeasureT-loop
 μ-loop block table w₀ w = 14 - w

@@ -3,16 +3,16 @@ use mathlib.Core.Path.{_≡_}
 use Prim.Native.Nat.{_-_}
 use borrow.Author.Needs.{needs}
 use Rattle.words.specs.Bits.{bitAt}
-use Rattle.words.specs.SixSymbols.{parities}
+use Rattle.words.specs.SixSymbols.{digitParities}
 use Rattle.frames.proofs.OuterPass.{Restoring, restoring-start, restoring-long, restoring-below, restoring-kept, restoring-next, restoring-not, restoring-end}
 use Rattle.frames.proofs.outer_words.correct.Statement.{statement}
 use Rattle.frames.proofs.outer_words.correct.Tie as tie
 
 abbrev Inv-loop : tie.InvT-loop
-Inv-loop block row₀ table w₀ row w = (table ≡ parities) × Restoring (bitAt block) w row
+Inv-loop block outer₀ table w₀ outer w = (table ≡ digitParities) × Restoring (bitAt block) w outer
 
 abbrev μ-loop : tie.MeasureT-loop
-μ-loop block row₀ table w₀ row w = 16 - w
+μ-loop block outer₀ table w₀ outer w = 16 - w
 
 table-requires : tie.Need-table-requires Inv-loop μ-loop
 table-requires c κs = search needs

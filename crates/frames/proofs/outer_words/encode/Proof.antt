@@ -2,16 +2,16 @@
 use mathlib.Core.Path.{_≡_}
 use Prim.Native.Nat.{_-_}
 use borrow.Author.Needs.{needs}
-use Rattle.words.specs.SixSymbols.{parities}
+use Rattle.words.specs.SixSymbols.{digitParities}
 use Rattle.frames.proofs.RowWords.{Written, written-none, written-next, written-all}
 use Rattle.frames.proofs.outer_words.encode.Statement.{statement}
 use Rattle.frames.proofs.outer_words.encode.Tie as tie
 
 abbrev Inv-loop : tie.InvT-loop
-Inv-loop payload row₀ table w₀ row w = (table ≡ parities) × Written payload w row
+Inv-loop payload outer₀ table w₀ outer w = (table ≡ digitParities) × Written payload w outer
 
 abbrev μ-loop : tie.MeasureT-loop
-μ-loop payload row₀ table w₀ row w = 16 - w
+μ-loop payload outer₀ table w₀ outer w = 16 - w
 
 table-requires : tie.Need-table-requires Inv-loop μ-loop
 table-requires c κs = search needs

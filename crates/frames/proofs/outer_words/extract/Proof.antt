@@ -8,10 +8,10 @@ use Rattle.frames.proofs.outer_words.extract.Statement.{statement}
 use Rattle.frames.proofs.outer_words.extract.Tie as tie
 
 abbrev Inv-loop : tie.InvT-loop
-Inv-loop row out₀ w₀ out w = (w ≤ 16) × Filled 15296 (payloadByte row) (doneTo w) out
+Inv-loop outer out₀ w₀ out w = (w ≤ 16) × Filled 15296 (payloadByte outer) (doneTo w) out
 
 abbrev μ-loop : tie.MeasureT-loop
-μ-loop row out₀ w₀ out w = 16 - w
+μ-loop outer out₀ w₀ out w = 16 - w
 
 loop-holds : tie.Need-loop-holds Inv-loop μ-loop
 loop-holds c = search (needs, payload-start)

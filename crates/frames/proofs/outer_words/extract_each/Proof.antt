@@ -8,10 +8,10 @@ use Rattle.frames.proofs.outer_words.extract_each.Statement.{statement}
 use Rattle.frames.proofs.outer_words.extract_each.Tie as tie
 
 abbrev Inv-loop : tie.InvT-loop
-Inv-loop row k n out₀ m₀ out m = Placing k (partFrom (payloadByte row) k n) m out₀ out
+Inv-loop outer k n out₀ m₀ out m = Placing k (partFrom (payloadByte outer) k n) m out₀ out
 
 abbrev μ-loop : tie.MeasureT-loop
-μ-loop row k n out₀ m₀ out m = n - m
+μ-loop outer k n out₀ m₀ out m = n - m
 
 loop-holds : tie.Need-loop-holds Inv-loop μ-loop
 loop-holds c = search (needs, placing-start)

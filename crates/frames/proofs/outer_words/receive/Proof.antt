@@ -4,18 +4,18 @@ use borrow.Author.Needs.{needs}
 use Rattle.fields.proofs.Places.Filling.{Filled}
 use Rattle.words.specs.Bits.{bitAt}
 use Rattle.frames.specs.Correction.{receivedSymbol}
-use Rattle.frames.proofs.RowSteps.{row-start, row-next, row-end}
+use Rattle.frames.proofs.RowSteps.{symbols-start, symbols-next, symbols-end}
 use Rattle.frames.proofs.outer_words.receive.Statement.{statement}
 use Rattle.frames.proofs.outer_words.receive.Tie as tie
 
 abbrev Inv-loop : tie.InvT-loop
-Inv-loop block row₀ w₀ row w = Filled 12496 (receivedSymbol (bitAt block)) (781 * w) row
+Inv-loop block outer₀ w₀ outer w = Filled 12496 (receivedSymbol (bitAt block)) (781 * w) outer
 
 abbrev μ-loop : tie.MeasureT-loop
-μ-loop block row₀ w₀ row w = 16 - w
+μ-loop block outer₀ w₀ outer w = 16 - w
 
 loop-holds : tie.Need-loop-holds Inv-loop μ-loop
-loop-holds c = search (needs, row-start)
+loop-holds c = search (needs, symbols-start)
 
 receive-word-requires : tie.Need-receive-word-requires Inv-loop μ-loop
 receive-word-requires c κs = search needs
@@ -27,13 +27,13 @@ loop-less : tie.Need-loop-less Inv-loop μ-loop
 loop-less c = search needs
 
 loop-again : tie.Need-loop-again Inv-loop μ-loop
-loop-again c = search (needs, row-next)
+loop-again c = search (needs, symbols-next)
 
 same-length : tie.Need-same-length Inv-loop μ-loop
 same-length c = search needs
 
 returns : tie.Need-returns Inv-loop μ-loop
-returns c = search (needs, row-end)
+returns c = search (needs, symbols-end)
 
 pub receive-spec : {M : Type 1} → statement M
 receive-spec =

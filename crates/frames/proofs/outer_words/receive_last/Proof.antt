@@ -11,10 +11,10 @@ use Rattle.frames.proofs.outer_words.receive_last.Statement.{statement}
 use Rattle.frames.proofs.outer_words.receive_last.Tie as tie
 
 abbrev Inv-loop : tie.InvT-loop
-Inv-loop block row₀ s₀ row s = Placing 12476 (partFrom (receivedSymbol (bitAt block)) 12476 20) s row₀ row
+Inv-loop block outer₀ s₀ outer s = Placing 12476 (partFrom (receivedSymbol (bitAt block)) 12476 20) s outer₀ outer
 
 abbrev μ-loop : tie.MeasureT-loop
-μ-loop block row₀ s₀ row s = 20 - s
+μ-loop block outer₀ s₀ outer s = 20 - s
 
 loop-holds : tie.Need-loop-holds Inv-loop μ-loop
 loop-holds c = search (needs, placing-start)
@@ -25,14 +25,14 @@ add-last-symbol c = search needs
 last-symbol-requires : tie.Need-last-symbol-requires Inv-loop μ-loop
 last-symbol-requires c κs = search needs
 
-add-row : tie.Need-add-row Inv-loop μ-loop
-add-row c = search needs
+add-outer : tie.Need-add-outer Inv-loop μ-loop
+add-outer c = search needs
 
-mul-row : tie.Need-mul-row Inv-loop μ-loop
-mul-row c = search needs
+mul-outer : tie.Need-mul-outer Inv-loop μ-loop
+mul-outer c = search needs
 
-slice-write-row : tie.Need-slice-write-row Inv-loop μ-loop
-slice-write-row c = search needs
+slice-write-outer : tie.Need-slice-write-outer Inv-loop μ-loop
+slice-write-outer c = search needs
 
 add-s : tie.Need-add-s Inv-loop μ-loop
 add-s c = search needs
@@ -58,9 +58,9 @@ receive-last-spec =
     loop-holds
     add-last-symbol
     last-symbol-requires
-    add-row
-    mul-row
-    slice-write-row
+    add-outer
+    mul-outer
+    slice-write-outer
     add-s
     loop-less
     loop-again

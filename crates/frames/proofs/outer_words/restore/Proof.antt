@@ -1,6 +1,6 @@
 -- `frames::outer_words::restore` meets its contract. Assumes nothing.
 use borrow.Author.Needs.{needs}
-use Rattle.frames.proofs.OuterPass.{word-room, lent-least, lent-most, lent-below, lent-fits, lent-remainder, restored-none, restored-not, restored-word}
+use Rattle.frames.proofs.OuterPass.{word-room, slice-least, slice-most, slice-below, slice-fits, slice-remainder, restored-none, restored-not, restored-word}
 use Rattle.frames.proofs.outer_words.restore.Statement.{statement}
 use Rattle.frames.proofs.outer_words.restore.Tie as tie
 
@@ -23,7 +23,7 @@ part-correct-from-end : tie.Need-part-correct-from-end
 part-correct-from-end c = search (needs, word-room)
 
 correct-from-requires : tie.Need-correct-from-requires
-correct-from-requires c κs = search (needs, lent-least, lent-most, lent-below, lent-fits, lent-remainder)
+correct-from-requires c κs = search (needs, slice-least, slice-most, slice-below, slice-fits, slice-remainder)
 
 enum-told : tie.Need-enum-told
 enum-told c = search needs

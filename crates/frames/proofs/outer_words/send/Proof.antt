@@ -7,10 +7,10 @@ use Rattle.frames.proofs.outer_words.send.Statement.{statement}
 use Rattle.frames.proofs.outer_words.send.Tie as tie
 
 abbrev Inv-loop : tie.InvT-loop
-Inv-loop row out₀ k₀ out k = Filled 16320 (sentByte row) k out
+Inv-loop outer out₀ k₀ out k = Filled 16320 (sentByte outer) k out
 
 abbrev μ-loop : tie.MeasureT-loop
-μ-loop row out₀ k₀ out k = 15616 - k
+μ-loop outer out₀ k₀ out k = 15616 - k
 
 write-bytes-requires : tie.Need-write-bytes-requires Inv-loop μ-loop
 write-bytes-requires c κs = search needs
@@ -21,11 +21,11 @@ mul-k c = search needs
 loop-holds : tie.Need-loop-holds Inv-loop μ-loop
 loop-holds c = search (needs, sent-start)
 
-row-place-requires : tie.Need-row-place-requires Inv-loop μ-loop
-row-place-requires c κs = search needs
+outer-place-requires : tie.Need-outer-place-requires Inv-loop μ-loop
+outer-place-requires c κs = search needs
 
-row-byte-requires : tie.Need-row-byte-requires Inv-loop μ-loop
-row-byte-requires c κs = search needs
+outer-byte-requires : tie.Need-outer-byte-requires Inv-loop μ-loop
+outer-byte-requires c κs = search needs
 
 slice-write-out : tie.Need-slice-write-out Inv-loop μ-loop
 slice-write-out c = search needs
@@ -37,7 +37,7 @@ loop-less : tie.Need-loop-less Inv-loop μ-loop
 loop-less c = search needs
 
 loop-again : tie.Need-loop-again Inv-loop μ-loop
-loop-again c = sent-next _ (c .before .before .before .loop .inv) (c .before .before .loop-test .taken) (c .before .row-place .ensures) (c .row-byte .ensures)
+loop-again c = sent-next _ (c .before .before .before .loop .inv) (c .before .before .loop-test .taken) (c .before .outer-place .ensures) (c .outer-byte .ensures)
 
 same-length : tie.Need-same-length Inv-loop μ-loop
 same-length c = search needs
@@ -54,8 +54,8 @@ send-spec =
     write-bytes-requires
     mul-k
     loop-holds
-    row-place-requires
-    row-byte-requires
+    outer-place-requires
+    outer-byte-requires
     slice-write-out
     add-k
     loop-less

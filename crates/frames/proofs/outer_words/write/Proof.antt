@@ -7,28 +7,28 @@ use Rattle.frames.proofs.outer_words.write.Statement.{statement}
 use Rattle.frames.proofs.outer_words.write.Tie as tie
 
 abbrev Inv-loop : tie.InvT-loop
-Inv-loop symbols i row₀ j₀ row j = Placing i symbols j row₀ row
+Inv-loop symbols i outer₀ j₀ outer j = Placing i symbols j outer₀ outer
 
 abbrev μ-loop : tie.MeasureT-loop
-μ-loop symbols i row₀ j₀ row j = length symbols - j
+μ-loop symbols i outer₀ j₀ outer j = length symbols - j
 
 loop-holds : tie.Need-loop-holds Inv-loop μ-loop
 loop-holds c = search (needs, placing-start)
 
-mul-row : tie.Need-mul-row Inv-loop μ-loop
-mul-row c = search needs
+mul-outer : tie.Need-mul-outer Inv-loop μ-loop
+mul-outer c = search needs
 
-shared-slice-read-row : tie.Need-shared-slice-read-row Inv-loop μ-loop
-shared-slice-read-row c = search needs
+shared-slice-read-outer : tie.Need-shared-slice-read-outer Inv-loop μ-loop
+shared-slice-read-outer c = search needs
 
-add-row : tie.Need-add-row Inv-loop μ-loop
-add-row c = search needs
+add-outer : tie.Need-add-outer Inv-loop μ-loop
+add-outer c = search needs
 
-mul-row-2 : tie.Need-mul-row-2 Inv-loop μ-loop
-mul-row-2 c = search needs
+mul-outer-2 : tie.Need-mul-outer-2 Inv-loop μ-loop
+mul-outer-2 c = search needs
 
-slice-write-row : tie.Need-slice-write-row Inv-loop μ-loop
-slice-write-row c = search needs
+slice-write-outer : tie.Need-slice-write-outer Inv-loop μ-loop
+slice-write-outer c = search needs
 
 add-j : tie.Need-add-j Inv-loop μ-loop
 add-j c = search needs
@@ -52,11 +52,11 @@ write-spec =
     Inv-loop
     μ-loop
     loop-holds
-    mul-row
-    shared-slice-read-row
-    add-row
-    mul-row-2
-    slice-write-row
+    mul-outer
+    shared-slice-read-outer
+    add-outer
+    mul-outer-2
+    slice-write-outer
     add-j
     loop-less
     loop-again

@@ -10,10 +10,10 @@ use Rattle.words.proofs.division.multiples.Statement.{statement}
 use Rattle.words.proofs.division.multiples.Tie as tie
 
 abbrev Inv-loop : tie.InvT-loop
-Inv-loop unit exp log generator rows₀ n₀ rows n = (exp ≡ powersA) × (log ≡ exponentsA) × (generator ≡ Code.generator) × Filled 512 (multiple unit) n rows
+Inv-loop unit exp log generator table₀ n₀ table n = (exp ≡ powersA) × (log ≡ exponentsA) × (generator ≡ Code.generator) × Filled 512 (multiple unit) n table
 
 abbrev μ-loop : tie.MeasureT-loop
-μ-loop unit exp log generator rows₀ n₀ rows n = 512 - n
+μ-loop unit exp log generator table₀ n₀ table n = 512 - n
 
 exp-a-requires : tie.Need-exp-a-requires Inv-loop μ-loop
 exp-a-requires c κs = search needs
@@ -51,11 +51,11 @@ array-read-product c = search needs
 product-requires : tie.Need-product-requires Inv-loop μ-loop
 product-requires c κs = search needs
 
-mul-rows : tie.Need-mul-rows Inv-loop μ-loop
-mul-rows c = search needs
+mul-table : tie.Need-mul-table Inv-loop μ-loop
+mul-table c = search needs
 
-array-write-rows : tie.Need-array-write-rows Inv-loop μ-loop
-array-write-rows c = search needs
+array-write-table : tie.Need-array-write-table Inv-loop μ-loop
+array-write-table c = search needs
 
 add-n : tie.Need-add-n Inv-loop μ-loop
 add-n c = search needs
@@ -87,8 +87,8 @@ multiples-spec =
     mul-product-2
     array-read-product
     product-requires
-    mul-rows
-    array-write-rows
+    mul-table
+    array-write-table
     add-n
     loop-less
     loop-again

@@ -15,8 +15,8 @@ abbrev μ-loop : tie.MeasureT-loop
 loop-holds : tie.Need-loop-holds Inv-loop μ-loop
 loop-holds c = search (needs, stored-none)
 
-store-row-requires : tie.Need-store-row-requires Inv-loop μ-loop
-store-row-requires c κs = search needs
+store-digit-requires : tie.Need-store-digit-requires Inv-loop μ-loop
+store-digit-requires c κs = search needs
 
 add-r : tie.Need-add-r Inv-loop μ-loop
 add-r c = search needs
@@ -40,7 +40,7 @@ fill-spec =
     Inv-loop
     μ-loop
     loop-holds
-    store-row-requires
+    store-digit-requires
     add-r
     loop-less
     loop-again

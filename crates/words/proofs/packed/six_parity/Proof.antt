@@ -1,5 +1,5 @@
 -- `words::packed::six_parity` meets its contract. Assumes nothing.
-use Rattle.words.proofs.Steps.Joining.{parities-long, digit-row, parity-none, parity-next, parity-end}
+use Rattle.words.proofs.Steps.Joining.{parities-long, digit-inside, parity-none, parity-next, parity-end}
 use Prim.Native.Nat.{_-_, _*_, _%_, _^_, _≤_}
 use Rattle.words.specs.SixSymbols.{Packs, sixParity}
 use borrow.Author.Needs.{needs}
@@ -25,10 +25,10 @@ digit-requires : tie.Need-digit-requires Inv-loop μ-loop
 digit-requires c κs = search needs
 
 add-with-digit : tie.Need-add-with-digit Inv-loop μ-loop
-add-with-digit c = search (needs, digit-row)
+add-with-digit c = search (needs, digit-inside)
 
 with-digit-requires : tie.Need-with-digit-requires Inv-loop μ-loop
-with-digit-requires c κs = search (needs, parities-long, digit-row)
+with-digit-requires c κs = search (needs, parities-long, digit-inside)
 
 add-d : tie.Need-add-d Inv-loop μ-loop
 add-d c = search needs

@@ -5,13 +5,13 @@ use lib.ListN.{getD}
 use borrow.Author.Needs.{needs}
 use Rattle.fields.specs.Elements.{xor}
 use Rattle.fields.proofs.Places.Filling.{FilledOver, over-start}
-use Rattle.words.proofs.Steps.Digits.{Rows, rows-of}
+use Rattle.words.proofs.Steps.Digits.{DigitMultiples, table-of}
 use Rattle.words.proofs.Steps.Shifting.{nextCell, shifting-next, shifting-end}
 use Rattle.words.proofs.division.Register.next.Statement.{statement}
 use Rattle.words.proofs.division.Register.next.Tie as tie
 
 abbrev Inv-loop : tie.InvT-loop
-Inv-loop low high s self₀ f l h i₀ self i = (f ≡ xor (getD (self₀ .cells) 0 0) s) × Rows low high f l h × FilledOver 16 (nextCell (self₀ .cells) f) (self₀ .cells) i (self .cells)
+Inv-loop low high s self₀ f l h i₀ self i = (f ≡ xor (getD (self₀ .cells) 0 0) s) × DigitMultiples low high f l h × FilledOver 16 (nextCell (self₀ .cells) f) (self₀ .cells) i (self .cells)
 
 abbrev μ-loop : tie.MeasureT-loop
 μ-loop low high s self₀ f l h i₀ self i = 15 - i
@@ -35,7 +35,7 @@ mul-h : tie.Need-mul-h Inv-loop μ-loop
 mul-h c = search needs
 
 loop-holds : tie.Need-loop-holds Inv-loop μ-loop
-loop-holds c = search (needs, rows-of, over-start)
+loop-holds c = search (needs, table-of, over-start)
 
 add-sum : tie.Need-add-sum Inv-loop μ-loop
 add-sum c = search needs

@@ -1,4 +1,4 @@
--- Document 01's bench rows hold. Assumes nothing.
+-- Document 01's examples hold. Assumes nothing.
 use mathlib.Core.Path.{refl}
 use Prim.Native.Nat.{ℕ, _<_}
 use lib.Dec.{lit<}
@@ -7,7 +7,7 @@ use Rattle.fields.specs.Elements.{xor, scale, doubled, timesFrom, times}
 use Rattle.fields.proofs.Places.Filling.{zeros-at}
 use Rattle.words.specs.InnerWords.{parityPlace}
 use Rattle.frames.specs.Frames.{outerWords, frameOf, payloadPlace}
-use Rattle.frames.specs.BenchRows.{Holds, AllHold, benchRows, payload-bit, parity-bit, zero-payload}
+use Rattle.frames.specs.Examples.{Holds, AllHold, examples, payload-bit, parity-bit, zero-payload}
 use Rattle.frames.proofs.FrameBits.{frame-parity, payload-bits}
 use Rattle.frames.proofs.ZeroFrame.{zero-frame}
 
@@ -25,14 +25,14 @@ zeros =
     zero-frame (replicate 15296 0) (replicate 16320 0) (length-replicate {A = ℕ} 15296 0) (length-replicate {A = ℕ} 16320 0) (zeros-at 15296) (zeros-at 16320)
 
 infixr 5 _and_
--- one row, and the rest
+-- one example, and the rest
 _and_ : {A B : Type 0} → A → B → A × B
 a and b = (a, b)
 
 -- products by computation, places by arithmetic
-pub bench : AllHold benchRows
-unfolding AllHold benchRows Holds times timesFrom doubled scale xor payloadPlace parityPlace
-bench =
+pub examples-hold : AllHold examples
+unfolding AllHold examples Holds times timesFrom doubled scale xor payloadPlace parityPlace
+examples-hold =
     refl and refl and refl and refl
     and payload 7649 (lit< tt) and payload 7650 (lit< tt) and payload 114749 (lit< tt) and payload 114750 (lit< tt) and payload 122367 (lit< tt)
     and parity 0 63 (lit< tt) (lit< tt) and parity 1 0 (lit< tt) (lit< tt) and zeros and tt

@@ -1,8 +1,8 @@
--- `frames::outer_words::row_byte` meets its contract. Assumes nothing.
+-- `frames::outer_words::outer_byte` meets its contract. Assumes nothing.
 use borrow.Author.Needs.{needs}
 use Rattle.frames.proofs.Windows.{byte-of-symbols}
-use Rattle.frames.proofs.outer_words.row_byte.Statement.{statement}
-use Rattle.frames.proofs.outer_words.row_byte.Tie as tie
+use Rattle.frames.proofs.outer_words.outer_byte.Statement.{statement}
+use Rattle.frames.proofs.outer_words.outer_byte.Tie as tie
 
 symbol-requires : tie.Need-symbol-requires
 symbol-requires c κs = search needs
@@ -19,6 +19,6 @@ byte-of-requires c κs = search needs
 returns : tie.Need-returns
 returns c = search (needs, byte-of-symbols)
 
-pub row-byte-spec : {M : Type 1} → statement M
-row-byte-spec =
+pub outer-byte-spec : {M : Type 1} → statement M
+outer-byte-spec =
     tie.close (tie.spec symbol-requires add-symbol symbol-requires-2 byte-of-requires returns)

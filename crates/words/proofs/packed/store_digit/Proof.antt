@@ -1,10 +1,10 @@
--- `words::packed::store_row` meets its contract. Assumes nothing.
-use Rattle.words.proofs.Steps.Joining.{row-start, unit-entry, unit-within, row-end}
+-- `words::packed::store_digit` meets its contract. Assumes nothing.
+use Rattle.words.proofs.Steps.Joining.{digit-start, unit-entry, unit-within, digit-end}
 use Prim.Native.Nat.{_+_, _-_, _*_, _^_, _≤_}
 use Rattle.words.specs.SixSymbols.{Stored}
 use borrow.Author.Needs.{needs}
-use Rattle.words.proofs.packed.store_row.Statement.{statement}
-use Rattle.words.proofs.packed.store_row.Tie as tie
+use Rattle.words.proofs.packed.store_digit.Statement.{statement}
+use Rattle.words.proofs.packed.store_digit.Tie as tie
 
 abbrev Inv-loop : tie.InvT-loop
 Inv-loop units r table₀ b₀ table b = (b ≤ 6) × Stored (64 * r + 2 ^ b) table
@@ -22,7 +22,7 @@ slice-write-table : tie.Need-slice-write-table Inv-loop μ-loop
 slice-write-table c = search needs
 
 loop-holds : tie.Need-loop-holds Inv-loop μ-loop
-loop-holds c = search (needs, row-start)
+loop-holds c = search (needs, digit-start)
 
 mul-store-bit : tie.Need-mul-store-bit Inv-loop μ-loop
 mul-store-bit c = search needs
@@ -52,10 +52,10 @@ same-length : tie.Need-same-length Inv-loop μ-loop
 same-length c = search needs
 
 returns : tie.Need-returns Inv-loop μ-loop
-returns c = search (needs, row-end)
+returns c = search (needs, digit-end)
 
-pub store-row-spec : {M : Type 1} → statement M
-store-row-spec =
+pub store-digit-spec : {M : Type 1} → statement M
+store-digit-spec =
     tie.close
     (tie.spec
     Inv-loop

@@ -1,7 +1,2 @@
--- What the decoder gives, over a field that is lent as its two tables; and what its steps give.
-pub mod ByTables
-pub mod Decoder
-pub mod Annihilator
-pub mod RootSearch
-pub mod PowerTables
-pub mod ErrorValues
+-- Nothing in this crate has to be believed: what its functions give.
+pub mod Steps

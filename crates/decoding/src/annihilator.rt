@@ -10,8 +10,8 @@ ghost use Prim.Native.Nat.{ℕ, _+_, _-_, _≤_, _<_};
 ghost use lib.ListN.{length};
 ghost use Rattle.fields.specs.Lists.{tabulate};
 ghost use Rattle.fields.specs.Places.{at};
-ghost use Rattle.decoding.specs.Decoder.{Tables};
-ghost use Rattle.decoding.specs.Annihilator.{Annihilates, powerRow, PlusPart, Zeros, cleared, cellsOf, reduced, FirstNonzero, convolved, plusShifted, adjusted, berlekampMasseyStep, berlekampMassey, reversedAt};
+ghost use Rattle.decoding.specs.Steps.Decoder.{Tables};
+ghost use Rattle.decoding.specs.Steps.Annihilator.{Annihilates, powerRow, PlusPart, Zeros, cleared, cellsOf, reduced, FirstNonzero, convolved, plusShifted, adjusted, berlekampMasseyStep, berlekampMassey, reversedAt};
 
 const CELLS: usize = RADIUS + COEFFICIENTS;
 

@@ -10,10 +10,10 @@ ghost use mathlib.Core.Path.{_≡_};
 ghost use Prim.Native.Nat.{ℕ, _≤_, _<_};
 ghost use lib.ListN.{length};
 ghost use Rattle.fields.specs.Elements.{xor};
-ghost use Rattle.fields.specs.ByTables.{tableProduct};
+ghost use Rattle.fields.specs.Steps.ByTables.{tableProduct};
 ghost use Rattle.fields.specs.Places.{at};
-ghost use Rattle.decoding.specs.Decoder.{Tables, Decoded};
-ghost use Rattle.decoding.specs.ErrorValues.{filtered, errorValue, lessError, resolved, Located, lessPowers, flipped, flippedTo};
+ghost use Rattle.decoding.specs.Steps.Decoder.{Tables, Decoded};
+ghost use Rattle.decoding.specs.Steps.ErrorValues.{filtered, errorValue, lessError, resolved, Located, lessPowers, flipped, flippedTo};
 
 // The powers of x are filtered out of the sequence t.
 fn filtered(exp: &[u16], log: &[u16], x: u16, t: [u16; SYNDROMES]) -> [u16; SYNDROMES]
@@ -176,7 +176,7 @@ fn flipped(exp: &[u16], n: usize, e: Errors, k: usize) -> Errors
     }
 }
 
-// The same at each place listed.
+// The error at each place listed is taken for one of value 1.
 fn all_flipped(exp: &[u16], n: usize, t: [u16; SYNDROMES], places: Places) -> Errors
     requires { ⌜ (n ≤ length (now exp)) × (length (now exp) ≤ 65536) ⌝ }
     requires { ⌜ (places .count ≤ 8) × ((k : ℕ) → k < places .count → at (places .at) k < n) ⌝ }
@@ -195,7 +195,7 @@ fn all_flipped(exp: &[u16], n: usize, t: [u16; SYNDROMES], places: Places) -> Er
     e
 }
 
-// The same as `valued`, and quick where the errors have the value 1 each: if these leave nothing, there are no others.
+// The errors at the places found, as `valued` gives them; quick where they have the value 1 each: if these leave nothing, there are no others.
 pub(crate) fn bits_valued(
     exp: &[u16],
     log: &[u16],

@@ -1,7 +1,7 @@
 // Exponents of a, counted modulo its order n.
 ghost use mathlib.Core.Path.{_≡_};
 ghost use Prim.Native.Nat.{_+_, _%_, _≤_, _<_};
-ghost use Rattle.decoding.specs.RootSearch.{lessModulo};
+ghost use Rattle.decoding.specs.Steps.RootSearch.{lessModulo};
 
 // e - d, counted modulo n.
 pub(crate) fn less(n: usize, e: usize, d: usize) -> usize

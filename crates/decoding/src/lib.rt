@@ -14,8 +14,8 @@ ghost use Prim.Native.Nat.{_%_, _≤_, _<_};
 ghost use lib.ListN.{length};
 ghost use Rattle.fields.specs.Elements.{powersB};
 ghost use Rattle.fields.specs.Places.{differs};
-ghost use Rattle.decoding.specs.Decoder.{Tables, locator, Decoded, weightOf};
-ghost use Rattle.decoding.specs.PowerTables.{PowerTables};
+ghost use Rattle.decoding.specs.Steps.Decoder.{Tables, locator, Decoded, weightOf};
+ghost use Rattle.decoding.specs.Steps.PowerTables.{PowerTables};
 
 mod annihilator;
 pub mod error_values;
@@ -53,7 +53,7 @@ pub fn decode(exp: &[u16], log: &[u16], t: [u16; SYNDROMES], n: usize) -> Errors
     error_values::valued(exp, log, n, t, places)
 }
 
-// The same for a word of bits, whose syndromes start at a: quick where it has at most eight wrong.
+// The errors in a word of n bits that has the syndromes t, from a on: quick where at most eight bits are wrong.
 pub fn decode_bits(exp: &[u16], log: &[u16], t: [u16; SYNDROMES], n: usize) -> Errors
     requires { ⌜ Tables (now exp) (now log) ⌝ }
     requires { ⌜ (n ≤ length (now exp)) × (n < 65536) × (length (now exp) ≤ 65536) ⌝ }
@@ -64,7 +64,7 @@ pub fn decode_bits(exp: &[u16], log: &[u16], t: [u16; SYNDROMES], n: usize) -> E
     error_values::bits_valued(exp, log, n, t, places)
 }
 
-// The same by tables of powers, which the caller lends from word to word.
+// The errors in a word of n bits that has the syndromes t, by tables of powers, which the caller lends from word to word.
 pub fn decode_bits_by_tables(
     exp: &[u16],
     log: &[u16],

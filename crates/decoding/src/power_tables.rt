@@ -18,9 +18,9 @@ ghost use lib.ListN.{length};
 ghost use Rattle.fields.specs.Lists.{tabulate};
 ghost use Rattle.fields.specs.Elements.{powersB};
 ghost use Rattle.fields.specs.Places.{at};
-ghost use Rattle.decoding.specs.Decoder.{Tables};
-ghost use Rattle.decoding.specs.RootSearch.{Roots, kept};
-ghost use Rattle.decoding.specs.PowerTables.{PowerTables, TableFilled, near, far, blockSum, stored, withSums, reciprocals, tableBase, tableStart, tableBases, tableStarts, tablePosition, Inside, fourAt, eightAt, tablesSum, keptTo, TablesFor};
+ghost use Rattle.decoding.specs.Steps.Decoder.{Tables};
+ghost use Rattle.decoding.specs.Steps.RootSearch.{Roots, kept};
+ghost use Rattle.decoding.specs.Steps.PowerTables.{PowerTables, TableFilled, near, far, blockSum, stored, withSums, reciprocals, tableBase, tableStart, tableBases, tableStarts, tablePosition, Inside, fourAt, eightAt, tablesSum, keptTo, TablesFor};
 
 // The order of a in the field that the tables of powers serve, and the number of places that are tested at once.
 const ORDER: usize = 2047;
@@ -324,7 +324,7 @@ fn kept_of(
     p
 }
 
-// The same for the tables of a polynomial; few blocks have such a place.
+// The places of the 40 from i on where the sum of a polynomial's terms is x are kept; few blocks have such a place.
 fn block(tables: &[u16], s: TermTables, x: u16, places: Places, i: usize) -> Places
     requires { ⌜ (length (now tables) ≡ 18784) × (places .count ≤ 8) × (i < 2047) ⌝ }
     requires { ⌜ ((k : ℕ) → at (s .bases) k ≤ 16696) × ((k : ℕ) → at (s .starts) k < 2047) ⌝ }
@@ -344,7 +344,7 @@ fn block(tables: &[u16], s: TermTables, x: u16, places: Places, i: usize) -> Pla
     kept_of(tables, a, b, c, d, e, f, g, h, x, places, i)
 }
 
-// The same as `roots`, block by block.
+// The places whose locators are roots of a polynomial, as `roots` gives them, block by block.
 fn scanned(
     exp: &[u16],
     log: &[u16],
@@ -370,7 +370,7 @@ fn scanned(
     p
 }
 
-// The same as `roots`. A polynomial of degree at most 1 needs no tables.
+// The places whose locators are roots of a polynomial, as `roots` gives them. A polynomial of degree at most 1 needs no tables.
 pub(crate) fn roots_by_tables(
     exp: &[u16],
     log: &[u16],

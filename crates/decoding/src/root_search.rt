@@ -10,8 +10,8 @@ ghost use mathlib.Core.Path.{_≡_};
 ghost use Prim.Native.Nat.{ℕ, _≤_, _<_};
 ghost use lib.ListN.{length};
 ghost use Rattle.fields.specs.Places.{at};
-ghost use Rattle.decoding.specs.Decoder.{Tables};
-ghost use Rattle.decoding.specs.RootSearch.{Roots, withTerm, termsTo, Exponents, powersTo, lowered, FirstRoot, quotientOf, kept};
+ghost use Rattle.decoding.specs.Steps.Decoder.{Tables};
+ghost use Rattle.decoding.specs.Steps.RootSearch.{Roots, withTerm, termsTo, Exponents, powersTo, lowered, FirstRoot, quotientOf, kept};
 
 // The terms of a polynomial at a locator, but for those that are zero. The first `count` of `exponents` are their exponents; the first `count` of `steps`
 // say by how much these fall from one place to the next.
@@ -79,7 +79,7 @@ fn next_value(exp: &[u16], exponents: &mut [usize], steps: &[usize], count: usiz
     v
 }
 
-// The same as `next_root` for c x + d: the exponent of the root d / c tells its place.
+// The first place from i on whose locator is a root of c x + d, or n: the exponent of the root d / c tells its place.
 fn linear_root(
     exp: &[u16],
     log: &[u16],

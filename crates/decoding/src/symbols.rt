@@ -2,7 +2,7 @@
 ghost use mathlib.Core.Path.{_≡_};
 ghost use Rattle.fields.specs.Elements.{xor};
 ghost use Rattle.fields.specs.Places.{at, allBelow};
-ghost use Rattle.fields.specs.Buffers.{copied};
+ghost use Rattle.fields.specs.Steps.Buffers.{copied};
 
 // Each symbol of the word is below q.
 pub fn all_below(word: &[u16], q: u16) -> bool
@@ -45,7 +45,7 @@ pub fn copy(word: &[u16], out: &mut [u16])
     }
 }
 
-// The same for bytes.
+// Writes the bytes, if the buffer is as long.
 pub fn copy_bytes(word: &[u8], out: &mut [u8])
     ensures { λ _. ⌜ now (out .exit) ≡ copied (now (word .entry)) (now (out .entry)) ⌝ }
 {

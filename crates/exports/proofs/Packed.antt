@@ -4,7 +4,7 @@ use mathlib.Core.List.{List}
 use Prim.Native.Nat.{ℕ, _+_, _*_}
 use native.Mathlib.Nat.{add-comm}
 use native.Mathlib.Omega.{arith}
-use Rattle.fields.specs.Buffers.{copied}
+use Rattle.fields.specs.Steps.Buffers.{copied}
 use Rattle.words.specs.declared.Correction.{Correction}
 use Rattle.words.specs.declared.Correction.the-variants as variants
 use Rattle.words.specs.Answers.{refusalOf, changedOf}

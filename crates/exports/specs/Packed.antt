@@ -1,7 +1,7 @@
 -- Answers of more than one number, packed into one: 256 times the second number, plus the refusal's number or 0.
 use mathlib.Core.List.{List}
 use Prim.Native.Nat.{ℕ, _+_, _*_}
-use Rattle.fields.specs.Buffers.{copied}
+use Rattle.fields.specs.Steps.Buffers.{copied}
 use Rattle.words.specs.declared.Correction.{Correction}
 use Rattle.words.specs.Answers.{refusalOf, changedOf}
 use Rattle.frames.specs.Answers.{Corrected}

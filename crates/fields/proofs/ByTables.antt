@@ -12,7 +12,7 @@ use lib.ListN.{length, getD}
 use lib.Pow.{pow-pos}
 use Rattle.fields.specs.Elements.{times, power, exponent, inverse, powers, exponents}
 use Rattle.fields.specs.Field.{Field}
-use Rattle.fields.specs.ByTables.{placeIn, wrapped, powerNear, tablePower, productAt, tableProduct, inverseAt, tableInverse, FieldTables}
+use Rattle.fields.specs.Steps.ByTables.{placeIn, wrapped, powerNear, tablePower, productAt, tableProduct, inverseAt, tableInverse, FieldTables}
 use Rattle.fields.proofs.Doubling.{two-le}
 use Rattle.fields.proofs.Lists.{tabulate-at, tabulate-length}
 use Rattle.fields.proofs.Ways.{wrapped-below, wrapped-above}

@@ -3,7 +3,7 @@ use mathlib.Core.Path.{refl}
 use lib.Dec.{lit<}
 use Rattle.fields.specs.Elements.{xor, scale, doubled, powersA, exponentsA, powersB, exponentsB}
 use Rattle.fields.specs.Field.{Field}
-use Rattle.fields.specs.ByTables.{FieldTables}
+use Rattle.fields.specs.Steps.ByTables.{FieldTables}
 use Rattle.fields.proofs.Cycle.{Cyclic, cyclic}
 use Rattle.fields.proofs.Laws.{field}
 

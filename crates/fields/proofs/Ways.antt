@@ -7,7 +7,7 @@ use native.Mathlib.Omega.{arith}
 use borrow.Author.Tests.{eq-eqb, le-ltb, lt-ltb, ne-eqb}
 use lib.Bits.{bitAnd, and-le-r, and-zero-r}
 use lib.ListN.{length, getD, List·getD-eq-default}
-use Rattle.fields.specs.ByTables.{placeIn, wrapped, powerNear, tablePower, productAt, tableProduct, inverseAt, tableInverse}
+use Rattle.fields.specs.Steps.ByTables.{placeIn, wrapped, powerNear, tablePower, productAt, tableProduct, inverseAt, tableInverse}
 
 -- places
 pub place-made : (n x w : ℕ) → w ≡ x → bitAnd w (n - 1) ≡ placeIn n x

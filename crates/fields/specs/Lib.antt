@@ -3,6 +3,5 @@ pub mod Lists
 pub mod Elements
 pub mod Field
 pub mod Places
--- need not be believed: what functions over lent tables, and functions that write buffers, give
-pub mod ByTables
-pub mod Buffers
+-- need not be believed
+pub mod Steps

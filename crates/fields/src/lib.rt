@@ -12,7 +12,7 @@ ghost use Prim.Native.Nat.{ℕ, _-_, _%_, _^_, _<_};
 ghost use lib.ListN.{length, getD};
 ghost use Rattle.fields.specs.Elements.{times, power, inverse, powers, powersA, exponentsA, powersB, exponentsB};
 ghost use Rattle.fields.specs.Field.{Field};
-ghost use Rattle.fields.specs.ByTables.{placeIn, wrapped, powerNear, tablePower, tableProduct, tableInverse, FieldTables};
+ghost use Rattle.fields.specs.Steps.ByTables.{placeIn, wrapped, powerNear, tablePower, tableProduct, tableInverse, FieldTables};
 
 mod tables;
 

@@ -19,12 +19,12 @@ use Rattle.frames.specs.Frames.{isPayload, dataIn, outerWord, outerWords
 use Rattle.frames.specs.Correction.{receivedBit, receivedSymbol, receivedWord, reportOf, total}
 use Rattle.frames.specs.Answers.{frameCorrected}
 use Rattle.frames.specs.Demands.{Restored, wrongAt, wrongCounts, lostSymbols, Premise}
-use Rattle.frames.proofs.FrameBits.{payload-is, frame-inner, dataIn-le, outer-word-length}
-use Rattle.frames.proofs.ReceivedWords.{received-own}
-use Rattle.frames.proofs.Permitted.{payload-permitted}
-use Rattle.frames.proofs.FarApart.{wrong-parts}
-use Rattle.frames.proofs.ReportCounts.{wrong-in, report-counts}
-use Rattle.frames.proofs.RestoredWords.{inner-near, inner-lost, passed, corrected}
+use Rattle.frames.proofs.Frames.FrameBits.{payload-is, frame-inner, dataIn-le, outer-word-length}
+use Rattle.frames.proofs.OuterSymbols.Received.{received-own}
+use Rattle.frames.proofs.OuterSymbols.Permitted.{payload-permitted}
+use Rattle.frames.proofs.Frames.FarApart.{wrong-parts}
+use Rattle.frames.proofs.Correction.ReportCounts.{wrong-in, report-counts}
+use Rattle.frames.proofs.Correction.RestoredWords.{inner-near, inner-lost, passed, corrected}
 
 -- ---- the report
 

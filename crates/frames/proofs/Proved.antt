@@ -6,9 +6,9 @@ use Prim.Native.Nat.{ℕ}
 use Rattle.inner_words.proofs.InterleavedBits.{place-to-bit, bit-to-place}
 use Rattle.frames.specs.Frames.{isPayload, outerWords, frameOf, payloadOf}
 use Rattle.frames.specs.FrameLaws.{FrameLaws}
-use Rattle.frames.proofs.FrameBits.{payload-is, payloadOf-length, payloadOf-below, frame-block, frame-parity, frame-inner, outer-code, payload-bits, payload-back}
-use Rattle.frames.proofs.ReceivedWords.{frame-same, same-frame}
-use Rattle.frames.proofs.ExamplesHold.{bench}
+use Rattle.frames.proofs.Frames.FrameBits.{payload-is, payloadOf-length, payloadOf-below, frame-block, frame-parity, frame-inner, outer-code, payload-bits, payload-back}
+use Rattle.frames.proofs.OuterSymbols.Received.{frame-same, same-frame}
+use Rattle.frames.proofs.Frames.ExamplesHold.{bench}
 
 back : (p : List ℕ) → isPayload p ≡ true → payloadOf (frameOf p) ≡ p
 back p h = let t = payload-is p h in payload-back p (t .0) (t .1)

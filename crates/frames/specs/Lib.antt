@@ -5,7 +5,5 @@ pub mod Answers
 pub mod Examples
 pub mod FrameLaws
 pub mod Demands
--- need not be believed: what the functions below the entries give
-pub mod Received
-pub mod Symbols
-pub mod Passes
+-- need not be believed
+pub mod Steps

@@ -19,11 +19,11 @@ ghost use mathlib.Core.Bool.{true, _&&_};
 ghost use mathlib.Core.Option.{Option·map};
 ghost use lib.ListN.{length};
 ghost use Rattle.words.specs.Bits.{bitAt};
-ghost use Rattle.inner_words.specs.Passes.{innerCodes};
+ghost use Rattle.inner_words.specs.Steps.Passes.{innerCodes};
 ghost use Rattle.frames.specs.Frames.{frameOfWords};
 ghost use Rattle.frames.specs.Correction.{outerPass};
-ghost use Rattle.frames.specs.Received.{outerCodes};
-ghost use Rattle.frames.specs.Passes.{written};
+ghost use Rattle.frames.specs.Steps.Received.{outerCodes};
+ghost use Rattle.frames.specs.Steps.Passes.{written};
 ghost use Rattle.frames.specs.Answers.{frameEncoded, frameChecked, payloadExtracted, noCounts, frameCorrected};
 
 mod bits;

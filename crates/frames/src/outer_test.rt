@@ -2,6 +2,7 @@
 use crate::Frame;
 use crate::bits;
 use crate::outer_words;
+use words::digit_table;
 use words::packed;
 use words::packed::Packed;
 ghost use mathlib.Core.Path.{_≡_};
@@ -10,10 +11,10 @@ ghost use Prim.Native.Nat.{_+_, _^_, _≤_, _<_};
 ghost use lib.ListN.{length};
 ghost use Rattle.words.specs.Bits.{bitAt};
 ghost use Rattle.words.specs.OuterCode.{isOuter};
-ghost use Rattle.words.specs.SixSymbols.{joinedFrom, Packs, digitParities};
+ghost use Rattle.words.specs.Steps.SixSymbols.{joinedFrom, Packs, digitParities};
 ghost use Rattle.frames.specs.Frames.{dataIn};
 ghost use Rattle.frames.specs.Correction.{receivedWord};
-ghost use Rattle.frames.specs.Received.{dividedTo, outerCodes};
+ghost use Rattle.frames.specs.Steps.Received.{dividedTo, outerCodes};
 
 // The number that n data symbols of outer word w are, from symbol i on. The last ends with the padding bits, which are zeros.
 fn data_symbols(block: &[u8], w: usize, i: usize, n: usize) -> u64
@@ -28,7 +29,7 @@ fn data_symbols(block: &[u8], w: usize, i: usize, n: usize) -> u64
     x
 }
 
-// The same of the parity symbols, from parity symbol i on. Those of the last word stand before the place that the padding bits would have.
+// The number that n parity symbols of outer word w are, from parity symbol i on. Those of the last word stand before the place that the padding bits would have.
 fn parity_symbols(block: &[u8], w: usize, i: usize, n: usize) -> u64
     requires { ⌜ (length (now block) ≡ 16320) × (w < 16) × (n ≤ 6) × (i + n ≤ 16) ⌝ }
     ensures { λ r. ⌜ r ≡ joinedFrom (receivedWord (bitAt (now (block .entry))) w) (dataIn w + i) n ⌝ }
@@ -135,7 +136,7 @@ pub(crate) fn are_code_words(block: &[u8]) -> bool
     requires { ⌜ length (now block) ≡ 16320 ⌝ }
     ensures { λ r. ⌜ r ≡ outerCodes (bitAt (now (block .entry))) ⌝ }
 {
-    let table = packed::table();
+    let table = digit_table::table();
     let mut w: usize = 0;
     while w < Frame::WORDS - 2 {
         if !are_two(&table, block, w) {

@@ -18,7 +18,7 @@ use Rattle.fields.proofs.Places.Counting.{sum-most}
 use Rattle.fields.proofs.Places.Filling.{FilledOver, over-next, filled-end}
 use Rattle.words.specs.Bits.{bitOf}
 use Rattle.words.proofs.Bits.Numbers.{bitOf-lt, bitOf-zero, masked-bit}
-use Rattle.inner_words.specs.Passes.{counted}
+use Rattle.inner_words.specs.Steps.Passes.{counted}
 
 -- count k, with bit k of x counted
 unfoldable pub countedAt : List ℕ → ℕ → ℕ → ℕ

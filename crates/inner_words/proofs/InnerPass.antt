@@ -21,7 +21,7 @@ use Rattle.words.specs.InnerWords.{innerWord, innerRestored, innerPass}
 use Rattle.words.proofs.Bits.Numbers.{bitOf-lt, masked-bit}
 use Rattle.words.proofs.Codes.InnerWords.{inner-is}
 use Rattle.words.proofs.Codes.Proved.{codes}
-use Rattle.inner_words.specs.Passes.{innerCodes, wrongWords, WordPut, WordCorrected, InnerPassed}
+use Rattle.inner_words.specs.Steps.Passes.{innerCodes, wrongWords, WordPut, WordCorrected, InnerPassed}
 use Rattle.inner_words.proofs.InterleavedBits.{place-to-bit, bit-to-place}
 use Rattle.inner_words.proofs.InnerSteps.{wrong-not, wrong-bit, none-wrong}
 

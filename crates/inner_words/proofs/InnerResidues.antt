@@ -21,7 +21,7 @@ use Rattle.words.proofs.Bits.Bytes.{bitAt-lt}
 use Rattle.words.proofs.Bits.Numbers.{bitOf-number, bitOf-zero, numberOf-bits, numberOf-lt, numberOf-same}
 use Rattle.words.proofs.Codes.InnerParity.{remainder-short}
 use Rattle.words.proofs.Codes.ShiftedBits.{bitOf-sum, twice-high}
-use Rattle.inner_words.specs.InnerResidues.{coefficient, sideBySide, wordResidue, turned, swapped, loadedAt, residueOf, advanced, begun}
+use Rattle.inner_words.specs.Steps.InnerResidues.{coefficient, sideBySide, wordResidue, turned, swapped, loadedAt, residueOf, advanced, begun}
 
 -- ---- numbers of bits
 

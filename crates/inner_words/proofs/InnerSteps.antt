@@ -15,7 +15,7 @@ use mir.Syntax.{w8, w64}
 use mir.Val.{Fits}
 use Rattle.fields.specs.Lists.{tabulate}
 use Rattle.fields.specs.Places.{at, allBelow}
-use Rattle.fields.specs.Buffers.{Placed}
+use Rattle.fields.specs.Steps.Buffers.{Placed}
 use Rattle.fields.proofs.Lists.{tabulate-at, tabulate-length, tabulate-lt}
 use Rattle.fields.proofs.Places.Tests.{tests-agree, every-at, every-true, below-all}
 use Rattle.fields.proofs.Places.Placing.{Placing, placing-next, placing-end}
@@ -24,9 +24,9 @@ use Rattle.words.specs.InnerCode.{isInner}
 use Rattle.words.specs.InnerWords.{innerWord, withParity}
 use Rattle.words.proofs.Bits.Bytes.{places-read, number-of-bits, bytes-same}
 use Rattle.words.proofs.Bits.Numbers.{bitOf-lt, bitOf-zero, bitOf-number, numberOf-lt, numberOf-same, number-parts, numberOf-bits}
-use Rattle.inner_words.specs.Passes.{innerCodes, wrongWords}
-use Rattle.inner_words.specs.SideBySide.{placeAt, parities, byteOf64, parityBytes}
-use Rattle.inner_words.specs.InnerResidues.{turned, swapped, loadedAt}
+use Rattle.inner_words.specs.Steps.Passes.{innerCodes, wrongWords}
+use Rattle.inner_words.specs.Steps.SideBySide.{placeAt, parities, byteOf64, parityBytes}
+use Rattle.inner_words.specs.Steps.InnerResidues.{turned, swapped, loadedAt}
 use Rattle.inner_words.proofs.InterleavedBits.{parity-cases}
 use Rattle.inner_words.proofs.SideBySide.{parities-bits}
 

@@ -16,7 +16,7 @@ use Rattle.fields.proofs.Doubling.{doubled-sum, scale-lt, scale-sum}
 use Rattle.fields.proofs.Lists.{tabulate-at, tabulate-same}
 use Rattle.fields.proofs.Xor.{additive-zero, xor-assoc, xor-comm, xor-lt, xor-shifted, xor-zero-r}
 use Rattle.fields.proofs.Places.Tests.{every-at}
-use Rattle.decoding.specs.Decoder.{xorTo}
+use Rattle.decoding.specs.Steps.Decoder.{xorTo}
 use Rattle.decoding.proofs.Algebra.Tables.{xorTo-same}
 use Rattle.words.specs.Bits.{bitOf, numberOf, bitAt}
 use Rattle.words.specs.InnerCode.{valueOf, factors, divisor, innerRemainder, innerParity}
@@ -26,9 +26,9 @@ use Rattle.words.proofs.Bits.Numbers.{bitOf-lt, bitOf-number, numberOf-bits, nu
 use Rattle.words.proofs.Codes.Horner.{Additive, scale-zero, iter, iter-in, iter-sum, horner-same, horner-sum, horner-zero, horner-zeros, valueOf-sum, value-remainder}
 use Rattle.words.proofs.Codes.LeastPolynomials.{divisor-is}
 use Rattle.words.proofs.Codes.ShiftedBits.{bitOf-scale, bitOf-sum}
-use Rattle.inner_words.specs.SideBySide.{parities}
-use Rattle.inner_words.specs.InnerResidues.{coefficient, wordResidue, residuesOf}
-use Rattle.inner_words.specs.ParityMatrix.{shares, column, parityRows, fourSum, fourSums, rowSum, rowSums}
+use Rattle.inner_words.specs.Steps.SideBySide.{parities}
+use Rattle.inner_words.specs.Steps.InnerResidues.{coefficient, wordResidue, residuesOf}
+use Rattle.inner_words.specs.Steps.ParityMatrix.{shares, column, parityRows, fourSum, fourSums, rowSum, rowSums}
 use Rattle.inner_words.proofs.InterleavedBits.{data-length}
 use Rattle.inner_words.proofs.ResidueCodes.{factor-degree, residue-bit, residue-lt, residues-lt}
 

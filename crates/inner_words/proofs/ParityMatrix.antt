@@ -16,7 +16,7 @@ use Rattle.words.specs.Bits.{bitOf, numberOf, bytesOf}
 use Rattle.words.specs.InnerCode.{valueOf}
 use Rattle.words.proofs.Bits.Numbers.{numberOf-same}
 use Rattle.words.proofs.Codes.LeastPolynomials.{divisor-is}
-use Rattle.inner_words.specs.ParityMatrix.{shares, column, parityRows}
+use Rattle.inner_words.specs.Steps.ParityMatrix.{shares, column, parityRows}
 
 -- ---- the table of rows
 

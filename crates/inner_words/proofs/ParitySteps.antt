@@ -11,14 +11,14 @@ use mir.Val.{Fits}
 use Rattle.fields.specs.Elements.{xor, scale}
 use Rattle.fields.specs.Lists.{tabulate}
 use Rattle.fields.specs.Places.{at}
-use Rattle.fields.specs.Buffers.{Placed}
+use Rattle.fields.specs.Steps.Buffers.{Placed}
 use Rattle.fields.proofs.Lists.{tabulate-at, tabulate-length}
 use Rattle.fields.proofs.Xor.{xor-zero-l, xor-zero-r}
 use Rattle.fields.proofs.Places.Filling.{Filled, filled-start, filled-next, filled-end}
-use Rattle.decoding.specs.Decoder.{xorTo}
+use Rattle.decoding.specs.Steps.Decoder.{xorTo}
 use Rattle.words.specs.Bits.{bitOf, numberOf, bitAt}
 use Rattle.words.proofs.Bits.Bytes.{places-read}
-use Rattle.inner_words.specs.ParityMatrix.{parityRows, fourSum, fourSums, rowSum, rowSums}
+use Rattle.inner_words.specs.Steps.ParityMatrix.{parityRows, fourSum, fourSums, rowSum, rowSums}
 use Rattle.inner_words.proofs.ResidueSteps.{filled-placed}
 
 -- ---- sums of four

@@ -12,7 +12,7 @@ use lib.Pow.{pow-pos}
 use Rattle.fields.specs.Places.{at, every, allBelow, value}
 use Rattle.fields.proofs.Lists.{tabulate-at}
 use Rattle.fields.proofs.Places.Tests.{tests-agree, every-at, every-true, below-all, below-at}
-use Rattle.lanes.specs.LaneSteps.{orTo}
+use Rattle.lanes.specs.Steps.LaneSteps.{orTo}
 use Rattle.words.specs.Bits.{bitOf, numberOf, bitAt}
 use Rattle.words.specs.InnerCode.{powerB, valueB, factors, remainder, isInner}
 use Rattle.words.specs.InnerWords.{innerWord}
@@ -22,8 +22,8 @@ use Rattle.words.proofs.Codes.Horner.{horner-same, remainder-lt, valueOf-zero}
 use Rattle.words.proofs.Codes.LeastPolynomials.{factor-vanishes, none-lower, times-power-sum}
 use Rattle.words.proofs.Codes.InnerWords.{inner-is, inner-roots, remainder-value}
 use Rattle.words.proofs.Codes.InnerRoots.{inner-code}
-use Rattle.inner_words.specs.InnerResidues.{coefficient, wordResidue, residuesOf}
-use Rattle.inner_words.specs.Passes.{wrongWords}
+use Rattle.inner_words.specs.Steps.InnerResidues.{coefficient, wordResidue, residuesOf}
+use Rattle.inner_words.specs.Steps.Passes.{wrongWords}
 use Rattle.inner_words.proofs.InterleavedBits.{inner-word-length, place-to-bit}
 use Rattle.inner_words.proofs.SideBySide.{orTo-bit, orTo-lt}
 

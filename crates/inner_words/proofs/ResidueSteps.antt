@@ -10,11 +10,11 @@ use mir.Syntax.{w64}
 use mir.Val.{Fits}
 use Rattle.fields.specs.Lists.{tabulate}
 use Rattle.fields.specs.Places.{at}
-use Rattle.fields.specs.Buffers.{Placed}
+use Rattle.fields.specs.Steps.Buffers.{Placed}
 use Rattle.fields.proofs.Lists.{tabulate-same}
 use Rattle.fields.proofs.Places.Filling.{Filled, filled-start, filled-end, FilledOver, over-next}
 use Rattle.words.specs.InnerCode.{factors}
-use Rattle.inner_words.specs.InnerResidues.{swapped, allSwapped, loadedAt, residueOf, residuesOf, advanced, begun}
+use Rattle.inner_words.specs.Steps.InnerResidues.{swapped, allSwapped, loadedAt, residueOf, residuesOf, advanced, begun}
 use Rattle.inner_words.proofs.InnerResidues.{advancedBy, residue-more, begun-residue, turned-cell}
 
 -- ---- places

@@ -11,13 +11,13 @@ use lib.Pow.{pow-pos}
 use Rattle.fields.specs.Elements.{scale}
 use Rattle.fields.specs.Places.{at, every}
 use Rattle.fields.proofs.Lists.{tabulate-at, tabulate-lt}
-use Rattle.lanes.specs.LaneSteps.{orTo}
+use Rattle.lanes.specs.Steps.LaneSteps.{orTo}
 use Rattle.words.specs.Bits.{bitOf, numberOf, bitAt}
 use Rattle.words.specs.InnerCode.{innerRemainder, innerParity}
 use Rattle.words.specs.InnerWords.{innerData}
 use Rattle.words.proofs.Bits.Numbers.{bitOf-lt, bitOf-zero, bitOf-number}
 use Rattle.words.proofs.Bits.Bytes.{bitAt-lt}
-use Rattle.inner_words.specs.SideBySide.{placeAt, parities}
+use Rattle.inner_words.specs.Steps.SideBySide.{placeAt, parities}
 
 -- ---- bit k of a number
 

@@ -15,14 +15,14 @@ use lib.Pow.{pow-mono}
 use mir.Syntax.{w64}
 use mir.Val.{Fits}
 use Rattle.fields.specs.Elements.{xor, powersB}
-use Rattle.fields.specs.ByTables.{tablePower}
+use Rattle.fields.specs.Steps.ByTables.{tablePower}
 use Rattle.fields.specs.Places.{at, every, value, differs, apart}
 use Rattle.fields.proofs.ByTables.{table-power}
 use Rattle.fields.proofs.Instances.{field-b}
 use Rattle.fields.proofs.Lists.{tabulate-is}
 use Rattle.fields.proofs.Xor.{xor-lt, xor-self, xor-zero-l, xor-zero-r}
 use Rattle.fields.proofs.Places.Tests.{every-at, every-false, below-all}
-use Rattle.decoding.specs.Decoder.{xorTo, errorAt, withErrors}
+use Rattle.decoding.specs.Steps.Decoder.{xorTo, errorAt, withErrors}
 use Rattle.decoding.proofs.Algebra.Tables.{powers-length}
 use Rattle.decoding.proofs.Decoding.Changes.{error-lt, weight-most, errors-length, errors-at, apart-errors}
 use Rattle.words.specs.Bits.{bitOf, numberOf, bitAt}
@@ -34,9 +34,9 @@ use Rattle.words.proofs.Codes.Horner.{horner-same, horner-sum}
 use Rattle.words.proofs.Codes.InnerRoots.{inner-code}
 use Rattle.words.proofs.Codes.Proved.{codes}
 use Rattle.words.proofs.Decoding.InnerSyndromes.{value-powers}
-use Rattle.inner_words.specs.InnerResidues.{WordResidues, oddValue, isSingle}
-use Rattle.inner_words.specs.Passes.{wrongWords, WordCorrected, WordTried}
-use Rattle.inner_words.specs.Proposals.{Nearer}
+use Rattle.inner_words.specs.Steps.InnerResidues.{WordResidues, oddValue, isSingle}
+use Rattle.inner_words.specs.Steps.Passes.{wrongWords, WordCorrected, WordTried}
+use Rattle.inner_words.specs.Steps.Proposals.{Nearer}
 use Rattle.inner_words.proofs.InterleavedBits.{inner-word-length, place-to-bit}
 use Rattle.inner_words.proofs.InnerSteps.{wrong-lt, wrong-bit}
 use Rattle.inner_words.proofs.InnerPass.{restored-some, restored-code, restored-length, word-other, wrong-set}

@@ -17,7 +17,7 @@ use mir.Val.{Fits}
 use Rattle.fields.specs.Lists.{tabulate}
 use Rattle.fields.specs.Elements.{xor, scale}
 use Rattle.fields.specs.Places.{at, sumTo, differs, apart}
-use Rattle.fields.specs.Buffers.{Placed}
+use Rattle.fields.specs.Steps.Buffers.{Placed}
 use Rattle.fields.proofs.Lists.{tabulate-at, tabulate-length, tabulate-same}
 use Rattle.fields.proofs.Xor.{xor-assoc, xor-cancel, xor-self, xor-zero-r}
 use Rattle.fields.proofs.Places.Counting.{sum-same}
@@ -31,9 +31,9 @@ use Rattle.words.proofs.Bits.Numbers.{bitOf-lt, bitOf-zero, bitOf-number, numbe
 use Rattle.words.proofs.Codes.ShiftedBits.{bitOf-sum}
 use Rattle.words.proofs.Codes.InnerWords.{inner-is}
 use Rattle.words.proofs.Codes.Proved.{codes}
-use Rattle.inner_words.specs.SideBySide.{placeAt, byteOf64}
-use Rattle.inner_words.specs.Passes.{wrongWords, InnerPassed}
-use Rattle.inner_words.specs.Proposals.{Flipped, flipCounts, overRadius, beyondRadius, ones, Nearer}
+use Rattle.inner_words.specs.Steps.SideBySide.{placeAt, byteOf64}
+use Rattle.inner_words.specs.Steps.Passes.{wrongWords, InnerPassed}
+use Rattle.inner_words.specs.Steps.Proposals.{Flipped, flipCounts, overRadius, beyondRadius, ones, Nearer}
 use Rattle.inner_words.proofs.InterleavedBits.{inner-word-length}
 use Rattle.inner_words.proofs.SideBySide.{place-bit, bit-product, bit-or, all-ones}
 use Rattle.inner_words.proofs.InnerSteps.{wrong-lt, wrong-not, wrong-bit}

@@ -16,19 +16,19 @@ use mir.Syntax.{w16, w64}
 use mir.Val.{Fits}
 use Rattle.fields.specs.Lists.{tabulate}
 use Rattle.fields.specs.Elements.{xor, powersB}
-use Rattle.fields.specs.ByTables.{tablePower}
+use Rattle.fields.specs.Steps.ByTables.{tablePower}
 use Rattle.fields.specs.Places.{at, value, differs}
 use Rattle.fields.proofs.ByTables.{table-power}
 use Rattle.fields.proofs.Instances.{field-b}
 use Rattle.fields.proofs.Lists.{tabulate-is, tabulate-length}
 use Rattle.fields.proofs.Xor.{xor-zero-r}
-use Rattle.decoding.specs.Decoder.{xorTo, errorAt, withErrors}
+use Rattle.decoding.specs.Steps.Decoder.{xorTo, errorAt, withErrors}
 use Rattle.decoding.proofs.Algebra.Tables.{xorTo-same}
 use Rattle.decoding.proofs.Decoding.Changes.{errors-at}
 use Rattle.words.specs.Bits.{bitOf, bitAt, bitsOf, bytesOf}
 use Rattle.words.specs.InnerCode.{divisor, remainder, powerB, isInner}
 use Rattle.words.specs.Nearest.{nearest}
-use Rattle.words.specs.InnerDecoding.{oddValues, flips, ErrorsOf, InnerErrors, inverted, explains}
+use Rattle.words.specs.Steps.InnerDecoding.{oddValues, flips, ErrorsOf, InnerErrors, inverted, explains}
 use Rattle.words.specs.InnerWords.{innerWord, innerRestored}
 use Rattle.words.proofs.Bits.Bytes.{bitAt-lt, bits-at, bits-length, bytes-bit, bytes-length}
 use Rattle.words.proofs.Bits.Numbers.{bitOf-lt, masked-bit}
@@ -38,9 +38,9 @@ use Rattle.words.proofs.Codes.InnerRoots.{valueOf-bits, remainder-bits}
 use Rattle.words.proofs.Codes.Proved.{codes}
 use Rattle.words.proofs.Decoding.InnerSyndromes.{value-powers, odd-value-b}
 use Rattle.words.proofs.Decoding.Inner.{flip-at, inner-found, inner-lost}
-use Rattle.inner_words.specs.InnerResidues.{coefficient, wordResidue, residuesOf, WordResidues, oddValue}
-use Rattle.inner_words.specs.Passes.{wrongWords, WordCorrected}
-use Rattle.inner_words.specs.Proposals.{Nearer}
+use Rattle.inner_words.specs.Steps.InnerResidues.{coefficient, wordResidue, residuesOf, WordResidues, oddValue}
+use Rattle.inner_words.specs.Steps.Passes.{wrongWords, WordCorrected}
+use Rattle.inner_words.specs.Steps.Proposals.{Nearer}
 use Rattle.inner_words.proofs.InterleavedBits.{inner-word-length, place-to-bit}
 use Rattle.inner_words.proofs.ResidueCodes.{residue-bit, residue-value, residue-lt}
 use Rattle.inner_words.proofs.InnerPass.{restored-none, restored-some, Passing, word-same, wrong-set}

@@ -1,6 +1,2 @@
--- What the functions on the 64 inner words of a frame give.
-pub mod SideBySide
-pub mod InnerResidues
-pub mod ParityMatrix
-pub mod Passes
-pub mod Proposals
+-- Nothing in this crate has to be believed: what its functions give.
+pub mod Steps

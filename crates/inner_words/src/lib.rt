@@ -8,12 +8,12 @@ ghost use mathlib.Core.Bool.{true};
 ghost use Prim.Native.Nat.{ℕ, _<_};
 ghost use lib.ListN.{length};
 ghost use Rattle.fields.specs.Elements.{powersB, exponentsB};
-ghost use Rattle.fields.specs.Buffers.{Placed};
+ghost use Rattle.fields.specs.Steps.Buffers.{Placed};
 ghost use Rattle.words.specs.Bits.{bitOf, bitAt, bytesOf};
 ghost use Rattle.words.specs.InnerWords.{withParity};
-ghost use Rattle.inner_words.specs.SideBySide.{parities, parityBytes};
-ghost use Rattle.inner_words.specs.InnerResidues.{WordResidues};
-ghost use Rattle.inner_words.specs.Passes.{wrongWords, InnerPassed, innerCodes};
+ghost use Rattle.inner_words.specs.Steps.SideBySide.{parities, parityBytes};
+ghost use Rattle.inner_words.specs.Steps.InnerResidues.{WordResidues};
+ghost use Rattle.inner_words.specs.Steps.Passes.{wrongWords, InnerPassed, innerCodes};
 
 mod odd_values;
 mod one_by_one;

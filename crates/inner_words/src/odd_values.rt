@@ -5,9 +5,9 @@ ghost use mathlib.Core.Path.{_≡_};
 ghost use Prim.Native.Nat.{_*_, _<_};
 ghost use lib.ListN.{length};
 ghost use Rattle.fields.specs.Lists.{tabulate};
-ghost use Rattle.fields.specs.ByTables.{tablePower};
+ghost use Rattle.fields.specs.Steps.ByTables.{tablePower};
 ghost use Rattle.words.specs.Bits.{bitOf};
-ghost use Rattle.inner_words.specs.InnerResidues.{oddValue};
+ghost use Rattle.inner_words.specs.Steps.InnerResidues.{oddValue};
 
 // a^n, if bit k of x, the highest first, is 1; else 0.
 fn term(exp: &[u16], x: u64, k: usize, n: u16) -> u16

@@ -7,12 +7,12 @@ ghost use mathlib.Core.Bool.{true, _&&_, cond};
 ghost use Prim.Native.Nat.{ℕ, _<_};
 ghost use lib.ListN.{length};
 ghost use Rattle.fields.specs.Elements.{powersB, exponentsB};
-ghost use Rattle.decoding.specs.PowerTables.{PowerTables};
+ghost use Rattle.decoding.specs.Steps.PowerTables.{PowerTables};
 ghost use Rattle.words.specs.Bits.{bitOf, bitAt};
 ghost use Rattle.words.specs.InnerCode.{isInner};
 ghost use Rattle.words.specs.InnerWords.{innerWord};
-ghost use Rattle.inner_words.specs.InnerResidues.{WordResidues};
-ghost use Rattle.inner_words.specs.Passes.{wrongWords, WordCorrected, InnerPassed, innerCodes};
+ghost use Rattle.inner_words.specs.Steps.InnerResidues.{WordResidues};
+ghost use Rattle.inner_words.specs.Steps.Passes.{wrongWords, WordCorrected, InnerPassed, innerCodes};
 
 // Inner word k of the block becomes the code word within eight places, and the answer is true; without one it is left as received.
 fn correct_word(

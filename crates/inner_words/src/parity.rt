@@ -8,7 +8,7 @@ ghost use mathlib.Core.List.{[], _∷_};
 ghost use Prim.Native.Nat.{_<_, _/_, _%_};
 ghost use lib.ListN.{length};
 ghost use Rattle.fields.specs.Lists.{tabulate};
-ghost use Rattle.inner_words.specs.ParityMatrix.{parityRows, fourSum, fourSums, rowSum, rowSums};
+ghost use Rattle.inner_words.specs.Steps.ParityMatrix.{parityRows, fourSum, fourSums, rowSum, rowSums};
 
 // Groups of four numbers, and the sums of one group.
 const FOURS: usize = Inner::PARITY / 4;

@@ -5,9 +5,9 @@ ghost use Prim.Native.Nat.{ℕ, _+_, _*_, _≤_, _<_};
 ghost use lib.ListN.{length};
 ghost use Rattle.fields.specs.Lists.{tabulate};
 ghost use Rattle.fields.specs.Places.{at};
-ghost use Rattle.fields.specs.Buffers.{Placed};
-ghost use Rattle.inner_words.specs.SideBySide.{placeAt, byteOf64};
-ghost use Rattle.inner_words.specs.Passes.{counted};
+ghost use Rattle.fields.specs.Steps.Buffers.{Placed};
+ghost use Rattle.inner_words.specs.Steps.SideBySide.{placeAt, byteOf64};
+ghost use Rattle.inner_words.specs.Steps.Passes.{counted};
 
 // Place p of every inner word: bit k, the highest first, is that of word k.
 pub fn place(bytes: &[u8], p: usize) -> u64

@@ -9,8 +9,8 @@ ghost use mathlib.Core.Path.{_≡_};
 ghost use Prim.Native.Nat.{_+_, _*_, _<_};
 ghost use lib.ListN.{length};
 ghost use Rattle.words.specs.Bits.{bitAt};
-ghost use Rattle.inner_words.specs.Passes.{wrongWords};
-ghost use Rattle.inner_words.specs.Proposals.{Flipped, flipCounts, overRadius, beyondRadius, ones, Nearer};
+ghost use Rattle.inner_words.specs.Steps.Passes.{wrongWords};
+ghost use Rattle.inner_words.specs.Steps.Proposals.{Flipped, flipCounts, overRadius, beyondRadius, ones, Nearer};
 
 // Inverts the places that `flips` has a 1 for, in the inner words that the mask has a 1 for.
 fn flip_places(flips: &[u64], mask: u64, block: &mut [u8])

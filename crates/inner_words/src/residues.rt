@@ -11,11 +11,11 @@ ghost use mathlib.Core.Path.{_≡_};
 ghost use Prim.Native.Nat.{_+_, _*_, _≤_, _<_};
 ghost use lib.ListN.{length};
 ghost use Rattle.fields.specs.Places.{at};
-ghost use Rattle.fields.specs.Buffers.{Placed};
-ghost use Rattle.lanes.specs.LaneSteps.{orTo, cells};
+ghost use Rattle.fields.specs.Steps.Buffers.{Placed};
+ghost use Rattle.lanes.specs.Steps.LaneSteps.{orTo, cells};
 ghost use Rattle.words.specs.Bits.{bitAt};
-ghost use Rattle.inner_words.specs.Passes.{wrongWords};
-ghost use Rattle.inner_words.specs.InnerResidues.{swapped, allSwapped, loadedAt, advanced, begun, residueOf, residuesOf};
+ghost use Rattle.inner_words.specs.Steps.Passes.{wrongWords};
+ghost use Rattle.inner_words.specs.Steps.InnerResidues.{swapped, allSwapped, loadedAt, advanced, begun, residueOf, residuesOf};
 
 // Blocks of eleven places that come after the first five in the data of an inner word.
 pub const DATA_BLOCKS: usize = WORD_BLOCKS - FACTORS;

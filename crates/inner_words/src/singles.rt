@@ -9,13 +9,13 @@ ghost use mathlib.Core.Bool.{true, false, cond};
 ghost use Prim.Native.Nat.{ℕ, _<_};
 ghost use lib.ListN.{length};
 ghost use Rattle.fields.specs.Elements.{powersB};
-ghost use Rattle.fields.specs.ByTables.{tablePower};
+ghost use Rattle.fields.specs.Steps.ByTables.{tablePower};
 ghost use Rattle.words.specs.Bits.{bitOf, bitAt};
 ghost use Rattle.words.specs.InnerCode.{isInner};
 ghost use Rattle.words.specs.InnerWords.{innerWord};
-ghost use Rattle.inner_words.specs.InnerResidues.{WordResidues, oddValue, isSingle};
-ghost use Rattle.inner_words.specs.Passes.{wrongWords, WordCorrected, WordTried};
-ghost use Rattle.inner_words.specs.Proposals.{Nearer};
+ghost use Rattle.inner_words.specs.Steps.InnerResidues.{WordResidues, oddValue, isSingle};
+ghost use Rattle.inner_words.specs.Steps.Passes.{wrongWords, WordCorrected, WordTried};
+ghost use Rattle.inner_words.specs.Steps.Proposals.{Nearer};
 
 // The order of a.
 const ORDER: usize = (1 << lanes::DEGREE) - 1;

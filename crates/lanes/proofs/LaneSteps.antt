@@ -13,10 +13,10 @@ use Rattle.fields.specs.Elements.{xor}
 use Rattle.fields.specs.Places.{at}
 use Rattle.fields.proofs.Places.Filling.{Filled, filled-end}
 use Rattle.lanes.specs.declared.Lanes.{Lanes}
-use Rattle.lanes.specs.LaneSteps.{orTo}
-use Rattle.lanes.specs.LaneSteps.{cells}
-use Rattle.lanes.specs.LaneSteps.{turns, bit, sum, masked, nonzero, doubled, timesPower, productStep, product, square}
-use Rattle.lanes.specs.LaneSteps.{get, stored, put, copied, oddStep, oddSyndrome, syndromeStep, syndromes}
+use Rattle.lanes.specs.Steps.LaneSteps.{orTo}
+use Rattle.lanes.specs.Steps.LaneSteps.{cells}
+use Rattle.lanes.specs.Steps.LaneSteps.{turns, bit, sum, masked, nonzero, doubled, timesPower, productStep, product, square}
+use Rattle.lanes.specs.Steps.LaneSteps.{get, stored, put, copied, oddStep, oddSyndrome, syndromeStep, syndromes}
 
 -- ---- loops
 

@@ -14,9 +14,9 @@ use Rattle.fields.specs.Elements.{xor}
 use Rattle.lanes.specs.declared.Lanes.{Lanes}
 use Rattle.lanes.specs.declared.side_by_side.Lengths.{Lengths}
 use Rattle.lanes.specs.declared.side_by_side.Progress.{Progress}
-use Rattle.lanes.specs.LaneSteps.{turns, bit, sum, nonzero, product, chosen, get, put, copied, allWords, termsIn, discrepancyStep, discrepancy}
-use Rattle.lanes.specs.LaneSteps.{combinedStep, combined, followedStep, followed, reflected, lengthenedStep, lengthened}
-use Rattle.lanes.specs.LaneSteps.{Polynomials, combinedAll, step, locators, degree}
+use Rattle.lanes.specs.Steps.LaneSteps.{turns, bit, sum, nonzero, product, chosen, get, put, copied, allWords, termsIn, discrepancyStep, discrepancy}
+use Rattle.lanes.specs.Steps.LaneSteps.{combinedStep, combined, followedStep, followed, reflected, lengthenedStep, lengthened}
+use Rattle.lanes.specs.Steps.LaneSteps.{Polynomials, combinedAll, step, locators, degree}
 use Rattle.lanes.proofs.LaneSteps.{turns-next, turns-over}
 
 -- ---- discrepancies

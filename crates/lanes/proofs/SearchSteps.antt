@@ -11,15 +11,15 @@ use lib.ListN.{length, getD, set, replicate}
 use Rattle.fields.specs.Lists.{tabulate}
 use Rattle.fields.specs.Elements.{xor}
 use Rattle.fields.specs.Places.{at}
-use Rattle.fields.specs.Buffers.{Placed}
+use Rattle.fields.specs.Steps.Buffers.{Placed}
 use Rattle.fields.proofs.Lists.{tabulate-length, tabulate-at, tabulate-is}
 use Rattle.fields.proofs.Places.Placing.{Placing, placing-next, placing-end}
 use Rattle.lanes.specs.declared.Lanes.{Lanes}
-use Rattle.lanes.specs.LaneSteps.{orTo}
-use Rattle.lanes.specs.LaneSteps.{turns, sum, nonzero, doubled, timesPower, coordinates, row, get, stored, put, syndromes, allWords, locators, degree}
-use Rattle.lanes.specs.LaneSteps.{firstTerm, sequenceStep, sequence, sequenceOf, rowStep, firstRows, constantStep, constants}
-use Rattle.lanes.specs.LaneSteps.{nineStep, nextNine, twoStep, nextTwo, nextRows, rowsOf, placesIn}
-use Rattle.lanes.specs.LaneSteps.{nonzero2, cell4, nonzero4, cell8, nonzero8, others, blockFlips, flipsBy, flips2, flips4, flips8, proposal}
+use Rattle.lanes.specs.Steps.LaneSteps.{orTo}
+use Rattle.lanes.specs.Steps.LaneSteps.{turns, sum, nonzero, doubled, timesPower, coordinates, row, get, stored, put, syndromes, allWords, locators, degree}
+use Rattle.lanes.specs.Steps.LaneSteps.{firstTerm, sequenceStep, sequence, sequenceOf, rowStep, firstRows, constantStep, constants}
+use Rattle.lanes.specs.Steps.LaneSteps.{nineStep, nextNine, twoStep, nextTwo, nextRows, rowsOf, placesIn}
+use Rattle.lanes.specs.Steps.LaneSteps.{nonzero2, cell4, nonzero4, cell8, nonzero8, others, blockFlips, flipsBy, flips2, flips4, flips8, proposal}
 use Rattle.lanes.proofs.LaneSteps.{some-next, some-end}
 use Rattle.lanes.proofs.LaneSteps.{turns-next, turns-over}
 

@@ -1,2 +1,2 @@
--- Elements for 64 inner words at once, and what the steps give that find their wrong places.
-pub mod LaneSteps
+-- Nothing in this crate has to be believed: what its functions give.
+pub mod Steps

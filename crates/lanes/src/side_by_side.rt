@@ -17,12 +17,12 @@ use decoding::RADIUS;
 ghost use mathlib.Core.Path.{_≡_};
 ghost use Prim.Native.Nat.{_+_, _*_, _≤_, _<_};
 ghost use lib.ListN.{length};
-ghost use Rattle.fields.specs.Buffers.{Placed};
-ghost use Rattle.lanes.specs.LaneSteps.{bit, sum, masked, nonzero, doubled, timesPower, productStep, product, square, chosen, coordinates, row};
-ghost use Rattle.lanes.specs.LaneSteps.{get, stored, put, copied, oddSyndrome, syndromes};
-ghost use Rattle.lanes.specs.LaneSteps.{termsIn, discrepancy, combined, followed, reflected, lengthened, step, locators, degree};
-ghost use Rattle.lanes.specs.LaneSteps.{firstTerm, sequence, firstRows, constants, nextNine, nextTwo, placesIn};
-ghost use Rattle.lanes.specs.LaneSteps.{nonzero2, nonzero4, nonzero8, blockFlips, flips2, flips4, flips8, proposal};
+ghost use Rattle.fields.specs.Steps.Buffers.{Placed};
+ghost use Rattle.lanes.specs.Steps.LaneSteps.{bit, sum, masked, nonzero, doubled, timesPower, productStep, product, square, chosen, coordinates, row};
+ghost use Rattle.lanes.specs.Steps.LaneSteps.{get, stored, put, copied, oddSyndrome, syndromes};
+ghost use Rattle.lanes.specs.Steps.LaneSteps.{termsIn, discrepancy, combined, followed, reflected, lengthened, step, locators, degree};
+ghost use Rattle.lanes.specs.Steps.LaneSteps.{firstTerm, sequence, firstRows, constants, nextNine, nextTwo, placesIn};
+ghost use Rattle.lanes.specs.Steps.LaneSteps.{nonzero2, nonzero4, nonzero8, blockFlips, flips2, flips4, flips8, proposal};
 
 // Elements that a bank has place for, and its numbers.
 const ELEMENTS: usize = 16;

@@ -6,8 +6,5 @@ pub mod Nearest
 pub mod InnerWords
 pub mod Answers
 pub mod Codes
--- need not be believed: what the functions below the entries give
-pub mod Division
-pub mod SixSymbols
-pub mod Limbs
-pub mod InnerDecoding
+-- need not be believed
+pub mod Steps

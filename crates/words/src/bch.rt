@@ -11,11 +11,11 @@ ghost use lib.ListN.{length};
 ghost use lib.Dec.{eqb};
 ghost use Rattle.fields.specs.Elements.{xor, scale, doubled, powersB, exponentsB};
 ghost use Rattle.fields.specs.Places.{at};
-ghost use Rattle.decoding.specs.Decoder.{withErrors};
+ghost use Rattle.decoding.specs.Steps.Decoder.{withErrors};
 ghost use Rattle.words.specs.Bits.{bitAt, bitsOf, numberOf, bitOf, bytesOf};
 ghost use Rattle.words.specs.InnerCode.{valueOf, factors, divisor, remainder};
-ghost use Rattle.words.specs.Limbs.{number, Holds, residue, Residues};
-ghost use Rattle.words.specs.InnerDecoding.{oddValues, plusTerm, flips, InnerErrors};
+ghost use Rattle.words.specs.Steps.Limbs.{number, Holds, residue, Residues};
+ghost use Rattle.words.specs.Steps.InnerDecoding.{oddValues, plusTerm, flips, InnerErrors};
 
 // Coefficients below z^48, the low ones, stand in one number, the others in another.
 const LOW_BITS: usize = 48;

@@ -10,10 +10,10 @@ ghost use mathlib.Core.Bool.{true};
 ghost use Prim.Native.Nat.{_≤_};
 ghost use lib.ListN.{length};
 ghost use Rattle.fields.specs.Places.{at, allBelow};
-ghost use Rattle.decoding.specs.Decoder.{withError, withErrors};
+ghost use Rattle.decoding.specs.Steps.Decoder.{withError, withErrors};
 ghost use Rattle.words.specs.Answers.{outerCorrected};
-ghost use Rattle.words.specs.Division.{outerRemainder};
-ghost use Rattle.words.specs.SixSymbols.{Packs};
+ghost use Rattle.words.specs.Steps.Division.{outerRemainder};
+ghost use Rattle.words.specs.Steps.SixSymbols.{Packs};
 
 // Adds v to the symbol at place i; a place past the end changes nothing.
 fn add(out: &mut [u16], i: usize, v: u16)

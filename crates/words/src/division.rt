@@ -10,7 +10,7 @@ ghost use Rattle.fields.specs.Lists.{tabulate};
 ghost use Rattle.fields.specs.Elements.{timesA};
 ghost use Rattle.fields.specs.Places.{at, allBelow};
 ghost use Rattle.words.specs.OuterCode.{generator, shiftedIn, outerParity};
-ghost use Rattle.words.specs.Division.{multiples};
+ghost use Rattle.words.specs.Steps.Division.{multiples};
 
 // A digit has so many values.
 const DIGITS: u16 = 32;

@@ -20,6 +20,7 @@ ghost use Rattle.words.specs.Answers.{outerChecked, outerEncoded, innerC
 
 mod bch;
 pub mod corrector;
+pub mod digit_table;
 mod division;
 pub mod packed;
 mod reed_solomon;
@@ -83,7 +84,7 @@ pub fn check_outer(word: &[u16]) -> u8
     }
     let exp = fields::exp_a();
     let log = fields::log_a();
-    let table = packed::table();
+    let table = digit_table::table();
     let rest = packed::remainder(&table, word);
     let values = packed::root_values(&exp, &log, rest);
     if symbols::all_below(&values, 1) { 0 } else { 4 }
@@ -115,7 +116,7 @@ pub fn correct_outer(word: &[u16], out: &mut [u16]) -> Correction
     if number != 0 {
         return Correction::Refused { number };
     }
-    let table = packed::table();
+    let table = digit_table::table();
     let rest = packed::remainder(&table, word);
     corrector::correct_from(rest, word, out)
 }

@@ -4,7 +4,7 @@ use decoding::symbols;
 ghost use mathlib.Core.Path.{_≡_};
 ghost use lib.ListN.{length};
 ghost use Rattle.fields.specs.Places.{allBelow};
-ghost use Rattle.decoding.specs.ByTables.{tableValue, rootValues};
+ghost use Rattle.decoding.specs.Steps.ByTables.{tableValue, rootValues};
 ghost use Rattle.words.specs.OuterCode.{generator};
 ghost use Rattle.words.specs.Answers.{refusal, within};
 

@@ -10,9 +10,9 @@ ghost use lib.ListN.{length};
 ghost use lib.Dec.{eqb};
 ghost use Rattle.fields.specs.Elements.{xor, powersB, exponentsB};
 ghost use Rattle.fields.specs.Places.{differs};
-ghost use Rattle.decoding.specs.PowerTables.{PowerTables};
+ghost use Rattle.decoding.specs.Steps.PowerTables.{PowerTables};
 ghost use Rattle.words.specs.Bits.{bitAt};
-ghost use Rattle.words.specs.InnerDecoding.{Syndromes, isBit, isBinary, ErrorsOf, inverted, explains};
+ghost use Rattle.words.specs.Steps.InnerDecoding.{Syndromes, isBit, isBinary, ErrorsOf, inverted, explains};
 
 // The values of a polynomial, or of a word, at a, a^3, .. a^15.
 pub struct OddValues {
@@ -67,7 +67,7 @@ pub(crate) fn errors_of(exp: &[u16], log: &[u16], odd: OddValues) -> Errors
     decoding::decode_bits(exp, log, t, Inner::PLACES)
 }
 
-// The same by tables of powers, which the caller lends from word to word.
+// The errors in an inner word, from its odd syndromes, by tables of powers, which the caller lends from word to word.
 pub fn errors_by_tables(exp: &[u16], log: &[u16], tables: &mut [u16], odd: OddValues) -> Errors
     requires { ⌜ (now exp ≡ powersB) × (now log ≡ exponentsB) × PowerTables (now exp) (now tables) ⌝ }
     ensures errors { λ r. ⌜ ErrorsOf (odd .at) (r .places .at) (r .values) (r .places .count) (r .left) ⌝ }

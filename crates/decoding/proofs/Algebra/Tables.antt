@@ -7,14 +7,14 @@ use native.Mathlib.Omega.{arith}
 use lib.ListN.{length}
 use Rattle.fields.specs.Elements.{xor, times, power, exponent, powers, exponents, powersB, exponentsB}
 use Rattle.fields.specs.Field.{Field}
-use Rattle.fields.specs.ByTables.{tableProduct, tableInverse, tablePower, FieldTables}
+use Rattle.fields.specs.Steps.ByTables.{tableProduct, tableInverse, tablePower, FieldTables}
 use Rattle.fields.specs.Places.{at, horner}
 use Rattle.fields.proofs.ByTables.{table-power, table-product, table-inverse}
 use Rattle.fields.proofs.Lists.{tabulate-length, tabulate-at}
 use Rattle.fields.proofs.Instances.{field-tables-b}
-use Rattle.decoding.specs.ByTables.{tableValue}
-use Rattle.decoding.specs.Decoder.{Tables, locator, xorTo, timesPower, syndrome}
-use Rattle.decoding.specs.Annihilator.{applied}
+use Rattle.decoding.specs.Steps.ByTables.{tableValue}
+use Rattle.decoding.specs.Steps.Decoder.{Tables, locator, xorTo, timesPower, syndrome}
+use Rattle.decoding.specs.Steps.Annihilator.{applied}
 use Rattle.decoding.proofs.Algebra.Field.{Ops, Laws, upto, mul-zero, mul-comm, mul-add}
 use Rattle.decoding.proofs.Algebra.PowerSums.{sum, powerSum, valueAt}
 use Rattle.decoding.proofs.Algebra.Locators.{appliedTo}

@@ -28,7 +28,7 @@ module _ {A : Type 0} (O : Ops A) {In : A → Type 0} (K : Laws O In) where
         (vandermonde ps (d .1) (λ k. (X k ⊕ X i) ⊙ e k) (λ k. K .in-mul _ _) sums) in
         (sym (add-zero O K _) ∙ ap (λ x. e i ⊕ x) (sym (sum-zero O K ps e rest)) ∙ h 0 (omega arith), rest)
 
-    -- the same from the s-th power sum on, where no locator is zero
+    -- values whose power sums vanish from the s-th on are zero, where no locator is zero
     pub vandermonde-from : ((i : I) → ¬ (X i ≡ 𝟘)) → (s : ℕ) (ps : List I) → Apart X ps → (e : I → A) → ((i : I) → In (e i)) →
         ((j : ℕ) → j < length ps → powerSum O X e ps (s + j) ≡ 𝟘) → All (λ i. e i ≡ 𝟘) ps
     unfolding powerSum

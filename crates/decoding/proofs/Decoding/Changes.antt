@@ -11,13 +11,13 @@ use lib.Dec.{eqb, lit<}
 use lib.ListN.{length}
 use lib.Pow.{pow-pos}
 use Rattle.fields.specs.Elements.{xor}
-use Rattle.fields.specs.ByTables.{tableProduct, tablePower}
+use Rattle.fields.specs.Steps.ByTables.{tableProduct, tablePower}
 use Rattle.fields.specs.Places.{at, allBelow, horner, sumTo, differs, apart}
 use Rattle.fields.proofs.Lists.{tabulate-at, tabulate-length}
 use Rattle.fields.proofs.Xor.{xor-cancel, xor-lt, xor-self, xor-zero-l, xor-zero-r}
 use Rattle.fields.proofs.Places.Tests.{below-at, below-all}
 use Rattle.fields.proofs.Places.Counting.{differs-most, differs-self, sum-zero, sum-same, sum-add}
-use Rattle.decoding.specs.Decoder.{Tables, locator, xorTo, timesPower, syndrome, errorAt, Correctable, Decoded, weightOf, withErrors}
+use Rattle.decoding.specs.Steps.Decoder.{Tables, locator, xorTo, timesPower, syndrome, errorAt, Correctable, Decoded, weightOf, withErrors}
 use Rattle.decoding.proofs.Algebra.PowerSums.{powerSum-add, horner-sums}
 use Rattle.decoding.proofs.Algebra.Tables.{tableOps, table-laws, table-powers, xorTo-same, table-value, syndrome-is}
 

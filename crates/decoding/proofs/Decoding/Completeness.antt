@@ -11,14 +11,14 @@ use lib.Dec.{eqb}
 use lib.ListN.{length, set, replicate, length-set, length-replicate}
 use lib.Seq.{getD-set-same, getD-set-other}
 use Rattle.fields.specs.Elements.{xor}
-use Rattle.fields.specs.ByTables.{tableProduct}
+use Rattle.fields.specs.Steps.ByTables.{tableProduct}
 use Rattle.fields.specs.Places.{at}
 use Rattle.fields.proofs.Places.Filling.{zeros-at}
 use Rattle.decoding.specs.declared.error_values.Errors.{Errors}
 use Rattle.decoding.specs.declared.root_search.Places.{Places}
-use Rattle.decoding.specs.Decoder.{Tables, locator, xorTo, timesPower, syndrome, errorAt, Correctable, Decoded}
-use Rattle.decoding.specs.RootSearch.{backwards, Roots}
-use Rattle.decoding.specs.ErrorValues.{errorValue, lessError, resolved, Located}
+use Rattle.decoding.specs.Steps.Decoder.{Tables, locator, xorTo, timesPower, syndrome, errorAt, Correctable, Decoded}
+use Rattle.decoding.specs.Steps.RootSearch.{backwards, Roots}
+use Rattle.decoding.specs.Steps.ErrorValues.{errorValue, lessError, resolved, Located}
 use Rattle.decoding.proofs.Algebra.Field as F
 use Rattle.decoding.proofs.Algebra.Field.{Ops, Laws, all-map, upto, upto-lt}
 use Rattle.decoding.proofs.Algebra.PowerSums.{sum, powerSum, sum-zero, sum-at, sum-put}

@@ -12,14 +12,14 @@ use lib.ListN.{length, set, replicate, length-set}
 use lib.Seq.{getD-set-same, getD-set-other}
 use Rattle.fields.specs.Elements.{xor}
 use Rattle.fields.specs.Lists.{tabulate}
-use Rattle.fields.specs.ByTables.{tableProduct, tableInverse}
+use Rattle.fields.specs.Steps.ByTables.{tableProduct, tableInverse}
 use Rattle.fields.specs.Places.{at, sumTo, differs}
 use Rattle.fields.proofs.Lists.{tabulate-at, tabulate-lt}
 use Rattle.fields.proofs.Places.Counting.{differs-most, sum-most, sum-one-more}
 use Rattle.fields.proofs.Places.Filling.{zeros-at}
 use Rattle.decoding.specs.declared.annihilator.Row.{Row}
-use Rattle.decoding.specs.Decoder.{Tables}
-use Rattle.decoding.specs.Annihilator.{Annihilates, powerRow, plusScaled, Zeros, cleared, noRow, cellsOf, reduced, FirstNonzero}
+use Rattle.decoding.specs.Steps.Decoder.{Tables}
+use Rattle.decoding.specs.Steps.Annihilator.{Annihilates, powerRow, plusScaled, Zeros, cleared, noRow, cellsOf, reduced, FirstNonzero}
 use Rattle.decoding.proofs.Algebra.Field.{Ops, Laws, add-self, add-zero, mul-comm, mul-assoc, mul-zero}
 use Rattle.decoding.proofs.Algebra.Locators.{appliedTo, applied-same, applied-linear, applied-zero, applied-power}
 use Rattle.decoding.proofs.Algebra.Tables.{tableOps, table-laws, table-applied}

@@ -10,7 +10,7 @@ use lib.Dec.{lit<}
 use lib.ListN.{length, set, length-set, length-replicate}
 use lib.Seq.{getD-set-same, getD-set-other}
 use Rattle.fields.specs.Elements.{xor}
-use Rattle.fields.specs.ByTables.{tableProduct, tablePower}
+use Rattle.fields.specs.Steps.ByTables.{tableProduct, tablePower}
 use Rattle.fields.specs.Places.{at, allBelow}
 use Rattle.fields.proofs.Lists.{tabulate-same}
 use Rattle.fields.proofs.Xor.{xor-cancel, xor-zero-r}
@@ -18,9 +18,9 @@ use Rattle.fields.proofs.Places.Filling.{zeros-at}
 use Rattle.fields.proofs.Places.Tests.{below-at}
 use Rattle.decoding.specs.declared.error_values.Errors.{Errors}
 use Rattle.decoding.specs.declared.root_search.Places.{Places}
-use Rattle.decoding.specs.Decoder.{Tables, locator, timesPower, syndrome, errorAt, Decoded}
-use Rattle.decoding.specs.RootSearch.{Roots}
-use Rattle.decoding.specs.ErrorValues.{lessError, Located, lessPowers, flipped, flippedTo}
+use Rattle.decoding.specs.Steps.Decoder.{Tables, locator, timesPower, syndrome, errorAt, Decoded}
+use Rattle.decoding.specs.Steps.RootSearch.{Roots}
+use Rattle.decoding.specs.Steps.ErrorValues.{lessError, Located, lessPowers, flipped, flippedTo}
 use Rattle.decoding.proofs.Algebra.Tables.{table-laws, table-powers, table-power-at, table-power-sum}
 use Rattle.decoding.proofs.Decoding.Changes.{errors-weight, weight-most}
 use Rattle.decoding.proofs.Decoding.Completeness.{left-none, left-next}

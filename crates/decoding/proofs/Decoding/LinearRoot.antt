@@ -7,12 +7,12 @@ use native.Mathlib.Nat.{le-refl}
 use native.Mathlib.Omega.{arith}
 use lib.ListN.{length, getD}
 use Rattle.fields.specs.Elements.{xor}
-use Rattle.fields.specs.ByTables.{tableProduct, tableInverse, tablePower}
+use Rattle.fields.specs.Steps.ByTables.{tableProduct, tableInverse, tablePower}
 use Rattle.fields.specs.Places.{at, horner}
 use Rattle.fields.proofs.Xor.{xor-zero-l}
-use Rattle.decoding.specs.ByTables.{tableValue}
-use Rattle.decoding.specs.Decoder.{Tables, locator}
-use Rattle.decoding.specs.RootSearch.{lessModulo, RootAt, FirstRoot}
+use Rattle.decoding.specs.Steps.ByTables.{tableValue}
+use Rattle.decoding.specs.Steps.Decoder.{Tables, locator}
+use Rattle.decoding.specs.Steps.RootSearch.{lessModulo, RootAt, FirstRoot}
 use Rattle.decoding.proofs.Algebra.Field.{Ops, Laws, cancel, eq-of-add, undo, zero-mul}
 use Rattle.decoding.proofs.Algebra.Tables.{tableOps, Powers, table-laws, table-powers, table-exponent, table-power-at}
 use Rattle.decoding.proofs.Decoding.RootPlaces.{locator-in}

@@ -10,13 +10,13 @@ use borrow.Author.Tests.{eq-eqb, ne-eqb}
 use lib.Dec.{lit<}
 use lib.ListN.{length}
 use Rattle.fields.specs.Elements.{xor}
-use Rattle.fields.specs.ByTables.{tableProduct, tablePower}
+use Rattle.fields.specs.Steps.ByTables.{tableProduct, tablePower}
 use Rattle.fields.specs.Places.{at}
 use Rattle.fields.proofs.Lists.{tabulate-at}
 use Rattle.fields.proofs.Xor.{xor-assoc, xor-zero-l}
-use Rattle.decoding.specs.ByTables.{tableValue}
-use Rattle.decoding.specs.Decoder.{Tables, locator, timesPower, xorTo}
-use Rattle.decoding.specs.PowerTables.{reciprocals, tableBase, tableStart, tableBases, tableStarts, tablePosition, fourAt, eightAt, tablesSum, TablesFor}
+use Rattle.decoding.specs.Steps.ByTables.{tableValue}
+use Rattle.decoding.specs.Steps.Decoder.{Tables, locator, timesPower, xorTo}
+use Rattle.decoding.specs.Steps.PowerTables.{reciprocals, tableBase, tableStart, tableBases, tableStarts, tablePosition, fourAt, eightAt, tablesSum, TablesFor}
 use Rattle.decoding.proofs.Algebra.Field as F
 use Rattle.decoding.proofs.Algebra.Field.{Ops, Laws}
 use Rattle.decoding.proofs.Algebra.Elements.{isZero}

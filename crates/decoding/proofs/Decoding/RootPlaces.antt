@@ -10,12 +10,12 @@ use borrow.Author.Tests.{eq-eqb, ne-eqb}
 use lib.Dec.{eqb}
 use lib.ListN.{length}
 use Rattle.fields.specs.Elements.{xor}
-use Rattle.fields.specs.ByTables.{tableProduct}
+use Rattle.fields.specs.Steps.ByTables.{tableProduct}
 use Rattle.fields.specs.Places.{at, differs}
-use Rattle.decoding.specs.ByTables.{tableValue}
-use Rattle.decoding.specs.Decoder.{Correctable, Tables, locator}
-use Rattle.decoding.specs.Annihilator.{applied, Annihilates}
-use Rattle.decoding.specs.RootSearch.{rootPlaces}
+use Rattle.decoding.specs.Steps.ByTables.{tableValue}
+use Rattle.decoding.specs.Steps.Decoder.{Correctable, Tables, locator}
+use Rattle.decoding.specs.Steps.Annihilator.{applied, Annihilates}
+use Rattle.decoding.specs.Steps.RootSearch.{rootPlaces}
 use Rattle.decoding.proofs.Algebra.Field.{Ops, Laws, All, all-map, Apart, upto, upto-apart, all-upto, zero-add}
 use Rattle.decoding.proofs.Algebra.PowerSums.{sum, powerSum, valueAt}
 use Rattle.decoding.proofs.Algebra.Support.{support, support-nonzero, all-support, support-apart, support-powerSum, support-count}

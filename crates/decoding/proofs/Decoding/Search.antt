@@ -12,13 +12,13 @@ use lib.Dec.{eqb, ltb}
 use lib.ListN.{length, set, length-set}
 use lib.Seq.{getD-set-same, getD-set-other}
 use Rattle.fields.specs.Elements.{xor}
-use Rattle.fields.specs.ByTables.{tableProduct, tableInverse, tablePower}
+use Rattle.fields.specs.Steps.ByTables.{tableProduct, tableInverse, tablePower}
 use Rattle.fields.specs.Places.{at}
 use Rattle.fields.proofs.Lists.{tabulate-at, tabulate-length, tabulate-lt}
 use Rattle.decoding.specs.declared.root_search.Terms.{Terms}
-use Rattle.decoding.specs.ByTables.{tableValue}
-use Rattle.decoding.specs.Decoder.{Tables, locator, xorTo, timesPower}
-use Rattle.decoding.specs.RootSearch.{addTerm, withTerm, termsTo, Exponents, powersTo, lessModulo, lowered, RootAt, quotientOf}
+use Rattle.decoding.specs.Steps.ByTables.{tableValue}
+use Rattle.decoding.specs.Steps.Decoder.{Tables, locator, xorTo, timesPower}
+use Rattle.decoding.specs.Steps.RootSearch.{addTerm, withTerm, termsTo, Exponents, powersTo, lessModulo, lowered, RootAt, quotientOf}
 use Rattle.decoding.proofs.Algebra.Field.{Ops, Laws, add-zero, mul-left, undo}
 use Rattle.decoding.proofs.Algebra.PowerSums.{valueAt, value-in, value-same}
 use Rattle.decoding.proofs.Algebra.Locators.{value-first, quotient-root, root-quotient}
@@ -82,7 +82,7 @@ fallen es ls k e s = timesPower (tableProduct es ls) (tableInverse es ls (at es 
 pub record Walk (es ls v : List ℕ) (n j : ℕ) (e s : List ℕ) (count : ℕ) : Type 0 where
   pub values : (k : ℕ) → j + k < n → xorTo count (λ l. fallen es ls k (at e l) (at s l)) ≡ tableValue es ls v (locator es n (j + k))
 
--- the same for the terms of degree below d
+-- the sum of the terms of degree below d
 record Part (es ls v : List ℕ) (n j d : ℕ) (t : Terms) : Type 0 where
   pub few : t .count ≤ d
   pub long : (length (t .exponents) ≡ 9) × (length (t .steps) ≡ 9)

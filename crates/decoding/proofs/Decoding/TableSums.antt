@@ -7,12 +7,12 @@ use native.Mathlib.Omega.{arith}
 use borrow.Author.Tests.{eqb-true, ltb-true}
 use lib.Dec.{eqb, ltb}
 use Rattle.fields.specs.Elements.{xor, scale, doubled, power, powersB, exponentsB}
-use Rattle.fields.specs.ByTables.{tableProduct, tablePower}
+use Rattle.fields.specs.Steps.ByTables.{tableProduct, tablePower}
 use Rattle.fields.specs.Places.{at, every}
 use Rattle.fields.proofs.ByTables.{table-power}
 use Rattle.fields.proofs.Instances.{field-b}
 use Rattle.fields.proofs.Places.Tests.{every-at}
-use Rattle.decoding.specs.PowerTables.{near, far}
+use Rattle.decoding.specs.Steps.PowerTables.{near, far}
 use Rattle.decoding.proofs.Algebra.Tables.{table-laws, table-powers, table-power-sum, tables-b}
 
 -- the power of x = a^(-d), and the test of table d

@@ -9,10 +9,10 @@ use borrow.Author.Tests.{eq-eqb, ne-eqb}
 use lib.Dec.{eqb}
 use lib.ListN.{length}
 use Rattle.fields.specs.Elements.{xor}
-use Rattle.fields.specs.ByTables.{tablePower}
+use Rattle.fields.specs.Steps.ByTables.{tablePower}
 use Rattle.fields.specs.Places.{at, sumTo, differs}
 use Rattle.fields.proofs.Places.Counting.{differs-by, differs-none, sum-add, sum-mono}
-use Rattle.decoding.specs.Decoder.{Tables, xorTo, syndrome, errorAt}
+use Rattle.decoding.specs.Steps.Decoder.{Tables, xorTo, syndrome, errorAt}
 use Rattle.decoding.proofs.Algebra.Field.{Ops, Laws, upto, eq-of-add}
 use Rattle.decoding.proofs.Algebra.Support.{support, support-count}
 use Rattle.decoding.proofs.Algebra.Distance.{distance}

@@ -6,12 +6,12 @@ use native.Mathlib.Nat.{le-refl}
 use native.Mathlib.Omega.{arith}
 use lib.ListN.{length}
 use Rattle.fields.specs.Elements.{xor}
-use Rattle.fields.specs.ByTables.{tableProduct, tableInverse}
+use Rattle.fields.specs.Steps.ByTables.{tableProduct, tableInverse}
 use Rattle.fields.specs.Places.{at}
 use Rattle.fields.proofs.Lists.{tabulate-at}
-use Rattle.decoding.specs.Decoder.{Tables, locator, timesPower}
-use Rattle.decoding.specs.RootSearch.{backwards}
-use Rattle.decoding.specs.ErrorValues.{filtered, filteredBy, filterFactor, errorValue, lessError}
+use Rattle.decoding.specs.Steps.Decoder.{Tables, locator, timesPower}
+use Rattle.decoding.specs.Steps.RootSearch.{backwards}
+use Rattle.decoding.specs.Steps.ErrorValues.{filtered, filteredBy, filterFactor, errorValue, lessError}
 use Rattle.decoding.proofs.Algebra.Field as F
 use Rattle.decoding.proofs.Algebra.Field.{Ops, Laws, All, all-map, cancel, eq-of-add, mul-left, undo}
 use Rattle.decoding.proofs.Algebra.PowerSums.{sum, powerSum, sum-zero, powerSum-filter}

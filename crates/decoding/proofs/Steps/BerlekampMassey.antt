@@ -14,14 +14,14 @@ use lib.ListN.{length, getD, set, replicate, length-set}
 use lib.Seq.{getD-set-same, getD-set-other}
 use Rattle.fields.specs.Elements.{xor}
 use Rattle.fields.specs.Lists.{tabulate}
-use Rattle.fields.specs.ByTables.{tableProduct, tableInverse}
+use Rattle.fields.specs.Steps.ByTables.{tableProduct, tableInverse}
 use Rattle.fields.specs.Places.{at}
 use Rattle.fields.proofs.Lists.{tabulate-lt}
 use Rattle.fields.proofs.Ways.{past}
 use Rattle.fields.proofs.Places.Filling.{zeros-at}
 use Rattle.decoding.specs.declared.annihilator.Recurrence.{Recurrence}
-use Rattle.decoding.specs.Decoder.{Tables, xorTo}
-use Rattle.decoding.specs.Annihilator.{applied, Annihilates, convolved, plusShifted, adjusted, berlekampMasseyStep, berlekampMassey, reversedAt}
+use Rattle.decoding.specs.Steps.Decoder.{Tables, xorTo}
+use Rattle.decoding.specs.Steps.Annihilator.{applied, Annihilates, convolved, plusShifted, adjusted, berlekampMasseyStep, berlekampMassey, reversedAt}
 use Rattle.decoding.proofs.Algebra.Tables.{table-laws, xorTo-same}
 
 -- ---- sums

@@ -13,13 +13,13 @@ use lib.Dec.{eqb, ltb}
 use lib.ListN.{length, getD, set, replicate, length-set}
 use lib.Seq.{getD-set-same, getD-set-other}
 use Rattle.fields.specs.Elements.{xor}
-use Rattle.fields.specs.ByTables.{placeIn, productAt, tableProduct, tableInverse}
+use Rattle.fields.specs.Steps.ByTables.{placeIn, productAt, tableProduct, tableInverse}
 use Rattle.fields.specs.Places.{at}
 use Rattle.fields.proofs.Lists.{tabulate-is}
 use Rattle.fields.proofs.Xor.{xor-zero-r}
 use Rattle.fields.proofs.Places.Filling.{zeros-at}
 use Rattle.decoding.specs.declared.annihilator.Row.{Row}
-use Rattle.decoding.specs.Annihilator.{powerRow, plusScaled, PlusPart, Zeros, cleared, noRow, cellsOf, reduced, FirstNonzero}
+use Rattle.decoding.specs.Steps.Annihilator.{powerRow, plusScaled, PlusPart, Zeros, cleared, noRow, cellsOf, reduced, FirstNonzero}
 
 -- the first i cells are those of the row of x^d, the others zero
 pub record PowerRow (es ls t : List ℕ) (d i : ℕ) (cells : List ℕ) : Type 0 where

@@ -7,12 +7,12 @@ use native.Mathlib.Omega.{arith}
 use borrow.Author.Tests.{eq-eqb, ne-eqb}
 use lib.ListN.{getD, set}
 use Rattle.fields.specs.Elements.{xor}
-use Rattle.fields.specs.ByTables.{tableProduct, tableInverse, tablePower}
+use Rattle.fields.specs.Steps.ByTables.{tableProduct, tableInverse, tablePower}
 use Rattle.fields.specs.Places.{at, sumTo, differs}
 use Rattle.fields.proofs.Places.Filling.{Filled, filled-next, filled-end}
 use Rattle.decoding.specs.declared.error_values.Errors.{Errors}
-use Rattle.decoding.specs.Decoder.{locator, timesPower, weightOf}
-use Rattle.decoding.specs.ErrorValues.{filtered, filteredBy, filterFactor, errorValue, lessError, resolved}
+use Rattle.decoding.specs.Steps.Decoder.{locator, timesPower, weightOf}
+use Rattle.decoding.specs.Steps.ErrorValues.{filtered, filteredBy, filterFactor, errorValue, lessError, resolved}
 
 -- the locator of a place, and of a place past the end
 pub locator-inside : (es : List ℕ) (n i r : ℕ) → i < n → r ≡ tablePower es (n - 1 - i) → r ≡ locator es n i

@@ -7,12 +7,12 @@ use native.Mathlib.Numerals.{add-one}
 use native.Mathlib.Omega.{arith}
 use lib.ListN.{length, getD, set, replicate}
 use Rattle.fields.specs.Elements.{xor}
-use Rattle.fields.specs.ByTables.{tablePower}
+use Rattle.fields.specs.Steps.ByTables.{tablePower}
 use Rattle.fields.specs.Places.{at}
 use Rattle.fields.proofs.Places.Filling.{Filled, filled-start, filled-next, filled-end}
 use Rattle.decoding.specs.declared.error_values.Errors.{Errors}
 use Rattle.decoding.specs.declared.root_search.Places.{Places}
-use Rattle.decoding.specs.ErrorValues.{lessPowers, flipped, flippedTo}
+use Rattle.decoding.specs.Steps.ErrorValues.{lessPowers, flipped, flippedTo}
 
 -- a sum modulo n
 module _ (n e d : ℕ) where

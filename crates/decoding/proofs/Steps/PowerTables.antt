@@ -12,7 +12,7 @@ use lib.Dec.{eqb, ltb, lit<, lit≤}
 use lib.ListN.{length, getD, set, length-set}
 use lib.Seq.{getD-set-same, getD-set-other}
 use Rattle.fields.specs.Elements.{xor, powersB}
-use Rattle.fields.specs.ByTables.{tablePower}
+use Rattle.fields.specs.Steps.ByTables.{tablePower}
 use Rattle.fields.specs.Lists.{tabulate}
 use Rattle.fields.specs.Places.{at, every, allBelow}
 use Rattle.fields.proofs.Lists.{tabulate-at, tabulate-length, tabulate-lt}
@@ -21,8 +21,8 @@ use Rattle.fields.proofs.Ways.{past}
 use Rattle.fields.proofs.Places.Tests.{below-at}
 use Rattle.fields.proofs.Places.Filling.{Filled, filled-next, filled-end}
 use Rattle.decoding.specs.declared.root_search.Places.{Places}
-use Rattle.decoding.specs.RootSearch.{lessModulo, kept}
-use Rattle.decoding.specs.PowerTables.{PowerTables, TableFilled, near, far, blockSum, stored, withSums, reciprocals, tableBase, tableStart, tableBases, tableStarts, tablePosition, fourAt, eightAt, tablesSum, keptTo}
+use Rattle.decoding.specs.Steps.RootSearch.{lessModulo, kept}
+use Rattle.decoding.specs.Steps.PowerTables.{PowerTables, TableFilled, near, far, blockSum, stored, withSums, reciprocals, tableBase, tableStart, tableBases, tableStarts, tablePosition, fourAt, eightAt, tablesSum, keptTo}
 use Rattle.decoding.proofs.Algebra.Tables.{powers-length}
 use Rattle.decoding.proofs.Decoding.TableSums.{near-least, far-more, table-sum}
 

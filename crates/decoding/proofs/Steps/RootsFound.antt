@@ -12,14 +12,14 @@ use lib.Dec.{ltb}
 use lib.ListN.{length, getD, set, length-set}
 use lib.Seq.{getD-set-same, getD-set-other}
 use Rattle.fields.specs.Elements.{xor}
-use Rattle.fields.specs.ByTables.{tableProduct}
+use Rattle.fields.specs.Steps.ByTables.{tableProduct}
 use Rattle.fields.specs.Places.{at, horner}
 use Rattle.fields.proofs.Lists.{tabulate-length}
 use Rattle.fields.proofs.Places.Filling.{Filled, filled-end}
 use Rattle.decoding.specs.declared.root_search.Places.{Places}
-use Rattle.decoding.specs.ByTables.{tableValue}
-use Rattle.decoding.specs.Decoder.{Tables, locator}
-use Rattle.decoding.specs.RootSearch.{rootPlaces, backwards, kept, Roots, RootAt, FirstRoot, quotientOf}
+use Rattle.decoding.specs.Steps.ByTables.{tableValue}
+use Rattle.decoding.specs.Steps.Decoder.{Tables, locator}
+use Rattle.decoding.specs.Steps.RootSearch.{rootPlaces, backwards, kept, Roots, RootAt, FirstRoot, quotientOf}
 use Rattle.decoding.proofs.Decoding.Search.{quotient-in, root-stays, root-was}
 
 -- ---- the quotient

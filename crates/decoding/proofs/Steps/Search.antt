@@ -11,11 +11,11 @@ use borrow.Author.Tests.{eq-eqb, ne-eqb, lt-ltb, le-ltb}
 use lib.Dec.{eqb}
 use lib.ListN.{length, getD, set, replicate, length-set}
 use Rattle.fields.specs.Elements.{xor}
-use Rattle.fields.specs.ByTables.{tableProduct, tablePower}
+use Rattle.fields.specs.Steps.ByTables.{tableProduct, tablePower}
 use Rattle.fields.specs.Places.{at}
 use Rattle.decoding.specs.declared.root_search.Terms.{Terms}
-use Rattle.decoding.specs.Decoder.{Tables, locator, xorTo, timesPower}
-use Rattle.decoding.specs.RootSearch.{addTerm, withTerm, termsTo, Exponents, powersTo, lessModulo, lowered, RootAt, FirstRoot}
+use Rattle.decoding.specs.Steps.Decoder.{Tables, locator, xorTo, timesPower}
+use Rattle.decoding.specs.Steps.RootSearch.{addTerm, withTerm, termsTo, Exponents, powersTo, lessModulo, lowered, RootAt, FirstRoot}
 use Rattle.decoding.proofs.Decoding.Search.{lowered-long, lowered-other, lowered-in, Walk, walk-value, walk-single, walk-next, terms-long, exponents-in, steps-in, walk-start}
 use Rattle.decoding.proofs.Steps.Errors.{power-next}
 

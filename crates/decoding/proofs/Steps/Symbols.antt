@@ -9,7 +9,7 @@ use borrow.Author.Tests.{lt-ltb, le-ltb, eq-eqb, ne-eqb}
 use lib.Dec.{ltb}
 use lib.ListN.{length, getD}
 use Rattle.fields.specs.Places.{at, every, allBelow}
-use Rattle.fields.specs.Buffers.{copied}
+use Rattle.fields.specs.Steps.Buffers.{copied}
 use Rattle.fields.proofs.Places.Tests.{every-false}
 use Rattle.fields.proofs.Places.Filling.{Filled, filled-start, filled-list}
 

@@ -12,10 +12,10 @@ use lib.ListN.{length, getD}
 use Rattle.fields.specs.Elements.{xor}
 use Rattle.fields.specs.Places.{at}
 use Rattle.decoding.specs.declared.root_search.Places.{Places}
-use Rattle.decoding.specs.ByTables.{tableValue}
-use Rattle.decoding.specs.Decoder.{Tables, locator}
-use Rattle.decoding.specs.RootSearch.{kept, Roots}
-use Rattle.decoding.specs.PowerTables.{PowerTables, tableBases, tableStarts, tablesSum, keptTo, TablesFor}
+use Rattle.decoding.specs.Steps.ByTables.{tableValue}
+use Rattle.decoding.specs.Steps.Decoder.{Tables, locator}
+use Rattle.decoding.specs.Steps.RootSearch.{kept, Roots}
+use Rattle.decoding.specs.Steps.PowerTables.{PowerTables, tableBases, tableStarts, tablesSum, keptTo, TablesFor}
 use Rattle.decoding.proofs.Algebra.Field.{eq-of-add}
 use Rattle.decoding.proofs.Algebra.Tables.{tableOps, table-laws}
 use Rattle.decoding.proofs.Decoding.PowerTables.{tables-value}

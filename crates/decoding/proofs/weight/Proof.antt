@@ -2,7 +2,7 @@
 use mathlib.Core.Path.{_≡_}
 use Prim.Native.Nat.{_-_, _≤_}
 use borrow.Author.Needs.{needs}
-use Rattle.decoding.specs.Decoder.{weightOf}
+use Rattle.decoding.specs.Steps.Decoder.{weightOf}
 use Rattle.decoding.proofs.Steps.Errors.{weight-none, weight-next, weight-end}
 use Rattle.decoding.proofs.weight.Statement.{statement}
 use Rattle.decoding.proofs.weight.Tie as tie

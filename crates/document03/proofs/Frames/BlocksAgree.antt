@@ -18,8 +18,8 @@ use Rattle.words.specs.InnerWords as InnerWords
 use Rattle.words.proofs.Bits.Bytes.{bits-length, bits-at, bytes-length, bytes-bit}
 use Rattle.frames.specs.Frames.{symbolAt, dataIn}
 use Rattle.frames.specs.Correction.{receivedBit, receivedSymbol, receivedWord}
-use Rattle.frames.proofs.FrameBits.{dataIn-first}
-use Rattle.frames.proofs.ReceivedWords.{received-first, received-padding, received-last}
+use Rattle.frames.proofs.Frames.FrameBits.{dataIn-first}
+use Rattle.frames.proofs.OuterSymbols.Received.{received-first, received-padding, received-last}
 use Rattle.document03.proofs.Words.Statements.{allBits}
 use Rattle.document03.proofs.Words.WordsAgree.{all-below}
 use Rattle.document03.proofs.Frames.Statements.{innerWord, outerOf}

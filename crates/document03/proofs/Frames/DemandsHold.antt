@@ -18,7 +18,7 @@ use Rattle.frames.specs.Frames.{wrongBits}
 use Rattle.frames.specs.Frames as Frames
 use Rattle.frames.specs.Answers.{Corrected, refused, frameCorrected}
 use Rattle.frames.specs.Demands.{Restored, wrongCounts, Premise}
-use Rattle.frames.proofs.ReportCounts.{wrong-in}
+use Rattle.frames.proofs.Correction.ReportCounts.{wrong-in}
 use Rattle.frames.proofs.Demands as Ours
 use Rattle.document03.proofs.Fields.{isIn, fields}
 use Rattle.document03.proofs.Words.Statements.{isInner, apart, allBits}

@@ -17,7 +17,7 @@ use Rattle.words.proofs.Bits.Bytes.{bits-length, bits-at, bits-same}
 use Rattle.frames.specs.Frames.{dataIn, sentBit, wrongBits}
 use Rattle.frames.specs.Frames as Frames
 use Rattle.frames.specs.Answers as Answers
-use Rattle.frames.proofs.FrameBits.{payloadOf-length, sentBit-lt, frame-length}
+use Rattle.frames.proofs.Frames.FrameBits.{payloadOf-length, sentBit-lt, frame-length}
 use Rattle.document03.proofs.Words.Statements.{when, same, apart}
 use Rattle.document03.proofs.Words.Says.{bytesOf}
 use Rattle.document03.proofs.Words.WordsAgree.{apart-agrees}

@@ -13,8 +13,8 @@ use Rattle.words.specs.Bits.{bitAt}
 use Rattle.frames.specs.Frames.{dataIn}
 use Rattle.frames.specs.Correction.{receivedBit}
 use Rattle.frames.specs.Demands.{wrongAt, lostSymbols}
-use Rattle.frames.proofs.FrameBits.{dataIn-le}
-use Rattle.frames.proofs.ReceivedWords.{received-first, received-padding, received-last}
+use Rattle.frames.proofs.Frames.FrameBits.{dataIn-le}
+use Rattle.frames.proofs.OuterSymbols.Received.{received-first, received-padding, received-last}
 use Rattle.document03.proofs.Fields.{isIn}
 use Rattle.document03.proofs.Words.Statements.{when}
 use Rattle.document03.proofs.Words.WordsAgree.{sum-first}

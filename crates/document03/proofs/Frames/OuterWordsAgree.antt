@@ -13,7 +13,7 @@ use Rattle.words.specs.Bits.{numberOf, bitAt}
 use Rattle.words.proofs.Bits.Numbers.{numberOf-same}
 use Rattle.frames.specs.Frames.{symbolAt, dataIn, outerData}
 use Rattle.frames.specs.Frames as Frames
-use Rattle.frames.proofs.FrameBits.{dataIn-first, outer-data-below, outer-word-length}
+use Rattle.frames.proofs.Frames.FrameBits.{dataIn-first, outer-data-below, outer-word-length}
 use Rattle.document03.proofs.Words.Statements.{outerChecks}
 use Rattle.document03.proofs.Words.Says.{bitsOf, groupsFrom}
 use Rattle.document03.proofs.Words.OuterAgrees.{parity-agrees}

@@ -24,9 +24,9 @@ use Rattle.frames.specs.Frames.{dataIn}
 use Rattle.frames.specs.Correction.{receivedWord, isPadded}
 use Rattle.frames.specs.Correction as Correction
 use Rattle.frames.specs.Demands.{Uncorrectable, Restored}
-use Rattle.frames.proofs.FrameBits.{dataIn-le}
-use Rattle.frames.proofs.ReceivedWords.{received-length}
-use Rattle.frames.proofs.Permitted.{permitted-is, is-permitted, permitted-nearest}
+use Rattle.frames.proofs.Frames.FrameBits.{dataIn-le}
+use Rattle.frames.proofs.OuterSymbols.Received.{received-length}
+use Rattle.frames.proofs.OuterSymbols.Permitted.{permitted-is, is-permitted, permitted-nearest}
 use Rattle.frames.proofs.Demands.{two-passes}
 use Rattle.document03.proofs.Fields.{pick}
 use Rattle.document03.proofs.Words.Statements.{isOuter, isInner, isNear}

@@ -9,7 +9,7 @@ use Rattle.fields.specs.Places.{at}
 use Rattle.fields.proofs.Places.Placing.{append-at}
 use Rattle.words.specs.Bits.{bitOf}
 use Rattle.frames.specs.Frames.{dataIn, outerBit, outerPlace, sentBit}
-use Rattle.frames.proofs.FrameBits.{dataIn-first, place-first, place-last, place-near}
+use Rattle.frames.proofs.Frames.FrameBits.{dataIn-first, place-first, place-last, place-near}
 use Rattle.document03.proofs.Words.Statements.{bitsFrom}
 use Rattle.document03.proofs.Words.BitRegister.{bits-length, bits-at}
 use Rattle.document03.proofs.Frames.Statements.{symbolBits, sentBits, sentFrom}

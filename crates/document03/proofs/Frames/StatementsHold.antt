@@ -13,8 +13,8 @@ use Rattle.words.specs.Bits as Bits
 use Rattle.words.proofs.Bits.Bytes.{bits-length, bits-at}
 use Rattle.frames.specs.Frames.{isPayload}
 use Rattle.frames.specs.Frames as Frames
-use Rattle.frames.proofs.FrameBits.{frame-length, frame-bit}
-use Rattle.frames.proofs.FarApart.{far}
+use Rattle.frames.proofs.Frames.FrameBits.{frame-length, frame-bit}
+use Rattle.frames.proofs.Frames.FarApart.{far}
 use Rattle.frames.proofs.Proved.{frame-laws}
 use Rattle.document03.proofs.Words.Statements.{same, apart}
 use Rattle.document03.proofs.Words.Says.{bitsOf}

@@ -8,7 +8,7 @@ use native.Mathlib.Omega.{arith}
 use lib.ListN.{length, set, length-set, length-append, List·getD-append}
 use lib.Seq.{getD-set-same, getD-set-other, getD-append-add}
 use Rattle.fields.specs.Places.{at}
-use Rattle.fields.specs.Buffers.{Placed}
+use Rattle.fields.specs.Steps.Buffers.{Placed}
 
 -- the invariant: the first k places of xs are stored
 pub record Placing (i : ℕ) (xs : List ℕ) (k : ℕ) (before after : List ℕ) : Type 0 where

@@ -1,6 +1,6 @@
 -- `frames::check_frame` meets its contract. Assumes nothing.
 use borrow.Author.Needs.{needs}
-use Rattle.frames.proofs.FrameAnswers.{check-length, check-accepted, check-no-frame}
+use Rattle.frames.proofs.Answers.FrameAnswers.{check-length, check-accepted, check-no-frame}
 use Rattle.frames.proofs.check_frame.Statement.{statement}
 use Rattle.frames.proofs.check_frame.Tie as tie
 

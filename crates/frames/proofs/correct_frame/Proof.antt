@@ -1,6 +1,6 @@
 -- `frames::correct_frame` meets its contract. Assumes nothing.
 use borrow.Author.Needs.{needs}
-use Rattle.frames.proofs.CorrectionAnswers.{correct-length, correct-space, correct-none, correct-written}
+use Rattle.frames.proofs.Answers.CorrectionAnswers.{correct-length, correct-space, correct-none, correct-written}
 use Rattle.frames.proofs.correct_frame.Statement.{statement}
 use Rattle.frames.proofs.correct_frame.Tie as tie
 

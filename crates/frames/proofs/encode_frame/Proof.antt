@@ -1,6 +1,6 @@
 -- `frames::encode_frame` meets its contract. Assumes nothing.
 use borrow.Author.Needs.{needs}
-use Rattle.frames.proofs.FrameAnswers.{encode-length, encode-space, encode-written}
+use Rattle.frames.proofs.Answers.FrameAnswers.{encode-length, encode-space, encode-written}
 use Rattle.frames.proofs.encode_frame.Statement.{statement}
 use Rattle.frames.proofs.encode_frame.Tie as tie
 

@@ -1,6 +1,6 @@
 -- `frames::extract_payload` meets its contract. Assumes nothing.
 use borrow.Author.Needs.{needs}
-use Rattle.frames.proofs.FrameAnswers.{extract-length, extract-space, extract-no-frame, extract-written}
+use Rattle.frames.proofs.Answers.FrameAnswers.{extract-length, extract-space, extract-no-frame, extract-written}
 use Rattle.frames.proofs.extract_payload.Statement.{statement}
 use Rattle.frames.proofs.extract_payload.Tie as tie
 

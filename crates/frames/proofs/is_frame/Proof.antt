@@ -1,6 +1,6 @@
 -- `frames::is_frame` meets its contract. Assumes nothing.
 use borrow.Author.Needs.{needs}
-use Rattle.frames.proofs.FrameAnswers.{words-tested, words-refused}
+use Rattle.frames.proofs.Answers.FrameAnswers.{words-tested, words-refused}
 use Rattle.frames.proofs.is_frame.Statement.{statement}
 use Rattle.frames.proofs.is_frame.Tie as tie
 

@@ -1,6 +1,6 @@
 -- `frames::outer_pass` meets its contract. Assumes nothing.
 use borrow.Author.Needs.{needs}
-use Rattle.frames.proofs.CorrectionAnswers.{pass-kept, pass-none, pass-written}
+use Rattle.frames.proofs.Answers.CorrectionAnswers.{pass-kept, pass-none, pass-written}
 use Rattle.frames.proofs.outer_pass.Statement.{statement}
 use Rattle.frames.proofs.outer_pass.Tie as tie
 

@@ -1,6 +1,6 @@
 -- `frames::refused` meets its contract. Assumes nothing.
 use borrow.Author.Needs.{needs}
-use Rattle.frames.proofs.CorrectionAnswers.{none-counted}
+use Rattle.frames.proofs.Answers.CorrectionAnswers.{none-counted}
 use Rattle.frames.proofs.refused.Statement.{statement}
 use Rattle.frames.proofs.refused.Tie as tie
 

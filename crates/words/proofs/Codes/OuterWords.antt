@@ -18,10 +18,10 @@ use Rattle.fields.proofs.Lists.{tabulate-at, tabulate-length, tabulate-lt, tabu
 use Rattle.fields.proofs.Xor.{xor-zero-r, xor-self, xor-cancel}
 use Rattle.fields.proofs.Places.Tests.{every-at, every-true, below-at, below-all, below-append, below-take}
 use Rattle.fields.proofs.Places.Counting.{apart-append}
-use Rattle.decoding.specs.ByTables.{tableValue, rootValue, rootValues}
+use Rattle.decoding.specs.Steps.ByTables.{tableValue, rootValue, rootValues}
 use Rattle.decoding.proofs.Algebra.MinimumDistance.{far-lists}
 use Rattle.words.specs.OuterCode.{powerA, outerValue, isOuter, withRoot, withRoots, generator, outerParity}
-use Rattle.words.specs.Division.{outerRemainder}
+use Rattle.words.specs.Steps.Division.{outerRemainder}
 use Rattle.words.proofs.Codes.TableValues.{value-by-tables, divided-lt}
 use Rattle.words.proofs.Codes.Division.{divided-length, register-value, completed-value}
 use Rattle.words.proofs.Codes.Horner.{Additive, iter, horner-same, horner-sum, horner-parts}

@@ -8,11 +8,11 @@ use lib.ListN.{length}
 use lib.Pow.{pow-pos}
 use Rattle.fields.specs.Elements.{xor, times, powers, exponents}
 use Rattle.fields.specs.Field.{Field}
-use Rattle.fields.specs.ByTables.{tableProduct}
+use Rattle.fields.specs.Steps.ByTables.{tableProduct}
 use Rattle.fields.specs.Places.{at, horner, value}
 use Rattle.fields.proofs.ByTables.{table-product}
 use Rattle.fields.proofs.Lists.{tabulate-lt}
-use Rattle.decoding.specs.ByTables.{tableValue}
+use Rattle.decoding.specs.Steps.ByTables.{tableValue}
 use Rattle.decoding.proofs.Algebra.Values.{value-lt}
 use Rattle.words.specs.OuterCode.{shiftedIn, divided}
 

@@ -11,19 +11,19 @@ use borrow.Author.Tests.{eq-eqb, eqb-true, ne-eqb}
 use lib.Dec.{eqb, lit<}
 use lib.ListN.{length}
 use Rattle.fields.specs.Elements.{xor, powersB, exponentsB}
-use Rattle.fields.specs.ByTables.{tableProduct}
+use Rattle.fields.specs.Steps.ByTables.{tableProduct}
 use Rattle.fields.specs.Places.{at, allBelow, value, sumTo, differs, apart}
 use Rattle.fields.proofs.Lists.{tabulate-at}
 use Rattle.fields.proofs.Xor.{xor-lt, xor-self, xor-zero-l, xor-zero-r}
 use Rattle.fields.proofs.Places.Tests.{every-at, every-true, below-at, below-all}
 use Rattle.fields.proofs.Places.Counting.{differs-most, sum-same}
-use Rattle.decoding.specs.Decoder.{locator, xorTo, syndrome, errorAt, Correctable, Decoded, weightOf, withErrors}
+use Rattle.decoding.specs.Steps.Decoder.{locator, xorTo, syndrome, errorAt, Correctable, Decoded, weightOf, withErrors}
 use Rattle.decoding.proofs.Algebra.Tables.{tables-b}
 use Rattle.decoding.proofs.Decoding.Changes.{differs-sum, error-none, error-lt, weight-most, errors-length, errors-at, apart-errors, syndrome-same, syndrome-add, none-left, few-leave-none}
 use Rattle.words.specs.Bits.{bitAt, bitsOf}
 use Rattle.words.specs.InnerCode.{powerB, isInner}
 use Rattle.words.specs.Nearest.{nearest}
-use Rattle.words.specs.InnerDecoding.{isBit, isBinary, flips, InnerErrors, explains}
+use Rattle.words.specs.Steps.InnerDecoding.{isBit, isBinary, flips, InnerErrors, explains}
 use Rattle.words.proofs.Bits.Bytes.{bitAt-lt, bits-at, bits-length}
 use Rattle.words.proofs.Codes.InnerWords.{inner-is, inner-roots}
 use Rattle.words.proofs.Codes.InnerRoots.{inner-code}

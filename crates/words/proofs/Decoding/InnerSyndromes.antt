@@ -11,13 +11,13 @@ use lib.Dec.{eqb}
 use lib.ListN.{length}
 use Rattle.fields.specs.Elements.{xor, times, power, powersB, exponentsB}
 use Rattle.fields.specs.Field.{Field}
-use Rattle.fields.specs.ByTables.{tableProduct, tablePower}
+use Rattle.fields.specs.Steps.ByTables.{tableProduct, tablePower}
 use Rattle.fields.specs.Places.{at, horner, value, differs}
 use Rattle.fields.proofs.ByTables.{table-power}
 use Rattle.fields.proofs.Instances.{field-b}
 use Rattle.fields.proofs.Lists.{tabulate-at}
 use Rattle.fields.proofs.Xor.{xor-comm, additive-zero}
-use Rattle.decoding.specs.Decoder.{Tables, locator, xorTo, syndrome}
+use Rattle.decoding.specs.Steps.Decoder.{Tables, locator, xorTo, syndrome}
 use Rattle.decoding.proofs.Algebra.Field.{mul-comm, mul-add, mul-zero}
 use Rattle.decoding.proofs.Algebra.PowerSums.{powerSum}
 use Rattle.decoding.proofs.Algebra.Values.{value-lt}
@@ -25,7 +25,7 @@ use Rattle.decoding.proofs.Algebra.Tables.{tableOps, table-laws, table-powers, 
 use Rattle.decoding.proofs.Decoding.Changes.{value-syndrome}
 use Rattle.words.specs.Bits.{bitOf}
 use Rattle.words.specs.InnerCode.{powerB, divisor, remainder}
-use Rattle.words.specs.InnerDecoding.{powersValue, oddValues, Syndromes, isBit}
+use Rattle.words.specs.Steps.InnerDecoding.{powersValue, oddValues, Syndromes, isBit}
 use Rattle.words.proofs.Bits.Numbers.{bitOf-lt}
 use Rattle.words.proofs.Codes.Horner.{Additive, iter, iter-sum, horner-front}
 use Rattle.words.proofs.Codes.TableValues.{product-same, horner-by-tables}

@@ -15,8 +15,8 @@ use Rattle.fields.proofs.Instances.{field-a, field-tables-a}
 use Rattle.fields.proofs.Lists.{tabulate-at}
 use Rattle.fields.proofs.Xor.{xor-lt, xor-self, xor-zero-r}
 use Rattle.fields.proofs.Places.Tests.{every-true, below-at, below-all}
-use Rattle.decoding.specs.ByTables.{tableValue, rootValue, rootValues}
-use Rattle.decoding.specs.Decoder.{Tables, syndrome, errorAt, Decoded, weightOf, withErrors}
+use Rattle.decoding.specs.Steps.ByTables.{tableValue, rootValue, rootValues}
+use Rattle.decoding.specs.Steps.Decoder.{Tables, syndrome, errorAt, Decoded, weightOf, withErrors}
 use Rattle.decoding.proofs.Algebra.Tables.{exponents-length}
 use Rattle.decoding.proofs.Decoding.Changes.{sum-weight, error-lt, weight-most, errors-length, errors-at, apart-errors, syndrome-same, syndrome-add, value-syndrome, none-left, few-leave-none}
 use Rattle.words.specs.OuterCode.{outerValue, isOuter}

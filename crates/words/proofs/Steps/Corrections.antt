@@ -10,23 +10,23 @@ use borrow.Author.Tests.{eq-eqb, eqb-true, le-leb, ne-eqb, not-false, not-true}
 use lib.Dec.{eqb, lit<}
 use lib.ListN.{length, getD, set, length-set}
 use lib.Seq.{getD-set-same, getD-set-other}
-use Rattle.fields.specs.Buffers.{copied}
+use Rattle.fields.specs.Steps.Buffers.{copied}
 use Rattle.fields.specs.Elements.{xor, powersA, exponentsA}
 use Rattle.fields.specs.Places.{at, allBelow}
 use Rattle.fields.proofs.Instances.{field-a}
 use Rattle.fields.proofs.Lists.{tabulate-is, tabulate-same}
 use Rattle.fields.proofs.Xor.{xor-assoc, xor-zero-r}
 use Rattle.fields.proofs.Places.Tests.{below-at, below-all}
-use Rattle.decoding.specs.ByTables.{rootValues}
-use Rattle.decoding.specs.Decoder.{Tables, xorTo, errorAt, Decoded, weightOf, withError, withErrors}
+use Rattle.decoding.specs.Steps.ByTables.{rootValues}
+use Rattle.decoding.specs.Steps.Decoder.{Tables, xorTo, errorAt, Decoded, weightOf, withError, withErrors}
 use Rattle.decoding.proofs.Steps.Symbols.{copied-same}
 use Rattle.decoding.proofs.Algebra.Tables.{powers-length}
 use Rattle.decoding.proofs.Decoding.Changes.{errors-length, errors-at}
 use Rattle.words.specs.declared.Correction.{Correction}
 use Rattle.words.specs.declared.Correction.the-variants.{Corrected, Refused}
 use Rattle.words.specs.Answers.{refusal, within, found, corrected, outerCorrected}
-use Rattle.words.specs.Division.{outerRemainder}
-use Rattle.words.specs.SixSymbols.{Packs, unpacked}
+use Rattle.words.specs.Steps.Division.{outerRemainder}
+use Rattle.words.specs.Steps.SixSymbols.{Packs, unpacked}
 use Rattle.words.proofs.Decoding.Outer.{tables-a, outer-changes, outer-found, outer-lost}
 use Rattle.words.proofs.Steps.Joining.{root-values-made}
 use Rattle.words.proofs.Steps.Entries.{passed}

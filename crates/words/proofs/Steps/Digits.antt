@@ -7,14 +7,14 @@ use native.Mathlib.Numerals.{add-one}
 use native.Mathlib.Omega.{arith}
 use lib.ListN.{length, getD, set}
 use Rattle.fields.specs.Elements.{xor, timesA, powersA, exponentsA}
-use Rattle.fields.specs.ByTables.{tableProduct}
+use Rattle.fields.specs.Steps.ByTables.{tableProduct}
 use Rattle.fields.specs.Places.{at}
 use Rattle.fields.proofs.Instances.{field-a}
 use Rattle.fields.proofs.Lists.{tabulate-at, tabulate-length}
 use Rattle.fields.proofs.Xor.{xor-comm, xor-shifted}
 use Rattle.fields.proofs.Places.Filling.{Filled, filled-next, filled-end}
 use Rattle.words.specs.OuterCode.{generator}
-use Rattle.words.specs.Division.{multiples}
+use Rattle.words.specs.Steps.Division.{multiples}
 use Rattle.words.proofs.Codes.TableValues.{product-same}
 use Rattle.words.proofs.Codes.OuterWords.{generator-lt}
 

@@ -12,14 +12,14 @@ use Rattle.fields.specs.Lists.{tabulate}
 use Rattle.fields.specs.Places.{at, every, allBelow}
 use Rattle.fields.proofs.Lists.{tabulate-at, tabulate-length, tabulate-same}
 use Rattle.fields.proofs.Places.Tests.{every-same}
-use Rattle.decoding.specs.ByTables.{rootValue, rootValues}
+use Rattle.decoding.specs.Steps.ByTables.{rootValue, rootValues}
 use Rattle.words.specs.Bits.{bitOf, numberOf, bitAt, bitsOf, bytesOf}
 use Rattle.words.specs.OuterCode.{outerValue, isOuter, outerParity}
 use Rattle.words.specs.InnerCode.{divisor, remainder, isInner, innerRemainder, innerParity}
 use Rattle.words.specs.Answers.{refusal, within, answered, firstOf, outerChecked, outerEncoded, innerChecked, innerEncoded}
-use Rattle.words.specs.Division.{outerRemainder}
-use Rattle.words.specs.SixSymbols.{Packs, unpacked}
-use Rattle.words.specs.Limbs.{number, Holds}
+use Rattle.words.specs.Steps.Division.{outerRemainder}
+use Rattle.words.specs.Steps.SixSymbols.{Packs, unpacked}
+use Rattle.words.specs.Steps.Limbs.{number, Holds}
 use Rattle.words.proofs.Bits.Numbers.{numberOf-same}
 use Rattle.words.proofs.Bits.Bytes.{bits-at, bits-below, bits-length}
 use Rattle.words.proofs.Codes.Horner.{horner-same}

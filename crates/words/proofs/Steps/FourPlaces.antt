@@ -18,7 +18,7 @@ use Rattle.fields.proofs.Doubling.{doubled-sum, doubled-below, doubled-lt}
 use Rattle.words.specs.declared.bch.Polynomial.{Polynomial}
 use Rattle.words.specs.Bits.{bitOf, numberOf, bitAt}
 use Rattle.words.specs.InnerCode.{divisor, remainder}
-use Rattle.words.specs.Limbs.{number, Holds, residue, zeroPolynomial, Residues}
+use Rattle.words.specs.Steps.Limbs.{number, Holds, residue, zeroPolynomial, Residues}
 use Rattle.words.proofs.Bits.Bytes.{bitAt-lt, number-of-bits}
 use Rattle.words.proofs.Bits.Numbers.{bitOf-lt, numberOf-lt}
 use Rattle.words.proofs.Codes.Horner.{iter, horner-same, iter-sum, horner-parts}

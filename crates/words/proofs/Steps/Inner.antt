@@ -15,9 +15,9 @@ use lib.Pow.{field, mod-mod-pow, shr-shr}
 use lib.Seq.{getD-set-same, getD-set-other}
 use mir.Syntax.{w16, w64}
 use mir.Val.{Fits}
-use Rattle.fields.specs.Buffers.{copied}
+use Rattle.fields.specs.Steps.Buffers.{copied}
 use Rattle.fields.specs.Elements.{xor, powersB, exponentsB}
-use Rattle.fields.specs.ByTables.{tableProduct, tablePower}
+use Rattle.fields.specs.Steps.ByTables.{tableProduct, tablePower}
 use Rattle.fields.specs.Lists.{tabulate}
 use Rattle.fields.specs.Places.{at, every, allBelow, differs}
 use Rattle.fields.proofs.Instances.{field-b}
@@ -25,13 +25,13 @@ use Rattle.fields.proofs.Lists.{tabulate-at, tabulate-same}
 use Rattle.fields.proofs.Xor.{xor-zero-r, xor-assoc, xor-high, xor-bit}
 use Rattle.fields.proofs.Places.Filling.{Filled, filled-next, filled-end}
 use Rattle.fields.proofs.Places.Tests.{every-at, every-false}
-use Rattle.decoding.specs.Decoder.{Tables, locator, xorTo, errorAt, Decoded, withErrors}
+use Rattle.decoding.specs.Steps.Decoder.{Tables, locator, xorTo, errorAt, Decoded, withErrors}
 use Rattle.decoding.proofs.Steps.Symbols.{copied-same}
 use Rattle.decoding.proofs.Algebra.Tables.{powers-length, tables-b}
 use Rattle.words.specs.Bits.{bitOf, bitAt, bitsOf}
 use Rattle.words.specs.InnerCode.{divisor, remainder}
-use Rattle.words.specs.Limbs.{number, Holds}
-use Rattle.words.specs.InnerDecoding.{powersValue, oddValues, plusTerm, Syndromes, isBit, isBinary, flips, ErrorsOf, InnerErrors, inverted, explains}
+use Rattle.words.specs.Steps.Limbs.{number, Holds}
+use Rattle.words.specs.Steps.InnerDecoding.{powersValue, oddValues, plusTerm, Syndromes, isBit, isBinary, flips, ErrorsOf, InnerErrors, inverted, explains}
 use Rattle.words.proofs.Decoding.Inner.{flip-at}
 
 -- coefficient k of 88, the highest first: where it is one of the 48 low ones, and where it is not

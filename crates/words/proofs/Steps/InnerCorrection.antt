@@ -8,12 +8,12 @@ use borrow.Author.Tests.{eq-eqb, ne-eqb, not-true, not-false}
 use lib.ListN.{length, getD}
 use Rattle.fields.specs.Elements.{powersB}
 use Rattle.fields.specs.Places.{at, apart}
-use Rattle.decoding.specs.Decoder.{weightOf, withErrors}
+use Rattle.decoding.specs.Steps.Decoder.{weightOf, withErrors}
 use Rattle.words.specs.Bits.{bitAt, bitsOf, bytesOf}
 use Rattle.words.specs.declared.Correction.{Correction}
 use Rattle.words.specs.declared.Correction.the-variants.{Corrected, Refused}
 use Rattle.words.specs.Answers.{refusal, found, corrected, innerCorrected}
-use Rattle.words.specs.InnerDecoding.{flips, InnerErrors, explains}
+use Rattle.words.specs.Steps.InnerDecoding.{flips, InnerErrors, explains}
 use Rattle.words.proofs.Bits.Bytes.{bytes-again}
 use Rattle.words.proofs.Decoding.Inner.{inner-changes, inner-found, inner-lost}
 

@@ -19,10 +19,10 @@ use Rattle.fields.proofs.Lists.{tabulate-at, tabulate-is, tabulate-length}
 use Rattle.fields.proofs.Xor.{xor-lt, xor-comm, xor-shifted, additive-zero}
 use Rattle.fields.proofs.Places.Tests.{tests-agree, below-at}
 use Rattle.fields.proofs.Places.Filling.{Filled, filled-next, filled-end}
-use Rattle.decoding.specs.ByTables.{rootValues}
+use Rattle.decoding.specs.Steps.ByTables.{rootValues}
 use Rattle.words.specs.OuterCode.{isOuter, generator, divided, outerParity}
-use Rattle.words.specs.Division.{outerRemainder}
-use Rattle.words.specs.SixSymbols.{joined, joinedFrom, symbolOf, six, Packs, packedNumber, unpacked, sixParity, parityEntry, digitParities, unitParities, Stored}
+use Rattle.words.specs.Steps.Division.{outerRemainder}
+use Rattle.words.specs.Steps.SixSymbols.{joined, joinedFrom, symbolOf, six, Packs, packedNumber, unpacked, sixParity, parityEntry, digitParities, unitParities, Stored}
 use Rattle.words.proofs.Codes.OuterWords.{outer-length, parity-below, remainder-cell, remainder-length, remainder-below, zero-code, code-zero, remainder-roots}
 use Rattle.words.proofs.Codes.Packing.{shift-sum, parity-sum, joined-same, joined-lt, parity-joined, high-lt, packs-more, entry-is, six-digit, six-sum, unpacked-is, cells-zero, numbers-zero, joined-last}
 use Rattle.words.proofs.Steps.Loops.{dividedUpTo}

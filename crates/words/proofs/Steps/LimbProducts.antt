@@ -14,7 +14,7 @@ use Rattle.fields.proofs.Doubling.{scale-lt}
 use Rattle.fields.proofs.Xor.{xor-lt}
 use Rattle.fields.proofs.Places.Tests.{every-at}
 use Rattle.words.specs.InnerCode.{valueOf, factors, productOf, divisor}
-use Rattle.words.specs.Limbs.{number, Holds}
+use Rattle.words.specs.Steps.Limbs.{number, Holds}
 
 -- a product by a polynomial of twelve coefficients, the highest first
 product-lt : (y n r : ℕ) → y < 2 ^ 88 → valueOf (λ u. 2 * u) y n r < 2 ^ (88 + n)

@@ -9,7 +9,7 @@ use lib.Pow.{field, mod-mod-pow, shr-shr}
 use borrow.Author.Tests.{ne-eqb}
 use Rattle.fields.specs.Elements.{xor, scale, doubled}
 use Rattle.fields.proofs.Xor.{xor-comm, xor-zero-l}
-use Rattle.words.specs.Limbs.{number, Holds}
+use Rattle.words.specs.Steps.Limbs.{number, Holds}
 use Rattle.words.specs.Bits.{bitOf, numberOf}
 use Rattle.words.proofs.Bits.Bytes.{number-of-bits}
 

@@ -10,12 +10,12 @@ use lib.Dec.{lit<}
 use lib.ListN.{length, getD, set}
 use Rattle.fields.specs.Elements.{xor, timesA}
 use Rattle.fields.specs.Lists.{tabulate}
-use Rattle.fields.specs.ByTables.{tableProduct, tablePower}
+use Rattle.fields.specs.Steps.ByTables.{tableProduct, tablePower}
 use Rattle.fields.specs.Places.{at, allBelow, horner}
 use Rattle.fields.proofs.Instances.{field-a}
 use Rattle.fields.proofs.Places.Tests.{below-at}
 use Rattle.fields.proofs.Places.Filling.{Filled, filled-next, filled-end}
-use Rattle.decoding.specs.ByTables.{tableValue, rootValue, rootValues}
+use Rattle.decoding.specs.Steps.ByTables.{tableValue, rootValue, rootValues}
 use Rattle.words.specs.OuterCode.{generator, shiftedIn, divided, outerParity}
 use Rattle.words.proofs.Codes.TableValues.{divided-lt}
 use Rattle.words.proofs.Codes.OuterWords.{generator-lt}

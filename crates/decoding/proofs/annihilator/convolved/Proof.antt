@@ -2,7 +2,7 @@
 use mathlib.Core.Path.{_≡_}
 use Prim.Native.Nat.{_-_, _≤_}
 use borrow.Author.Needs.{needs}
-use Rattle.decoding.specs.Annihilator.{convolved}
+use Rattle.decoding.specs.Steps.Annihilator.{convolved}
 use Rattle.decoding.proofs.Steps.BerlekampMassey.{convolved-none, convolved-next, convolved-end}
 use Rattle.decoding.proofs.annihilator.convolved.Statement.{statement}
 use Rattle.decoding.proofs.annihilator.convolved.Tie as tie

@@ -2,7 +2,7 @@
 use Prim.Native.Nat.{_-_, _≤_}
 use native.Mathlib.Omega.{arith}
 use borrow.Author.Needs.{needs}
-use Rattle.decoding.specs.Annihilator.{PlusPart}
+use Rattle.decoding.specs.Steps.Annihilator.{PlusPart}
 use Rattle.decoding.proofs.Steps.Elimination.{plus-none, plus-next, plus-end}
 use Rattle.decoding.proofs.annihilator.plus_scaled.Statement.{statement}
 use Rattle.decoding.proofs.annihilator.plus_scaled.Tie as tie

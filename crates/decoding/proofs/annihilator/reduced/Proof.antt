@@ -2,7 +2,7 @@
 use mathlib.Core.Path.{_≡_}
 use Prim.Native.Nat.{_-_, _≤_}
 use borrow.Author.Needs.{needs}
-use Rattle.decoding.specs.Annihilator.{reduced}
+use Rattle.decoding.specs.Steps.Annihilator.{reduced}
 use Rattle.decoding.proofs.Steps.Elimination.{reduced-none, reduced-zeros, reduced-next, reduced-end}
 use Rattle.decoding.proofs.annihilator.reduced.Statement.{statement}
 use Rattle.decoding.proofs.annihilator.reduced.Tie as tie

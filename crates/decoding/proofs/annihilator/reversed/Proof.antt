@@ -2,7 +2,7 @@
 use Prim.Native.Nat.{_-_}
 use borrow.Author.Needs.{needs}
 use Rattle.fields.proofs.Places.Filling.{Filled, filled-start, filled-next, filled-end}
-use Rattle.decoding.specs.Annihilator.{reversedAt}
+use Rattle.decoding.specs.Steps.Annihilator.{reversedAt}
 use Rattle.decoding.proofs.annihilator.reversed.Statement.{statement}
 use Rattle.decoding.proofs.annihilator.reversed.Tie as tie
 

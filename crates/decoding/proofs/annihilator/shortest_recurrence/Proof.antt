@@ -2,7 +2,7 @@
 use mathlib.Core.Path.{_≡_}
 use Prim.Native.Nat.{_-_, _≤_}
 use borrow.Author.Needs.{needs}
-use Rattle.decoding.specs.Annihilator.{berlekampMassey}
+use Rattle.decoding.specs.Steps.Annihilator.{berlekampMassey}
 use Rattle.decoding.proofs.Steps.BerlekampMassey.{berlekamp-massey-none, berlekamp-massey-next, berlekamp-massey-end}
 use Rattle.decoding.proofs.annihilator.shortest_recurrence.Statement.{statement}
 use Rattle.decoding.proofs.annihilator.shortest_recurrence.Tie as tie

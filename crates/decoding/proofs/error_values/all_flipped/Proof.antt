@@ -2,7 +2,7 @@
 use mathlib.Core.Path.{_≡_}
 use Prim.Native.Nat.{_-_, _≤_}
 use borrow.Author.Needs.{needs}
-use Rattle.decoding.specs.ErrorValues.{flippedTo}
+use Rattle.decoding.specs.Steps.ErrorValues.{flippedTo}
 use Rattle.decoding.proofs.Steps.Flips.{flipped-none, flipped-place, flipped-next, flipped-end}
 use Rattle.decoding.proofs.error_values.all_flipped.Statement.{statement}
 use Rattle.decoding.proofs.error_values.all_flipped.Tie as tie

@@ -2,7 +2,7 @@
 use mathlib.Core.Path.{_≡_}
 use Prim.Native.Nat.{_-_, _≤_}
 use borrow.Author.Needs.{needs}
-use Rattle.decoding.specs.ErrorValues.{filteredBy, filterFactor}
+use Rattle.decoding.specs.Steps.ErrorValues.{filteredBy, filterFactor}
 use Rattle.decoding.proofs.Steps.Errors.{filter-none, filter-next, factor-none, factor-next, value-found}
 use Rattle.decoding.proofs.error_values.error_value.Statement.{statement}
 use Rattle.decoding.proofs.error_values.error_value.Tie as tie

@@ -2,9 +2,9 @@
 use mathlib.Core.Path.{_≡_}
 use Prim.Native.Nat.{_-_}
 use borrow.Author.Needs.{needs}
-use Rattle.fields.specs.ByTables.{tableProduct}
+use Rattle.fields.specs.Steps.ByTables.{tableProduct}
 use Rattle.fields.proofs.Places.Filling.{Filled, filled-start}
-use Rattle.decoding.specs.Decoder.{timesPower}
+use Rattle.decoding.specs.Steps.Decoder.{timesPower}
 use Rattle.decoding.proofs.Steps.Errors.{lessEntry, power-none, power-next, less-next, less-end}
 use Rattle.decoding.proofs.error_values.less_error.Statement.{statement}
 use Rattle.decoding.proofs.error_values.less_error.Tie as tie

@@ -2,7 +2,7 @@
 use Prim.Native.Nat.{_-_}
 use native.Mathlib.Omega.{arith}
 use borrow.Author.Needs.{needs}
-use Rattle.decoding.specs.PowerTables.{eightAt}
+use Rattle.decoding.specs.Steps.PowerTables.{eightAt}
 use Rattle.decoding.proofs.Steps.PowerTables.{Unequal, unequal-none, unequal-next, unequal-end}
 use Rattle.decoding.proofs.power_tables.any.Statement.{statement}
 use Rattle.decoding.proofs.power_tables.any.Tie as tie

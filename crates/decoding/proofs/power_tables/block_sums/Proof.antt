@@ -2,7 +2,7 @@
 use Prim.Native.Nat.{_-_}
 use borrow.Author.Needs.{needs}
 use Rattle.fields.proofs.Places.Filling.{Filled, filled-start, filled-end}
-use Rattle.decoding.specs.PowerTables.{blockSum}
+use Rattle.decoding.specs.Steps.PowerTables.{blockSum}
 use Rattle.decoding.proofs.Steps.PowerTables.{sums-next}
 use Rattle.decoding.proofs.power_tables.block_sums.Statement.{statement}
 use Rattle.decoding.proofs.power_tables.block_sums.Tie as tie

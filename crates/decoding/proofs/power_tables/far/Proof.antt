@@ -1,6 +1,6 @@
 -- `decoding::power_tables::far` meets its contract. Assumes nothing.
 use borrow.Author.Needs.{needs}
-use Rattle.decoding.specs.PowerTables.{far}
+use Rattle.decoding.specs.Steps.PowerTables.{far}
 use Rattle.decoding.proofs.Steps.PowerTables.{far-most}
 use Rattle.decoding.proofs.power_tables.far.Statement.{statement}
 use Rattle.decoding.proofs.power_tables.far.Tie as tie

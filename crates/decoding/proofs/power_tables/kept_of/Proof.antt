@@ -3,7 +3,7 @@ use mathlib.Core.Path.{_≡_}
 use Prim.Native.Nat.{_-_, _≤_}
 use native.Mathlib.Omega.{arith}
 use borrow.Author.Needs.{needs}
-use Rattle.decoding.specs.PowerTables.{eightAt, keptTo}
+use Rattle.decoding.specs.Steps.PowerTables.{eightAt, keptTo}
 use Rattle.decoding.proofs.Steps.PowerTables.{kept-none, kept-next, kept-end}
 use Rattle.decoding.proofs.power_tables.kept_of.Statement.{statement}
 use Rattle.decoding.proofs.power_tables.kept_of.Tie as tie

@@ -1,6 +1,6 @@
 -- `decoding::power_tables::near` meets its contract. Assumes nothing.
 use borrow.Author.Needs.{needs}
-use Rattle.decoding.specs.PowerTables.{near}
+use Rattle.decoding.specs.Steps.PowerTables.{near}
 use Rattle.decoding.proofs.Steps.PowerTables.{near-most}
 use Rattle.decoding.proofs.power_tables.near.Statement.{statement}
 use Rattle.decoding.proofs.power_tables.near.Tie as tie

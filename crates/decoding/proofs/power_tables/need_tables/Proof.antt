@@ -3,7 +3,7 @@ use mathlib.Core.Path.{_≡_}
 use Prim.Native.Nat.{_-_}
 use borrow.Author.Needs.{needs}
 use Rattle.fields.specs.Places.{at}
-use Rattle.decoding.specs.PowerTables.{PowerTables}
+use Rattle.decoding.specs.Steps.PowerTables.{PowerTables}
 use Rattle.decoding.proofs.power_tables.need_tables.Statement.{statement}
 use Rattle.decoding.proofs.power_tables.need_tables.Tie as tie
 

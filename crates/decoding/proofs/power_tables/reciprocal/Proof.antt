@@ -1,6 +1,6 @@
 -- `decoding::power_tables::reciprocal` meets its contract. Assumes nothing.
 use borrow.Author.Needs.{needs}
-use Rattle.decoding.specs.PowerTables.{reciprocals}
+use Rattle.decoding.specs.Steps.PowerTables.{reciprocals}
 use Rattle.decoding.proofs.Steps.PowerTables.{reciprocal-lt}
 use Rattle.decoding.proofs.power_tables.reciprocal.Statement.{statement}
 use Rattle.decoding.proofs.power_tables.reciprocal.Tie as tie

@@ -3,7 +3,7 @@ use mathlib.Core.Path.{_≡_}
 use Prim.Native.Nat.{_-_, _≤_}
 use lib.ListN.{length}
 use borrow.Author.Needs.{needs}
-use Rattle.decoding.specs.PowerTables.{stored}
+use Rattle.decoding.specs.Steps.PowerTables.{stored}
 use Rattle.decoding.proofs.Steps.PowerTables.{stored-none, stored-next, stored-end}
 use Rattle.decoding.proofs.power_tables.store_block.Statement.{statement}
 use Rattle.decoding.proofs.power_tables.store_block.Tie as tie

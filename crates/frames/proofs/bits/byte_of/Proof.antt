@@ -1,7 +1,7 @@
 -- `frames::bits::byte_of` meets its contract. Assumes nothing.
 use borrow.Author.Needs.{needs}
 use Rattle.words.proofs.Bits.Numbers.{eight-fit}
-use Rattle.frames.proofs.Windows.{twenty-fit, byte-read}
+use Rattle.frames.proofs.Numbers.Windows.{twenty-fit, byte-read}
 use Rattle.frames.proofs.bits.byte_of.Statement.{statement}
 use Rattle.frames.proofs.bits.byte_of.Tie as tie
 

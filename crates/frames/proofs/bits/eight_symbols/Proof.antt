@@ -1,6 +1,6 @@
 -- `frames::bits::eight_symbols` meets its contract. Assumes nothing.
 use borrow.Author.Needs.{needs}
-use Rattle.frames.proofs.Groups.{eight-are}
+use Rattle.frames.proofs.Numbers.Groups.{eight-are}
 use Rattle.frames.proofs.bits.eight_symbols.Statement.{statement}
 use Rattle.frames.proofs.bits.eight_symbols.Tie as tie
 

@@ -1,6 +1,6 @@
 -- `frames::bits::four_symbols` meets its contract. Assumes nothing.
 use borrow.Author.Needs.{needs}
-use Rattle.frames.proofs.Groups.{ten-wide, four-made}
+use Rattle.frames.proofs.Numbers.Groups.{ten-wide, four-made}
 use Rattle.frames.proofs.bits.four_symbols.Statement.{statement}
 use Rattle.frames.proofs.bits.four_symbols.Tie as tie
 

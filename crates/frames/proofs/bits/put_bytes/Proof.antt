@@ -3,7 +3,7 @@ use native.Mathlib.Omega.{arith}
 use borrow.Author.Needs.{needs}
 use lib.ListN.{length-set}
 use Rattle.words.proofs.Bits.Numbers.{eight-fit}
-use Rattle.frames.proofs.Groups.{bytes-stored}
+use Rattle.frames.proofs.Numbers.Groups.{bytes-stored}
 use Rattle.frames.proofs.bits.put_bytes.Statement.{statement}
 use Rattle.frames.proofs.bits.put_bytes.Tie as tie
 

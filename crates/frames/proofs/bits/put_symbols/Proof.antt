@@ -2,7 +2,7 @@
 use native.Mathlib.Omega.{arith}
 use borrow.Author.Needs.{needs}
 use lib.ListN.{length-set}
-use Rattle.frames.proofs.Groups.{symbols-stored}
+use Rattle.frames.proofs.Numbers.Groups.{symbols-stored}
 use Rattle.frames.proofs.bits.put_symbols.Statement.{statement}
 use Rattle.frames.proofs.bits.put_symbols.Tie as tie
 

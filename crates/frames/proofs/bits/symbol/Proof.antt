@@ -1,6 +1,6 @@
 -- `frames::bits::symbol` meets its contract. Assumes nothing.
 use borrow.Author.Needs.{needs}
-use Rattle.frames.proofs.Windows.{ten-fit, symbol-read}
+use Rattle.frames.proofs.Numbers.Windows.{ten-fit, symbol-read}
 use Rattle.frames.proofs.bits.symbol.Statement.{statement}
 use Rattle.frames.proofs.bits.symbol.Tie as tie
 

@@ -1,6 +1,6 @@
 -- `frames::bits::symbol_in` meets its contract. Assumes nothing.
 use borrow.Author.Needs.{needs}
-use Rattle.frames.proofs.Groups.{symbol-inside}
+use Rattle.frames.proofs.Numbers.Groups.{symbol-inside}
 use Rattle.frames.proofs.bits.symbol_in.Statement.{statement}
 use Rattle.frames.proofs.bits.symbol_in.Tie as tie
 

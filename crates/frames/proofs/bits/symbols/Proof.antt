@@ -1,7 +1,7 @@
 -- `frames::bits::symbols` meets its contract. Assumes nothing.
 use borrow.Author.Needs.{needs}
 use Rattle.inner_words.proofs.InnerSteps.{byte-fits}
-use Rattle.frames.proofs.OuterTest.{symbols-read}
+use Rattle.frames.proofs.OuterSymbols.Tested.{symbols-read}
 use Rattle.frames.proofs.bits.symbols.Statement.{statement}
 use Rattle.frames.proofs.bits.symbols.Tie as tie
 

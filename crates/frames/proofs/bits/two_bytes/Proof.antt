@@ -1,7 +1,7 @@
 -- `frames::bits::two_bytes` meets its contract. Assumes nothing.
 use borrow.Author.Needs.{needs}
 use mir.Facts.{fits-widen}
-use Rattle.frames.proofs.Groups.{two-made}
+use Rattle.frames.proofs.Numbers.Groups.{two-made}
 use Rattle.frames.proofs.bits.two_bytes.Statement.{statement}
 use Rattle.frames.proofs.bits.two_bytes.Tie as tie
 

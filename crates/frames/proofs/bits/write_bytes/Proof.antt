@@ -3,8 +3,8 @@ use Prim.Native.Nat.{_-_, _*_, _≤_}
 use borrow.Author.Needs.{needs}
 use Rattle.fields.specs.Places.{at}
 use Rattle.fields.proofs.Places.Placing.{Placing, placing-start}
-use Rattle.frames.specs.Symbols.{symbolBit, partsOf}
-use Rattle.frames.proofs.Groups.{bytes-next, groups-end}
+use Rattle.frames.specs.Steps.Symbols.{symbolBit, partsOf}
+use Rattle.frames.proofs.Numbers.Groups.{bytes-next, groups-end}
 use Rattle.frames.proofs.bits.write_bytes.Statement.{statement}
 use Rattle.frames.proofs.bits.write_bytes.Tie as tie
 

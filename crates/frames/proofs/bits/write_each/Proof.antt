@@ -3,8 +3,8 @@ use Prim.Native.Nat.{_-_}
 use borrow.Author.Needs.{needs}
 use Rattle.fields.proofs.Places.Placing.{Placing, placing-start}
 use Rattle.words.specs.Bits.{bitAt}
-use Rattle.frames.specs.Symbols.{partsOf}
-use Rattle.frames.proofs.Groups.{each-next, parts-end}
+use Rattle.frames.specs.Steps.Symbols.{partsOf}
+use Rattle.frames.proofs.Numbers.Groups.{each-next, parts-end}
 use Rattle.frames.proofs.bits.write_each.Statement.{statement}
 use Rattle.frames.proofs.bits.write_each.Tie as tie
 

@@ -1,6 +1,6 @@
 -- `frames::bits::write_from_bit` meets its contract. Assumes nothing.
 use borrow.Author.Needs.{needs}
-use Rattle.frames.proofs.Groups.{each-and-bytes, byte-room}
+use Rattle.frames.proofs.Numbers.Groups.{each-and-bytes, byte-room}
 use Rattle.frames.proofs.bits.write_from_bit.Statement.{statement}
 use Rattle.frames.proofs.bits.write_from_bit.Tie as tie
 

@@ -1,6 +1,6 @@
 -- `frames::bits::write_from_byte` meets its contract. Assumes nothing.
 use borrow.Author.Needs.{needs}
-use Rattle.frames.proofs.Groups.{eights-and-each}
+use Rattle.frames.proofs.Numbers.Groups.{eights-and-each}
 use Rattle.frames.proofs.bits.write_from_byte.Statement.{statement}
 use Rattle.frames.proofs.bits.write_from_byte.Tie as tie
 

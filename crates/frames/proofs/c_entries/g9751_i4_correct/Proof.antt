@@ -1,6 +1,6 @@
 -- `frames::c_entries::g9751_i4_correct` meets its contract. Assumes nothing.
 use borrow.Author.Needs.{needs}
-use Rattle.frames.proofs.CorrectionAnswers.{report-left-out}
+use Rattle.frames.proofs.Answers.CorrectionAnswers.{report-left-out}
 use Rattle.frames.proofs.c_entries.g9751_i4_correct.Statement.{statement}
 use Rattle.frames.proofs.c_entries.g9751_i4_correct.Tie as tie
 

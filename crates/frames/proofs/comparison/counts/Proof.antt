@@ -2,7 +2,7 @@
 use Prim.Native.Nat.{_-_, _≤_}
 use borrow.Author.Needs.{needs}
 use Rattle.inner_words.proofs.Counts.{Counting, counting-start, counting-few}
-use Rattle.frames.proofs.ReportCounts.{differences, report-next, report-end}
+use Rattle.frames.proofs.Correction.ReportCounts.{differences, report-next, report-end}
 use Rattle.frames.proofs.comparison.counts.Statement.{statement}
 use Rattle.frames.proofs.comparison.counts.Tie as tie
 

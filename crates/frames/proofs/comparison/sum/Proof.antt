@@ -3,7 +3,7 @@ use Prim.Native.Nat.{_-_}
 use borrow.Author.Needs.{needs}
 use lib.ListN.{length}
 use mir.Facts.{fits-widen}
-use Rattle.frames.proofs.ReportCounts.{Summing, summing-start, summing-fits, summing-next, summing-end}
+use Rattle.frames.proofs.Correction.ReportCounts.{Summing, summing-start, summing-fits, summing-next, summing-end}
 use Rattle.frames.proofs.comparison.sum.Statement.{statement}
 use Rattle.frames.proofs.comparison.sum.Tie as tie
 

@@ -1,8 +1,8 @@
 -- `frames::outer_test::are_code_words` meets its contract. Assumes nothing.
 use borrow.Author.Needs.{needs}
-use Rattle.words.specs.SixSymbols.{digitParities}
+use Rattle.words.specs.Steps.SixSymbols.{digitParities}
 use Rattle.words.specs.Bits.{bitAt}
-use Rattle.frames.proofs.OuterTest.{outerUpTo, outer-none, two-not, two-next, last-not, last-all}
+use Rattle.frames.proofs.OuterSymbols.Tested.{outerUpTo, outer-none, two-not, two-next, last-not, last-all}
 use Prim.Native.Nat.{_-_, _%_, _≤_}
 use mathlib.Core.Bool.{true}
 use mathlib.Core.Path.{_≡_}

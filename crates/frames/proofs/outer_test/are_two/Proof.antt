@@ -1,6 +1,6 @@
 -- `frames::outer_test::are_two` meets its contract. Assumes nothing.
 use borrow.Author.Needs.{needs}
-use Rattle.frames.proofs.OuterTest.{two-first, two-second, data-packs}
+use Rattle.frames.proofs.OuterSymbols.Tested.{two-first, two-second, data-packs}
 use Rattle.frames.proofs.outer_test.are_two.Statement.{statement}
 use Rattle.frames.proofs.outer_test.are_two.Tie as tie
 

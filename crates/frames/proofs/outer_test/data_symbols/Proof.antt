@@ -1,6 +1,6 @@
 -- `frames::outer_test::data_symbols` meets its contract. Assumes nothing.
 use borrow.Author.Needs.{needs}
-use Rattle.frames.proofs.OuterTest.{symbols-lt, cleared-lt, data-whole, data-padded}
+use Rattle.frames.proofs.OuterSymbols.Tested.{symbols-lt, cleared-lt, data-whole, data-padded}
 use Rattle.frames.proofs.outer_test.data_symbols.Statement.{statement}
 use Rattle.frames.proofs.outer_test.data_symbols.Tie as tie
 

@@ -1,10 +1,10 @@
 -- `frames::outer_test::divide` meets its contract. Assumes nothing.
 use borrow.Author.Needs.{needs}
-use Rattle.words.specs.SixSymbols.{Packs}
+use Rattle.words.specs.Steps.SixSymbols.{Packs}
 use Rattle.words.specs.Bits.{bitAt}
-use Rattle.frames.specs.Received.{dividedTo}
+use Rattle.frames.specs.Steps.Received.{dividedTo}
 use Rattle.frames.specs.Frames.{dataIn}
-use Rattle.frames.proofs.OuterTest.{division-end}
+use Rattle.frames.proofs.OuterSymbols.Tested.{division-end}
 use Prim.Native.Nat.{_-_, _%_, _≤_}
 use mathlib.Core.Path.{_≡_}
 use Rattle.frames.proofs.outer_test.divide.Statement.{statement}

@@ -1,6 +1,6 @@
 -- `frames::outer_test::ends_with` meets its contract. Assumes nothing.
 use borrow.Author.Needs.{needs}
-use Rattle.frames.proofs.OuterTest.{division-tested}
+use Rattle.frames.proofs.OuterSymbols.Tested.{division-tested}
 use Rattle.frames.proofs.outer_test.ends_with.Statement.{statement}
 use Rattle.frames.proofs.outer_test.ends_with.Tie as tie
 

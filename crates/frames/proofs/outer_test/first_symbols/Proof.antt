@@ -1,6 +1,6 @@
 -- `frames::outer_test::first_symbols` meets its contract. Assumes nothing.
 use borrow.Author.Needs.{needs}
-use Rattle.frames.proofs.OuterTest.{division-first, data-more}
+use Rattle.frames.proofs.OuterSymbols.Tested.{division-first, data-more}
 use Rattle.frames.proofs.outer_test.first_symbols.Statement.{statement}
 use Rattle.frames.proofs.outer_test.first_symbols.Tie as tie
 

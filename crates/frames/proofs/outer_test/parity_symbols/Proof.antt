@@ -1,6 +1,6 @@
 -- `frames::outer_test::parity_symbols` meets its contract. Assumes nothing.
 use borrow.Author.Needs.{needs}
-use Rattle.frames.proofs.OuterTest.{parity-first, parity-last}
+use Rattle.frames.proofs.OuterSymbols.Tested.{parity-first, parity-last}
 use Rattle.frames.proofs.outer_test.parity_symbols.Statement.{statement}
 use Rattle.frames.proofs.outer_test.parity_symbols.Tie as tie
 

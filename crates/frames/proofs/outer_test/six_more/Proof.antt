@@ -1,6 +1,6 @@
 -- `frames::outer_test::six_more` meets its contract. Assumes nothing.
 use borrow.Author.Needs.{needs}
-use Rattle.frames.proofs.OuterTest.{division-high, division-next}
+use Rattle.frames.proofs.OuterSymbols.Tested.{division-high, division-next}
 use Rattle.frames.proofs.outer_test.six_more.Statement.{statement}
 use Rattle.frames.proofs.outer_test.six_more.Tie as tie
 

@@ -3,8 +3,8 @@ use mathlib.Core.Path.{_≡_}
 use Prim.Native.Nat.{_-_}
 use borrow.Author.Needs.{needs}
 use Rattle.words.specs.Bits.{bitAt}
-use Rattle.words.specs.SixSymbols.{digitParities}
-use Rattle.frames.proofs.OuterPass.{Restoring, restoring-start, restoring-long, restoring-below, restoring-kept, restoring-next, restoring-not, restoring-end}
+use Rattle.words.specs.Steps.SixSymbols.{digitParities}
+use Rattle.frames.proofs.Correction.OuterPass.{Restoring, restoring-start, restoring-long, restoring-below, restoring-kept, restoring-next, restoring-not, restoring-end}
 use Rattle.frames.proofs.outer_words.correct.Statement.{statement}
 use Rattle.frames.proofs.outer_words.correct.Tie as tie
 

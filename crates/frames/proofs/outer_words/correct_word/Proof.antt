@@ -1,7 +1,7 @@
 -- `frames::outer_words::correct_word` meets its contract. Assumes nothing.
 use borrow.Author.Needs.{needs}
-use Rattle.frames.proofs.RowWords.{part-least, part-below, word-remainder}
-use Rattle.frames.proofs.OuterPass.{space-long, code-kept}
+use Rattle.frames.proofs.OuterSymbols.Words.{part-least, part-below, word-remainder}
+use Rattle.frames.proofs.Correction.OuterPass.{space-long, code-kept}
 use Rattle.frames.proofs.outer_words.correct_word.Statement.{statement}
 use Rattle.frames.proofs.outer_words.correct_word.Tie as tie
 

@@ -1,7 +1,7 @@
 -- `frames::outer_words::data_in` meets its contract. Assumes nothing.
 use mathlib.Core.Path.{sym}
 use native.Mathlib.Omega.{arith}
-use Rattle.frames.proofs.FrameBits.{dataIn-first, dataIn-last}
+use Rattle.frames.proofs.Frames.FrameBits.{dataIn-first, dataIn-last}
 use Rattle.frames.proofs.outer_words.data_in.Statement.{statement}
 use Rattle.frames.proofs.outer_words.data_in.Tie as tie
 

@@ -1,7 +1,7 @@
 -- `frames::outer_words::data_place` meets its contract. Assumes nothing.
 use mathlib.Core.Path.{refl}
 use borrow.Author.Needs.{needs}
-use Rattle.frames.specs.Symbols.{dataPlace}
+use Rattle.frames.specs.Steps.Symbols.{dataPlace}
 use Rattle.frames.proofs.outer_words.data_place.Statement.{statement}
 use Rattle.frames.proofs.outer_words.data_place.Tie as tie
 

@@ -2,8 +2,8 @@
 use mathlib.Core.Path.{_≡_}
 use Prim.Native.Nat.{_-_}
 use borrow.Author.Needs.{needs}
-use Rattle.words.specs.SixSymbols.{digitParities}
-use Rattle.frames.proofs.RowWords.{Written, written-none, written-next, written-all}
+use Rattle.words.specs.Steps.SixSymbols.{digitParities}
+use Rattle.frames.proofs.OuterSymbols.Words.{Written, written-none, written-next, written-all}
 use Rattle.frames.proofs.outer_words.encode.Statement.{statement}
 use Rattle.frames.proofs.outer_words.encode.Tie as tie
 

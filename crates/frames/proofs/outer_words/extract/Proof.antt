@@ -2,8 +2,8 @@
 use Prim.Native.Nat.{_-_, _≤_}
 use borrow.Author.Needs.{needs}
 use Rattle.fields.proofs.Places.Filling.{Filled}
-use Rattle.frames.specs.Symbols.{payloadByte}
-use Rattle.frames.proofs.RowSteps.{doneTo, payload-start, payload-word, payload-all}
+use Rattle.frames.specs.Steps.Symbols.{payloadByte}
+use Rattle.frames.proofs.OuterSymbols.Writing.{doneTo, payload-start, payload-word, payload-all}
 use Rattle.frames.proofs.outer_words.extract.Statement.{statement}
 use Rattle.frames.proofs.outer_words.extract.Tie as tie
 

@@ -2,8 +2,8 @@
 use Prim.Native.Nat.{_-_}
 use borrow.Author.Needs.{needs}
 use Rattle.fields.proofs.Places.Placing.{Placing, placing-start}
-use Rattle.frames.specs.Symbols.{partFrom, payloadByte}
-use Rattle.frames.proofs.Parts.{part-next, part-end}
+use Rattle.frames.specs.Steps.Symbols.{partFrom, payloadByte}
+use Rattle.frames.proofs.Numbers.Parts.{part-next, part-end}
 use Rattle.frames.proofs.outer_words.extract_each.Statement.{statement}
 use Rattle.frames.proofs.outer_words.extract_each.Tie as tie
 

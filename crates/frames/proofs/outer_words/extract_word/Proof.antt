@@ -1,7 +1,7 @@
 -- `frames::outer_words::extract_word` meets its contract. Assumes nothing.
 use mathlib.Core.Path.{refl}
 use borrow.Author.Needs.{needs}
-use Rattle.frames.proofs.RowSteps.{data-fours, groups-room, bytes-room, word-extracted}
+use Rattle.frames.proofs.OuterSymbols.Writing.{data-fours, groups-room, bytes-room, word-extracted}
 use Rattle.frames.proofs.outer_words.extract_word.Statement.{statement}
 use Rattle.frames.proofs.outer_words.extract_word.Tie as tie
 

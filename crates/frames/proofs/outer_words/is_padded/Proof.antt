@@ -1,6 +1,6 @@
 -- `frames::outer_words::is_padded` meets its contract. Assumes nothing.
 use borrow.Author.Needs.{needs}
-use Rattle.frames.proofs.OuterPass.{padded-first, padded-last}
+use Rattle.frames.proofs.Correction.OuterPass.{padded-first, padded-last}
 use Rattle.frames.proofs.outer_words.is_padded.Statement.{statement}
 use Rattle.frames.proofs.outer_words.is_padded.Tie as tie
 

@@ -1,6 +1,6 @@
 -- `frames::outer_words::last_symbol` meets its contract. Assumes nothing.
 use borrow.Author.Needs.{needs}
-use Rattle.frames.proofs.RowSteps.{symbol-padded, symbol-after}
+use Rattle.frames.proofs.OuterSymbols.Writing.{symbol-padded, symbol-after}
 use Rattle.frames.proofs.outer_words.last_symbol.Statement.{statement}
 use Rattle.frames.proofs.outer_words.last_symbol.Tie as tie
 

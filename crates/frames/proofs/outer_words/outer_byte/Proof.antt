@@ -1,6 +1,6 @@
 -- `frames::outer_words::outer_byte` meets its contract. Assumes nothing.
 use borrow.Author.Needs.{needs}
-use Rattle.frames.proofs.Windows.{byte-of-symbols}
+use Rattle.frames.proofs.Numbers.Windows.{byte-of-symbols}
 use Rattle.frames.proofs.outer_words.outer_byte.Statement.{statement}
 use Rattle.frames.proofs.outer_words.outer_byte.Tie as tie
 

@@ -3,7 +3,7 @@ use mathlib.Core.Path.{sym}
 use Prim.Native.Nat.{_*_}
 use native.Mathlib.Omega.{arith}
 use borrow.Author.Needs.{needs}
-use Rattle.frames.proofs.FrameBits.{place-first, place-last}
+use Rattle.frames.proofs.Frames.FrameBits.{place-first, place-last}
 use Rattle.frames.proofs.outer_words.outer_place.Statement.{statement}
 use Rattle.frames.proofs.outer_words.outer_place.Tie as tie
 

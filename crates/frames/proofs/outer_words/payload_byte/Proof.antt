@@ -1,6 +1,6 @@
 -- `frames::outer_words::payload_byte` meets its contract. Assumes nothing.
 use borrow.Author.Needs.{needs}
-use Rattle.frames.proofs.RowSteps.{payload-read}
+use Rattle.frames.proofs.OuterSymbols.Writing.{payload-read}
 use Rattle.frames.proofs.outer_words.payload_byte.Statement.{statement}
 use Rattle.frames.proofs.outer_words.payload_byte.Tie as tie
 

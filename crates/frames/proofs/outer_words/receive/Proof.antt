@@ -4,7 +4,7 @@ use borrow.Author.Needs.{needs}
 use Rattle.fields.proofs.Places.Filling.{Filled}
 use Rattle.words.specs.Bits.{bitAt}
 use Rattle.frames.specs.Correction.{receivedSymbol}
-use Rattle.frames.proofs.RowSteps.{symbols-start, symbols-next, symbols-end}
+use Rattle.frames.proofs.OuterSymbols.Writing.{symbols-start, symbols-next, symbols-end}
 use Rattle.frames.proofs.outer_words.receive.Statement.{statement}
 use Rattle.frames.proofs.outer_words.receive.Tie as tie
 

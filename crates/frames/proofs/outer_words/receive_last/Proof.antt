@@ -4,9 +4,9 @@ use borrow.Author.Needs.{needs}
 use Rattle.fields.proofs.Places.Placing.{Placing, placing-start}
 use Rattle.words.specs.Bits.{bitAt}
 use Rattle.frames.specs.Correction.{receivedSymbol}
-use Rattle.frames.specs.Symbols.{partFrom}
-use Rattle.frames.proofs.Parts.{part-end}
-use Rattle.frames.proofs.RowSteps.{last-next}
+use Rattle.frames.specs.Steps.Symbols.{partFrom}
+use Rattle.frames.proofs.Numbers.Parts.{part-end}
+use Rattle.frames.proofs.OuterSymbols.Writing.{last-next}
 use Rattle.frames.proofs.outer_words.receive_last.Statement.{statement}
 use Rattle.frames.proofs.outer_words.receive_last.Tie as tie
 

@@ -1,6 +1,6 @@
 -- `frames::outer_words::receive_word` meets its contract. Assumes nothing.
 use borrow.Author.Needs.{needs}
-use Rattle.frames.proofs.RowSteps.{word-first, word-last}
+use Rattle.frames.proofs.OuterSymbols.Writing.{word-first, word-last}
 use Rattle.frames.proofs.outer_words.receive_word.Statement.{statement}
 use Rattle.frames.proofs.outer_words.receive_word.Tie as tie
 

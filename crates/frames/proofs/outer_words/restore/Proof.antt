@@ -1,6 +1,6 @@
 -- `frames::outer_words::restore` meets its contract. Assumes nothing.
 use borrow.Author.Needs.{needs}
-use Rattle.frames.proofs.OuterPass.{word-room, slice-least, slice-most, slice-below, slice-fits, slice-remainder, restored-none, restored-not, restored-word}
+use Rattle.frames.proofs.Correction.OuterPass.{word-room, slice-least, slice-most, slice-below, slice-fits, slice-remainder, restored-none, restored-not, restored-word}
 use Rattle.frames.proofs.outer_words.restore.Statement.{statement}
 use Rattle.frames.proofs.outer_words.restore.Tie as tie
 

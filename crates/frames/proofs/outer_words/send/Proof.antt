@@ -2,7 +2,7 @@
 use Prim.Native.Nat.{_-_}
 use borrow.Author.Needs.{needs}
 use Rattle.fields.proofs.Places.Filling.{Filled}
-use Rattle.frames.proofs.RowSteps.{sentByte, sent-start, sent-next, sent-end}
+use Rattle.frames.proofs.OuterSymbols.Writing.{sentByte, sent-start, sent-next, sent-end}
 use Rattle.frames.proofs.outer_words.send.Statement.{statement}
 use Rattle.frames.proofs.outer_words.send.Tie as tie
 

@@ -1,6 +1,6 @@
 -- `frames::outer_words::write_data` meets its contract. Assumes nothing.
 use borrow.Author.Needs.{needs}
-use Rattle.frames.proofs.RowSteps.{payload-room, data-least, data-placed}
+use Rattle.frames.proofs.OuterSymbols.Writing.{payload-room, data-least, data-placed}
 use Rattle.frames.proofs.outer_words.write_data.Statement.{statement}
 use Rattle.frames.proofs.outer_words.write_data.Tie as tie
 

@@ -1,6 +1,6 @@
 -- `frames::outer_words::write_word` meets its contract. Assumes nothing.
 use borrow.Author.Needs.{needs}
-use Rattle.frames.proofs.RowWords.{data-part-below, data-long, parity-room, word-placed}
+use Rattle.frames.proofs.OuterSymbols.Words.{data-part-below, data-long, parity-room, word-placed}
 use Rattle.frames.proofs.outer_words.write_word.Statement.{statement}
 use Rattle.frames.proofs.outer_words.write_word.Tie as tie
 

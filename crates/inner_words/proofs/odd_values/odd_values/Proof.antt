@@ -1,7 +1,7 @@
 -- `inner_words::odd_values::odd_values` meets its contract. Assumes nothing.
 use borrow.Author.Needs.{needs}
 use Rattle.fields.proofs.Places.Filling.{Filled, filled-start, filled-next, filled-end}
-use Rattle.inner_words.specs.InnerResidues.{oddValue}
+use Rattle.inner_words.specs.Steps.InnerResidues.{oddValue}
 use Prim.Native.Nat.{_-_}
 use Rattle.inner_words.proofs.odd_values.odd_values.Statement.{statement}
 use Rattle.inner_words.proofs.odd_values.odd_values.Tie as tie

@@ -1,6 +1,6 @@
 -- `inner_words::one_by_one::correct_each` meets its contract. Assumes nothing.
 use borrow.Author.Needs.{needs}
-use Rattle.decoding.specs.PowerTables.{PowerTables}
+use Rattle.decoding.specs.Steps.PowerTables.{PowerTables}
 use Rattle.inner_words.proofs.WordErrors.{left-ahead}
 use Rattle.inner_words.proofs.InnerPass.{Passing, passing-start, passing-wrong, passing-next, passing-end, passing-codes}
 use Prim.Native.Nat.{_-_}

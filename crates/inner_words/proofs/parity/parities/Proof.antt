@@ -2,7 +2,7 @@
 use Prim.Native.Nat.{_-_}
 use borrow.Author.Needs.{needs}
 use Rattle.fields.proofs.Places.Filling.{Filled, filled-start}
-use Rattle.inner_words.specs.ParityMatrix.{parityRows, fourSums, rowSum}
+use Rattle.inner_words.specs.Steps.ParityMatrix.{parityRows, fourSums, rowSum}
 use Rattle.inner_words.proofs.ParitySteps.{rows-next, rows-end}
 use Rattle.inner_words.proofs.parity.parities.Statement.{statement}
 use Rattle.inner_words.proofs.parity.parities.Tie as tie

@@ -2,7 +2,7 @@
 use mathlib.Core.Path.{_≡_}
 use Prim.Native.Nat.{_-_, _*_, _≤_}
 use borrow.Author.Needs.{needs}
-use Rattle.decoding.specs.Decoder.{xorTo}
+use Rattle.decoding.specs.Steps.Decoder.{xorTo}
 use Rattle.inner_words.proofs.ParitySteps.{rowTerm, row-none, row-next, row-end}
 use Rattle.inner_words.proofs.parity.row_sum.Statement.{statement}
 use Rattle.inner_words.proofs.parity.row_sum.Tie as tie

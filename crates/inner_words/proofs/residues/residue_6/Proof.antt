@@ -3,9 +3,9 @@ use mathlib.Core.Path.{_≡_}
 use Prim.Native.Nat.{_+_, _*_, _-_, _≤_}
 use borrow.Author.Needs.{needs}
 use lib.Dec.{lit<}
-use Rattle.lanes.specs.LaneSteps.{cells}
+use Rattle.lanes.specs.Steps.LaneSteps.{cells}
 use Rattle.words.specs.InnerCode.{factors}
-use Rattle.inner_words.specs.InnerResidues.{residueOf}
+use Rattle.inner_words.specs.Steps.InnerResidues.{residueOf}
 use Rattle.inner_words.proofs.ResidueSteps.{place-first, place-inside, place-fits, block-within, block-fits, block-less, eleven-places, residue-start, residue-turn, residue-end}
 use Rattle.inner_words.proofs.residues.residue_6.Statement.{statement}
 use Rattle.inner_words.proofs.residues.residue_6.Tie as tie

@@ -3,8 +3,8 @@ use mathlib.Core.Path.{ap}
 use borrow.Author.Needs.{needs}
 use Rattle.fields.specs.Elements.{xor, scale}
 use Rattle.fields.specs.Lists.{tabulate}
-use Rattle.lanes.specs.LaneSteps.{cells}
-use Rattle.inner_words.specs.InnerResidues.{advanced}
+use Rattle.lanes.specs.Steps.LaneSteps.{cells}
+use Rattle.inner_words.specs.Steps.InnerResidues.{advanced}
 use Rattle.inner_words.proofs.residues.step_0.Statement.{statement}
 use Rattle.inner_words.proofs.residues.step_0.Tie as tie
 

@@ -1,6 +1,6 @@
 -- `lanes::side_by_side::bit` meets its contract. Assumes nothing.
 use borrow.Author.Needs.{needs}
-use Rattle.lanes.specs.LaneSteps.{bit}
+use Rattle.lanes.specs.Steps.LaneSteps.{bit}
 use Rattle.lanes.proofs.side_by_side.bit.Statement.{statement}
 use Rattle.lanes.proofs.side_by_side.bit.Tie as tie
 

@@ -2,7 +2,7 @@
 use Prim.Native.Nat.{_-_, _*_, _≤_}
 use borrow.Author.Needs.{needs}
 use Rattle.fields.proofs.Places.Placing.{Placing, placing-start}
-use Rattle.lanes.specs.LaneSteps.{nonzero4, blockFlips}
+use Rattle.lanes.specs.Steps.LaneSteps.{nonzero4, blockFlips}
 use Rattle.lanes.proofs.SearchSteps.{block-next, block-end}
 use Rattle.lanes.proofs.side_by_side.block_4.Statement.{statement}
 use Rattle.lanes.proofs.side_by_side.block_4.Tie as tie

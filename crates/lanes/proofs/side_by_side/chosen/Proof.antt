@@ -1,6 +1,6 @@
 -- `lanes::side_by_side::chosen` meets its contract. Assumes nothing.
 use borrow.Author.Needs.{needs}
-use Rattle.lanes.specs.LaneSteps.{chosen}
+use Rattle.lanes.specs.Steps.LaneSteps.{chosen}
 use Rattle.lanes.proofs.side_by_side.chosen.Statement.{statement}
 use Rattle.lanes.proofs.side_by_side.chosen.Tie as tie
 

@@ -3,7 +3,7 @@ use mathlib.Core.Path.{_≡_}
 use Prim.Native.Nat.{_+_, _≤_}
 use borrow.Author.Needs.{needs}
 use Rattle.fields.specs.Lists.{find}
-use Rattle.lanes.specs.LaneSteps.{degree}
+use Rattle.lanes.specs.Steps.LaneSteps.{degree}
 use Rattle.lanes.proofs.LocatorSteps.{present, degree-all, degree-found, degree-less, degree-none}
 use Rattle.lanes.proofs.side_by_side.degree.Statement.{statement}
 use Rattle.lanes.proofs.side_by_side.degree.Tie as tie

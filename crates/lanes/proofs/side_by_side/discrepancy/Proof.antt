@@ -2,7 +2,7 @@
 use mathlib.Core.Path.{_≡_}
 use Prim.Native.Nat.{_-_, _≤_}
 use borrow.Author.Needs.{needs}
-use Rattle.lanes.specs.LaneSteps.{turns, discrepancyStep}
+use Rattle.lanes.specs.Steps.LaneSteps.{turns, discrepancyStep}
 use Rattle.lanes.proofs.LocatorSteps.{discrepancy-next, discrepancy-end}
 use Rattle.lanes.proofs.LaneSteps.{turns-none}
 use Rattle.lanes.proofs.side_by_side.discrepancy.Statement.{statement}

@@ -1,7 +1,7 @@
 -- `lanes::side_by_side::doubled` meets its contract. Assumes nothing.
 use borrow.Author.Needs.{needs}
 use Rattle.fields.specs.Elements.{xor}
-use Rattle.lanes.specs.LaneSteps.{doubled}
+use Rattle.lanes.specs.Steps.LaneSteps.{doubled}
 use Rattle.lanes.proofs.side_by_side.doubled.Statement.{statement}
 use Rattle.lanes.proofs.side_by_side.doubled.Tie as tie
 

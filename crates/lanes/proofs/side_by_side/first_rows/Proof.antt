@@ -2,7 +2,7 @@
 use mathlib.Core.Path.{_≡_}
 use Prim.Native.Nat.{_-_, _*_, _≤_}
 use borrow.Author.Needs.{needs}
-use Rattle.lanes.specs.LaneSteps.{turns, timesPower, firstTerm, rowStep}
+use Rattle.lanes.specs.Steps.LaneSteps.{turns, timesPower, firstTerm, rowStep}
 use Rattle.lanes.proofs.SearchSteps.{power-start, power-more, rows-next, rows-end}
 use Rattle.lanes.proofs.LaneSteps.{turns-none, power-next}
 use Rattle.lanes.proofs.side_by_side.first_rows.Statement.{statement}

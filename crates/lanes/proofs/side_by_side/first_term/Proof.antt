@@ -1,6 +1,6 @@
 -- `lanes::side_by_side::first_term` meets its contract. Assumes nothing.
 use borrow.Author.Needs.{needs}
-use Rattle.lanes.specs.LaneSteps.{firstTerm}
+use Rattle.lanes.specs.Steps.LaneSteps.{firstTerm}
 use Rattle.lanes.proofs.side_by_side.first_term.Statement.{statement}
 use Rattle.lanes.proofs.side_by_side.first_term.Tie as tie
 

@@ -2,7 +2,7 @@
 use mathlib.Core.Path.{_≡_, refl}
 use Prim.Native.Nat.{_-_, _≤_}
 use borrow.Author.Needs.{needs}
-use Rattle.lanes.specs.LaneSteps.{turns, Polynomials, step}
+use Rattle.lanes.specs.Steps.LaneSteps.{turns, Polynomials, step}
 use Rattle.lanes.proofs.LocatorSteps.{locators-end}
 use Rattle.lanes.proofs.LaneSteps.{turns-none, turns-next}
 use Rattle.lanes.proofs.side_by_side.locators.Statement.{statement}

@@ -1,6 +1,6 @@
 -- `lanes::side_by_side::masked` meets its contract. Assumes nothing.
 use borrow.Author.Needs.{needs}
-use Rattle.lanes.specs.LaneSteps.{masked}
+use Rattle.lanes.specs.Steps.LaneSteps.{masked}
 use Rattle.lanes.proofs.side_by_side.masked.Statement.{statement}
 use Rattle.lanes.proofs.side_by_side.masked.Tie as tie
 

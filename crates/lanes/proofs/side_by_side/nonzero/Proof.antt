@@ -1,7 +1,7 @@
 -- `lanes::side_by_side::nonzero` meets its contract. Assumes nothing.
 use borrow.Author.Needs.{needs}
-use Rattle.lanes.specs.LaneSteps.{orTo}
-use Rattle.lanes.specs.LaneSteps.{nonzero}
+use Rattle.lanes.specs.Steps.LaneSteps.{orTo}
+use Rattle.lanes.specs.Steps.LaneSteps.{nonzero}
 use Rattle.lanes.proofs.side_by_side.nonzero.Statement.{statement}
 use Rattle.lanes.proofs.side_by_side.nonzero.Tie as tie
 

@@ -2,8 +2,8 @@
 use mathlib.Core.Path.{_≡_}
 use Prim.Native.Nat.{_-_, _≤_}
 use borrow.Author.Needs.{needs}
-use Rattle.lanes.specs.LaneSteps.{cell4}
-use Rattle.lanes.specs.LaneSteps.{orTo}
+use Rattle.lanes.specs.Steps.LaneSteps.{cell4}
+use Rattle.lanes.specs.Steps.LaneSteps.{orTo}
 use Rattle.lanes.proofs.LaneSteps.{some-none}
 use Rattle.lanes.proofs.SearchSteps.{nonzero4-next, nonzero4-end}
 use Rattle.lanes.proofs.side_by_side.nonzero_4.Statement.{statement}

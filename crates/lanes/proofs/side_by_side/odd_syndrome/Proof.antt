@@ -2,7 +2,7 @@
 use mathlib.Core.Path.{_≡_}
 use Prim.Native.Nat.{_-_, _≤_}
 use borrow.Author.Needs.{needs}
-use Rattle.lanes.specs.LaneSteps.{turns, oddStep}
+use Rattle.lanes.specs.Steps.LaneSteps.{turns, oddStep}
 use Rattle.lanes.proofs.LaneSteps.{turns-none, odd-next, odd-end}
 use Rattle.lanes.proofs.side_by_side.odd_syndrome.Statement.{statement}
 use Rattle.lanes.proofs.side_by_side.odd_syndrome.Tie as tie

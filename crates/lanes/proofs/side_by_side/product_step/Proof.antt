@@ -1,6 +1,6 @@
 -- `lanes::side_by_side::product_step` meets its contract. Assumes nothing.
 use borrow.Author.Needs.{needs}
-use Rattle.lanes.specs.LaneSteps.{productStep}
+use Rattle.lanes.specs.Steps.LaneSteps.{productStep}
 use Rattle.lanes.proofs.side_by_side.product_step.Statement.{statement}
 use Rattle.lanes.proofs.side_by_side.product_step.Tie as tie
 

@@ -1,6 +1,6 @@
 -- `lanes::side_by_side::row` meets its contract. Assumes nothing.
 use borrow.Author.Needs.{needs}
-use Rattle.lanes.specs.LaneSteps.{row}
+use Rattle.lanes.specs.Steps.LaneSteps.{row}
 use Rattle.lanes.proofs.side_by_side.row.Statement.{statement}
 use Rattle.lanes.proofs.side_by_side.row.Tie as tie
 

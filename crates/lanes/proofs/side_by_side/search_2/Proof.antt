@@ -2,7 +2,7 @@
 use mathlib.Core.Path.{_≡_}
 use Prim.Native.Nat.{_-_, _≤_}
 use borrow.Author.Needs.{needs}
-use Rattle.lanes.specs.LaneSteps.{turns, nextRows, nonzero2, flips2}
+use Rattle.lanes.specs.Steps.LaneSteps.{turns, nextRows, nonzero2, flips2}
 use Rattle.lanes.proofs.SearchSteps.{Searched, inBlocks, searched-start, block-found, rows-follow, search-end}
 use Rattle.lanes.proofs.LaneSteps.{turns-none}
 use Rattle.lanes.proofs.side_by_side.search_2.Statement.{statement}

@@ -2,7 +2,7 @@
 use mathlib.Core.Path.{_≡_}
 use Prim.Native.Nat.{_-_, _≤_}
 use borrow.Author.Needs.{needs}
-use Rattle.lanes.specs.LaneSteps.{turns, sequenceStep}
+use Rattle.lanes.specs.Steps.LaneSteps.{turns, sequenceStep}
 use Rattle.lanes.proofs.SearchSteps.{sequence-next, sequence-end}
 use Rattle.lanes.proofs.LaneSteps.{turns-none}
 use Rattle.lanes.proofs.side_by_side.sequence.Statement.{statement}

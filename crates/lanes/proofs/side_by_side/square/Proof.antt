@@ -1,7 +1,7 @@
 -- `lanes::side_by_side::square` meets its contract. Assumes nothing.
 use borrow.Author.Needs.{needs}
 use Rattle.fields.specs.Elements.{xor}
-use Rattle.lanes.specs.LaneSteps.{square}
+use Rattle.lanes.specs.Steps.LaneSteps.{square}
 use Rattle.lanes.proofs.side_by_side.square.Statement.{statement}
 use Rattle.lanes.proofs.side_by_side.square.Tie as tie
 

@@ -2,7 +2,7 @@
 use mathlib.Core.Path.{_≡_}
 use Prim.Native.Nat.{_-_, _≤_}
 use borrow.Author.Needs.{needs}
-use Rattle.lanes.specs.LaneSteps.{turns, syndromeStep}
+use Rattle.lanes.specs.Steps.LaneSteps.{turns, syndromeStep}
 use Rattle.lanes.proofs.LaneSteps.{turns-none, syndromes-next, syndromes-end}
 use Rattle.lanes.proofs.side_by_side.syndromes.Statement.{statement}
 use Rattle.lanes.proofs.side_by_side.syndromes.Tie as tie

@@ -1,6 +1,6 @@
 -- `lanes::side_by_side::times_a8` meets its contract. Assumes nothing.
 use borrow.Author.Needs.{needs}
-use Rattle.lanes.specs.LaneSteps.{turns, timesPower}
+use Rattle.lanes.specs.Steps.LaneSteps.{turns, timesPower}
 use Rattle.lanes.proofs.side_by_side.times_a8.Statement.{statement}
 use Rattle.lanes.proofs.side_by_side.times_a8.Tie as tie
 

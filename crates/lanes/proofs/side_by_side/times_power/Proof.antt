@@ -2,7 +2,7 @@
 use mathlib.Core.Path.{_≡_}
 use Prim.Native.Nat.{_-_, _≤_}
 use borrow.Author.Needs.{needs}
-use Rattle.lanes.specs.LaneSteps.{timesPower}
+use Rattle.lanes.specs.Steps.LaneSteps.{timesPower}
 use Rattle.lanes.proofs.LaneSteps.{power-none, power-next, power-end}
 use Rattle.lanes.proofs.side_by_side.times_power.Statement.{statement}
 use Rattle.lanes.proofs.side_by_side.times_power.Tie as tie

@@ -1,7 +1,7 @@
 -- `words::bch::divisor` meets its contract. Assumes nothing.
 use Prim.Native.Nat.{_-_, _≤_}
 use borrow.Author.Needs.{needs}
-use Rattle.words.specs.Limbs.{Holds}
+use Rattle.words.specs.Steps.Limbs.{Holds}
 use Rattle.words.specs.InnerCode.{productOf}
 use Rattle.words.proofs.Steps.LimbProducts.{factors-none, factors-room, factors-next, factors-end}
 use Rattle.words.proofs.bch.divisor.Statement.{statement}

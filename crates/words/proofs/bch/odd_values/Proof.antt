@@ -2,7 +2,7 @@
 use mathlib.Core.Path.{_≡_}
 use Prim.Native.Nat.{_-_, _≤_}
 use borrow.Author.Needs.{needs}
-use Rattle.words.specs.Limbs.{number}
+use Rattle.words.specs.Steps.Limbs.{number}
 use Rattle.words.proofs.Steps.Inner.{oddUpTo, odd-none, odd-next, odd-end}
 use Rattle.words.proofs.bch.odd_values.Statement.{statement}
 use Rattle.words.proofs.bch.odd_values.Tie as tie

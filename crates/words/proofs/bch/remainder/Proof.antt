@@ -1,7 +1,7 @@
 -- `words::bch::remainder` meets its contract. Assumes nothing.
 use Prim.Native.Nat.{_-_, _*_, _≤_}
 use borrow.Author.Needs.{needs}
-use Rattle.words.specs.Limbs.{Holds}
+use Rattle.words.specs.Steps.Limbs.{Holds}
 use Rattle.words.specs.Bits.{bitAt}
 use Rattle.words.specs.InnerCode.{divisor, remainder}
 use Rattle.words.proofs.Steps.FourPlaces.{residues-split, remainder-none, remainder-next, remainder-end}

@@ -1,7 +1,7 @@
 -- `words::bch::residue` meets its contract. Assumes nothing.
 use Prim.Native.Nat.{_-_, _≤_}
 use borrow.Author.Needs.{needs}
-use Rattle.words.specs.Limbs.{Holds}
+use Rattle.words.specs.Steps.Limbs.{Holds}
 use Rattle.words.proofs.Steps.FourPlaces.{residueSoFar, residue-none, residue-room, residue-next, residue-end}
 use Rattle.words.proofs.bch.residue.Statement.{statement}
 use Rattle.words.proofs.bch.residue.Tie as tie

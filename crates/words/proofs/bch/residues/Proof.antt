@@ -2,7 +2,7 @@
 use Prim.Native.Nat.{_-_}
 use borrow.Author.Needs.{needs}
 use Rattle.words.specs.InnerCode.{divisor}
-use Rattle.words.specs.Limbs.{Residues}
+use Rattle.words.specs.Steps.Limbs.{Residues}
 use Rattle.words.proofs.Steps.FourPlaces.{residues-none, residues-next, residues-end}
 use Rattle.words.proofs.bch.residues.Statement.{statement}
 use Rattle.words.proofs.bch.residues.Tie as tie

@@ -2,7 +2,7 @@
 use Prim.Native.Nat.{_+_, _-_, _*_}
 use borrow.Author.Needs.{needs}
 use Rattle.fields.proofs.Places.Filling.{Filled, filled-start, filled-next}
-use Rattle.words.specs.Limbs.{number}
+use Rattle.words.specs.Steps.Limbs.{number}
 use Rattle.words.specs.Bits.{numberOf, bitOf}
 use Rattle.words.proofs.Bits.Bytes.{bytes-end}
 use Rattle.words.proofs.bch.store.Statement.{statement}

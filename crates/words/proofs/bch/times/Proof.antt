@@ -1,7 +1,7 @@
 -- `words::bch::times` meets its contract. Assumes nothing.
 use Prim.Native.Nat.{_-_, _≤_}
 use borrow.Author.Needs.{needs}
-use Rattle.words.specs.Limbs.{number, Holds}
+use Rattle.words.specs.Steps.Limbs.{number, Holds}
 use Rattle.words.proofs.Steps.LimbProducts.{productSoFar, product-none, product-room, product-next, product-end}
 use Rattle.words.proofs.bch.times.Statement.{statement}
 use Rattle.words.proofs.bch.times.Tie as tie

@@ -2,7 +2,7 @@
 use Prim.Native.Nat.{_-_, _%_, _≤_}
 use lib.ListN.{length}
 use mathlib.Core.Path.{_≡_}
-use Rattle.words.specs.SixSymbols.{Packs}
+use Rattle.words.specs.Steps.SixSymbols.{Packs}
 use Rattle.words.proofs.Steps.Loops.{dividedUpTo}
 use Rattle.words.proofs.Steps.Joining.{packs-first, register-high, packs-next, packs-end}
 use borrow.Author.Needs.{needs}

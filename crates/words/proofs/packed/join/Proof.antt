@@ -1,7 +1,7 @@
 -- `words::packed::join` meets its contract. Assumes nothing.
 use Prim.Native.Nat.{_-_, _≤_}
 use mathlib.Core.Path.{_≡_}
-use Rattle.words.specs.SixSymbols.{joinedFrom}
+use Rattle.words.specs.Steps.SixSymbols.{joinedFrom}
 use Rattle.words.proofs.Steps.Joining.{joined-none, joined-next, joined-end, joined-small}
 use borrow.Author.Needs.{needs}
 use Rattle.words.proofs.packed.join.Statement.{statement}

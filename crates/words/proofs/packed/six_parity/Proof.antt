@@ -1,7 +1,7 @@
 -- `words::packed::six_parity` meets its contract. Assumes nothing.
 use Rattle.words.proofs.Steps.Joining.{parities-long, digit-inside, parity-none, parity-next, parity-end}
 use Prim.Native.Nat.{_-_, _*_, _%_, _^_, _≤_}
-use Rattle.words.specs.SixSymbols.{Packs, sixParity}
+use Rattle.words.specs.Steps.SixSymbols.{Packs, sixParity}
 use borrow.Author.Needs.{needs}
 use Rattle.words.proofs.packed.six_parity.Statement.{statement}
 use Rattle.words.proofs.packed.six_parity.Tie as tie

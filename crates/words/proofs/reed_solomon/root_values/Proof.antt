@@ -2,7 +2,7 @@
 use Prim.Native.Nat.{_-_}
 use borrow.Author.Needs.{needs}
 use Rattle.fields.proofs.Places.Filling.{Filled, filled-start}
-use Rattle.decoding.specs.ByTables.{rootValue}
+use Rattle.decoding.specs.Steps.ByTables.{rootValue}
 use Rattle.words.proofs.Steps.Loops.{root-next, roots-end}
 use Rattle.words.proofs.reed_solomon.root_values.Statement.{statement}
 use Rattle.words.proofs.reed_solomon.root_values.Tie as tie

@@ -1,6 +1,6 @@
 -- `words::wrong_places::syndromes` meets its contract. Assumes nothing.
 use borrow.Author.Needs.{needs}
-use Rattle.words.specs.InnerDecoding.{Syndromes}
+use Rattle.words.specs.Steps.InnerDecoding.{Syndromes}
 use Rattle.words.proofs.Steps.Inner.{syndromes-none, syndromes-next, syndromes-end}
 use Prim.Native.Nat.{_-_, _≤_}
 use Rattle.words.proofs.wrong_places.syndromes.Statement.{statement}

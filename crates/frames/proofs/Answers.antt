@@ -1,0 +1,3 @@
+-- What the entries answer, way by way.
+pub mod FrameAnswers
+pub mod CorrectionAnswers

@@ -1,0 +1,185 @@
+-- The two passes of the corrector: what they make of the words of a received block, and that a restored frame is one that the encoder writes.
+-- Assumes nothing.
+use mathlib.Core.Path.{_≡_, refl, sym, ap, _∙_, subst}
+use mathlib.Core.Bool.{Bool, true, false, cond}
+use mathlib.Core.List.{List, []}
+use mathlib.Core.Logic.{_⊎_, inl, inr}
+use mathlib.Core.Option.{Option, none, some, Option·map}
+use Prim.Native.Nat.{ℕ, _+_, _*_, _/_, _%_, _≤_, _<_}
+use native.Mathlib.Omega.{arith}
+use borrow.Author.Tests.{eq-eqb}
+use lib.Dec.{eqb}
+use lib.ListN.{length, getD}
+use Rattle.fields.specs.Places.{apart}
+use Rattle.fields.proofs.Lists.{tabulate-at, tabulate-is, tabulate-length}
+use Rattle.fields.proofs.Places.Tests.{every-at}
+use Rattle.fields.proofs.Places.Differences.{apart-self}
+use Rattle.words.specs.Bits.{bitAt}
+use Rattle.words.specs.OuterCode.{isOuter}
+use Rattle.words.specs.InnerCode.{isInner}
+use Rattle.words.specs.Nearest.{Decodes}
+use Rattle.words.specs.InnerWords.{innerWord, innerRestored, innerPass}
+use Rattle.words.proofs.Codes.OuterWords.{outer-is}
+use Rattle.words.proofs.Codes.InnerWords.{inner-is}
+use Rattle.words.proofs.Codes.Nearest.{nearest-lost}
+use Rattle.words.proofs.Codes.Proved.{codes}
+use Rattle.inner_words.specs.Steps.Passes.{innerCodes}
+use Rattle.inner_words.proofs.InterleavedBits.{inner-word-length}
+use Rattle.inner_words.proofs.InnerPass.{restored-none, restored-some, restored-length}
+use Rattle.frames.specs.Frames.{isBlock, dataIn, outerWord, outerWords, frameOfWords, frameOf, payloadOf}
+use Rattle.frames.specs.Correction.{receivedWord, isPermitted, outerRestored, outerPass, restoredFrame, reportOf, total}
+use Rattle.frames.specs.Answers.{isFrame, Corrected, refused, reported, frameCorrected}
+use Rattle.frames.specs.Steps.Received.{outerCodes}
+use Rattle.frames.specs.Demands.{Uncorrectable, Restored}
+use Rattle.frames.proofs.Frames.FrameBits.{frame-block, frame-inner, dataIn-le, outer-word-length, payloadOf-length}
+use Rattle.frames.proofs.OuterSymbols.Received.{received-length, received-words, received-own, code-words-frame, same-frame}
+use Rattle.frames.proofs.Correction.Options.{every-some, every-missing, every-none, every-all}
+use Rattle.frames.proofs.OuterSymbols.Permitted.{permitted-is, permitted-nearest, padded-symbols, payload-permitted}
+
+-- ---- the inner pass
+
+module _ (b : ℕ → ℕ) (k : ℕ) where
+  -- the inner words after the pass are the restored words
+  passed-word : k < 64 → innerWord (innerPass b) k ≡ innerRestored (innerWord b k)
+  unfolding innerWord innerPass
+  passed-word l =
+      sym (tabulate-is 2040 _ (innerRestored (innerWord b k)) 0 (restored-length (innerWord b k) (inner-word-length b k)) (λ p h.
+      let q : (64 * p + k) % 64 ≡ k = omega arith in
+      let r : (64 * p + k) / 64 ≡ p = omega arith in
+      rw (q, r)))
+
+  -- the code word within eight places; without one, the word as received
+  pub inner-near : (c : List ℕ) → k < 64 → isInner c ≡ true → apart (innerWord b k) c ≤ 8 → innerWord (innerPass b) k ≡ c
+  inner-near c l code near =
+      passed-word l
+      ∙ restored-some (innerWord b k) c (codes .inner-nearest .complete (innerWord b k) c (inner-word-length b k) (inner-is c code .long) code near)
+
+  pub inner-lost : k < 64 → ((c : List ℕ) → isInner c ≡ true → 8 < apart (innerWord b k) c) → innerWord (innerPass b) k ≡ innerWord b k
+  inner-lost l far = passed-word l ∙ restored-none (innerWord b k) (nearest-lost isInner 2 8 (innerWord b k) (λ c code long. far c code))
+
+-- ---- the outer pass
+
+decodes-word : (w : ℕ) → Decodes (isPermitted w) 1024 8 (dataIn w + 16)
+decodes-word w = permitted-nearest w (dataIn w + 16) (omega (arith, dataIn-le w))
+
+module _ (b : ℕ → ℕ) where
+  word-found : (w : ℕ) (c : List ℕ) → outerRestored b w ≡ some c →
+      (length c ≡ dataIn w + 16) × (isPermitted w c ≡ true) × (apart (receivedWord b w) c ≤ 8)
+  unfolding outerRestored
+  word-found w c = decodes-word w .sound (receivedWord b w) c (received-length b w)
+
+  -- it gives the permitted words within eight symbols just where all sixteen outer words have one
+  pass-restored : (ws : List (List ℕ)) → outerPass b ≡ some ws → Restored b ws
+  unfolding outerPass
+  pass-restored ws e =
+      let all = every-all 16 (outerRestored b) ws [] e in
+      record {
+        sixteen = all .0;
+        long = λ w k. word-found w (getD ws w []) (all .1 w k) .0;
+        permitted = λ w k. word-found w (getD ws w []) (all .1 w k) .1;
+        near = λ w k. word-found w (getD ws w []) (all .1 w k) .2;
+      }
+
+  restored-pass : (ws : List (List ℕ)) → Restored b ws → outerPass b ≡ some ws
+  unfolding outerPass outerRestored
+  restored-pass ws r =
+      every-some 16 (outerRestored b) (λ w. getD ws w [])
+      (λ w k. decodes-word w .complete (receivedWord b w) (getD ws w []) (received-length b w) (r .long w k) (r .permitted w k) (r .near w k))
+      ∙ ap some (sym (tabulate-is 16 (λ w. getD ws w []) ws [] (r .sixteen) (λ w k. refl)))
+
+  -- and nothing just where some outer word has none
+  lost-pass : (w : ℕ) → w < 16 → Uncorrectable b w → outerPass b ≡ none
+  unfolding outerPass outerRestored
+  lost-pass w k far =
+      every-missing 16 (outerRestored b) w k (nearest-lost (isPermitted w) 1024 8 (receivedWord b w) (λ c p long. far c p (long ∙ received-length b w)))
+
+  pass-lost : outerPass b ≡ none → (w : ℕ) × (w < 16) × Uncorrectable b w
+  unfolding outerPass outerRestored
+  pass-lost e =
+      let missing = every-none 16 (outerRestored b) e in
+      let w = missing .0 in
+      (w, missing .1, λ c p long. decodes-word w .none-means-none (receivedWord b w) c (received-length b w) (missing .2) long p)
+
+  pub one-or-other : ((ws : List (List ℕ)) × Restored b ws) ⊎ ((w : ℕ) × (w < 16) × Uncorrectable b w)
+  one-or-other = go (outerPass b) refl
+    where
+      go : (o : Option (List (List ℕ))) → outerPass b ≡ o → ((ws : List (List ℕ)) × Restored b ws) ⊎ ((w : ℕ) × (w < 16) × Uncorrectable b w)
+      go none e = inr (pass-lost e)
+      go (some ws) e = inl (ws, pass-restored ws e)
+
+  -- sixteen permitted words are those of their frame, which is one that the encoder writes
+  restored-frame : (ws : List (List ℕ)) → Restored b ws → isFrame (frameOfWords ws) ≡ true
+  restored-frame ws r =
+      let padding = padded-symbols ws (permitted-is 15 (getD ws 15 []) (r .permitted 15 (omega arith)) .1) in
+      same-frame (frameOfWords ws) (code-words-frame (frameOfWords ws) (frame-block ws)
+      (λ w k.
+      let code = permitted-is w (getD ws w []) (r .permitted w k) .0 in
+      ap isOuter (received-words ws padding w k (r .long w k) (outer-is (getD ws w []) code .symbols)) ∙ code) (frame-inner ws))
+
+-- a block whose outer and inner words are all code words is the frame that the outer pass gives
+pub frame-kept : (b : List ℕ) → isBlock b ≡ true → outerCodes (bitAt b) ≡ true → innerCodes (bitAt b) ≡ true →
+    Option·map frameOfWords (outerPass (bitAt b)) ≡ some b
+unfolding outerCodes innerCodes frameOf outerWords
+frame-kept b h outer inner = ap (Option·map frameOfWords) (restored-pass (bitAt b) (outerWords p) words) ∙ ap some same
+  where
+    p : List ℕ
+    p = payloadOf b
+
+    same : frameOf p ≡ b
+    same = code-words-frame b h (every-at 16 _ outer) (every-at 64 _ inner)
+
+    own : (w : ℕ) → w < 16 → receivedWord (bitAt b) w ≡ outerWord p w
+    own w k = subst (λ (f : List ℕ). receivedWord (bitAt f) w ≡ outerWord p w) same (received-own p (payloadOf-length b) w k)
+
+    word : (w : ℕ) → w < 16 → getD (outerWords p) w [] ≡ outerWord p w
+    word w k = tabulate-at 16 (outerWord p) w [] k
+
+    words : Restored (bitAt b) (outerWords p)
+    words =
+        record {
+          sixteen = tabulate-length 16 (outerWord p);
+          long = λ w k. ap length (word w k) ∙ outer-word-length p w;
+          permitted = λ w k. rw (word w k) (payload-permitted p (payloadOf-length b) w k);
+          near = λ w k. rw (word w k, own w k) (omega (arith, apart-self (outerWord p w)));
+        }
+
+-- ---- the corrector's answer
+
+-- the bits of a block after the inner pass
+abbrev pub passed : List ℕ → ℕ → ℕ
+passed block = innerPass (bitAt block)
+
+module _ (block buffer : List ℕ) where
+  module _ (fits : length block ≡ 16320) (room : length buffer ≡ 16320) where
+    pub corrected : (ws : List (List ℕ)) → Restored (passed block) ws →
+        frameCorrected block buffer ≡ (0, reportOf block (frameOfWords ws), total (reportOf block (frameOfWords ws)), frameOfWords ws)
+    unfolding frameCorrected reported restoredFrame
+    corrected ws r = rw (eq-eqb (length block) 16320 fits, eq-eqb (length buffer) 16320 room, restored-pass (passed block) ws r)
+
+    pub uncorrectable : (w : ℕ) → w < 16 → Uncorrectable (passed block) w → frameCorrected block buffer ≡ refused 5 buffer
+    unfolding frameCorrected reported restoredFrame
+    uncorrectable w k far = rw (eq-eqb (length block) 16320 fits, eq-eqb (length buffer) 16320 room, lost-pass (passed block) w k far)
+
+    pub uncorrectable-only : frameCorrected block buffer ≡ refused 5 buffer → (w : ℕ) × (w < 16) × Uncorrectable (passed block) w
+    unfolding refused
+    uncorrectable-only e = go (one-or-other (passed block))
+      where
+        go : ((ws : List (List ℕ)) × Restored (passed block) ws) ⊎ ((w : ℕ) × (w < 16) × Uncorrectable (passed block) w) →
+            (w : ℕ) × (w < 16) × Uncorrectable (passed block) w
+        go (inl r) = absurd (omega (arith, ap (λ (a : Corrected). a .0) (sym (corrected (r .0) (r .1)) ∙ e)))
+        go (inr lost) = lost
+
+  pub corrected-frame : (counts frame : List ℕ) (sum : ℕ) → frameCorrected block buffer ≡ (0, counts, sum, frame) →
+      (isBlock frame ≡ true) × (isFrame frame ≡ true)
+  unfolding frameCorrected reported restoredFrame refused
+  corrected-frame counts frame sum e = go (eqb (length block) 16320) (eqb (length buffer) 16320) (outerPass (passed block)) refl e
+    where
+      go : (s t : Bool) (o : Option (List (List ℕ))) → outerPass (passed block) ≡ o →
+          cond s (cond t (reported block buffer (Option·map frameOfWords o)) (refused 3 buffer)) (refused 2 buffer) ≡ (0, counts, sum, frame) →
+          (isBlock frame ≡ true) × (isFrame frame ≡ true)
+      go false t o p e = absurd (omega (arith, ap (λ (a : Corrected). a .0) e))
+      go true false o p e = absurd (omega (arith, ap (λ (a : Corrected). a .0) e))
+      go true true none p e = absurd (omega (arith, ap (λ (a : Corrected). a .0) e))
+      go true true (some ws) p e =
+          subst (λ (f : List ℕ). (isBlock f ≡ true) × (isFrame f ≡ true)) (ap (λ (a : Corrected). a .3) e)
+          (frame-block ws, restored-frame (passed block) ws (pass-restored (passed block) ws p))

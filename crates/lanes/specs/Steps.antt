@@ -1,0 +1,2 @@
+-- Elements for 64 inner words at once, bit-sliced.
+pub mod LaneSteps

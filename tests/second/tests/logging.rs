@@ -72,8 +72,9 @@ fn worst_words_of_a_few_counts() {
     assert_eq!(listed(&twelve), [63, 5, 40, 17, 30, 9, 22, 51]);
 }
 
-/// Inner word j stands before k if its count is larger, or equal and j the lower number. Place i holds the word that i others stand before, if its count is
-/// above 0, and 64 if there is none.
+/// Inner word j stands before k if its count is larger, or equal and j the lower
+/// number. Place i holds the word that i others stand before, if its count is
+/// above 0; else 64.
 #[test]
 fn worst_words_stand_in_their_order() {
     let mut random = Random(61);

@@ -37,12 +37,12 @@ pub fn nine_in_frame(inverted: &[usize]) -> bool {
 
 /// Is a word with nine errors more than eight places from every code word?
 ///
-/// The sent word differs in nine. Another one within eight differs from the sent one in seventeen places, since no two differ in fewer: the nine, by the errors,
-/// and eight more. Let e_i be the errors, X_i their locators, m the polynomial of degree 8 whose roots are the locators of the eight, r the exponent of the first
-/// root. Then for every polynomial q of degree below 8 the e_i X_i^r m(X_i) q(X_i) add up to 0: the difference is a code word, and the eight add nothing.
-/// Nine numbers do so for every q only if they are multiples of the w_i, where w_i is 1 over the product of the X_i - X_j. So m(X_i) is w_i / (e_i X_i^r), up to
-/// a common factor, and by Lagrange's formula m is 0, at a place that is none of the nine, just where the sum of the w_i^2 / (e_i X_i^r (x - X_i)) is. If that
-/// is so at fewer than eight places, there is no such code word.
+/// The sent word differs in nine. Another one within eight differs from the sent one in seventeen places, since no two differ in fewer: the nine, by the
+/// errors, and eight more. Let e_i be the errors, X_i their locators, m the polynomial of degree 8 whose roots are the locators of the eight, and r the
+/// exponent of the first root. For every polynomial q of degree below 8 the e_i X_i^r m(X_i) q(X_i) add up to 0, since the difference is a code word and
+/// the eight add nothing. Nine numbers do so for every q only if they are multiples of the w_i, where w_i is 1 over the product of the X_i - X_j. So m(X_i)
+/// is w_i / (e_i X_i^r), up to a common factor, and by Lagrange's formula m is 0 at a place that is none of the nine just where the sum of the w_i^2 / (e_i
+/// X_i^r (x - X_i)) is 0. If that is so at fewer than eight places, there is no such code word.
 fn nine<F: Field>(first_root: usize, length: usize, places: &[usize], values: &[u16]) -> bool {
     assert!(places.len() == 9 && values.len() == 9);
     let locator = |place: usize| F::alpha(length - 1 - place);

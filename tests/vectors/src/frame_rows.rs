@@ -60,9 +60,10 @@ fn refusals() {
     }
 }
 
-/// Each inner word has at most eight errors, or stays as received and brings at most eight wrong symbols to each outer word; else an outer word has nine or
-/// more. Bits 0 to 512 are nine of inner word 0, in nine symbols of outer word 0. From 129,984 on nine bits are parity bits of one inner word. 191 apart, 576
-/// bits are nine of each inner word; 1,008 apart, 124 bits are 31 of each of four, eight in an outer word at most; 976 apart, an outer word has nine.
+/// A frame comes back if no outer word has more than eight wrong symbols from the inner words with more than eight errors. Bits 0 to 512 are nine of inner
+/// word 0, in nine symbols of outer word 0. From 129,984 on nine bits are parity bits of one inner word, of which no outer word has any. 191 apart, 576
+/// bits are nine of each inner word, 41 in most outer words; 1,008 apart, 124 bits are 31 of each of four inner words, at most eight in an outer word; 976
+/// apart, one outer word has nine.
 fn corrections() {
     assert!(far::nine_in_frame(&apart(513, 0, 1)));
     for (data, count, first, step, number) in [

@@ -1,16 +1,16 @@
 //! The frame: where the bits of outer and inner words stand, and the two passes.
 //!
-//! A frame has 2,040 rows of 64 bits. Bit k of row p is place p of inner word
-//! k, for data and parity alike. The first 1,952 rows are, one bit after the
+//! A frame is 2,040 groups of 64 bits. Bit k of group p is place p of inner word
+//! k, for data and parity alike. The first 1,952 groups are, one bit after the
 //! other, the sixteen outer words.
 
 use crate::{bits, inner, outer, Corrected};
 
 pub const PAYLOAD_BYTES: usize = 15_296;
 pub const FRAME_BYTES: usize = 16_320;
+pub const INNER_WORDS: usize = 64;
 
 const OUTER_WORDS: usize = 16;
-const INNER_WORDS: usize = 64;
 /// Payload bits of an outer word other than the last.
 const FULL_DATA_BITS: usize = 7_650;
 /// Payload bits of the last outer word: what is left.
@@ -108,9 +108,9 @@ fn correct_outer_word(frame: &[bool], w: usize) -> Option<Vec<u16>> {
     (padded == padding).then_some(word)
 }
 
-/// Inner word k of the rows that are there.
+/// Inner word k, as far as the frame is there.
 fn inner_word(frame: &[bool], k: usize) -> Vec<bool> {
-    frame.chunks_exact(INNER_WORDS).map(|row| row[k]).collect()
+    frame.chunks_exact(INNER_WORDS).map(|group| group[k]).collect()
 }
 
 /// Every inner word corrected, or left as received if it is uncorrectable.

@@ -95,11 +95,11 @@ pub fn correct(word: &[bool]) -> Option<(Vec<bool>, usize)> {
     if roots.len() != errors {
         return None;
     }
-    let mut proposed = word.to_vec();
+    let mut candidate = word.to_vec();
     for root in &roots {
-        proposed[root.place] = !proposed[root.place];
+        candidate[root.place] = !candidate[root.place];
     }
-    is_code_word(&proposed).then_some((proposed, roots.len()))
+    is_code_word(&candidate).then_some((candidate, roots.len()))
 }
 
 /// The values at a^1 to a^16 of a word, from its remainder: the generator is

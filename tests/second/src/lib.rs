@@ -7,7 +7,9 @@
 //! * `extract_payload`: the payload of a block that is a frame;
 //! * `correct_frame`: a received block gives the restored frame and the number
 //!   of places corrected in each inner word;
-//! * the same for single outer words (symbols of ten bits) and inner words.
+//! * the same for single outer words (symbols of ten bits) and inner words;
+//! * `logging`: counters of the answers of `correct_frame`, and the worst list
+//!   of its counts.
 //!
 //! Encoding: the payload bits fill sixteen outer words (`frame`), each gets
 //! sixteen parity symbols by long division (`outer`); the bits of these words
@@ -18,7 +20,7 @@
 //! made afresh. Inner words: the remainder by the generator, syndromes from it,
 //! the algorithm of Berlekamp and Massey, and a Chien search. Outer words:
 //! syndromes by Horner's rule, the Euclidean algorithm of Sugiyama, a Chien
-//! search, and Forney's formula. Both decoders hand back a proposed word only
+//! search, and Forney's formula. Both decoders hand back a candidate only
 //! after a test that it is a code word that differs in at most eight places.
 //!
 //! Below these lie the two fields (`field`: carry-less products and reduction),
@@ -35,10 +37,14 @@ mod bits;
 mod field;
 mod frame;
 mod inner;
+pub mod logging;
 mod outer;
 mod poly;
 #[cfg(test)]
 mod tests;
+
+pub use field::{Field, FieldA, FieldB};
+pub use frame::{FRAME_BYTES, INNER_WORDS, PAYLOAD_BYTES};
 
 const REFUSED_PAYLOAD_LENGTH: u8 = 1;
 const REFUSED_BLOCK_LENGTH: u8 = 2;
@@ -53,35 +59,35 @@ const REFUSED_SYMBOL: u8 = 7;
 #[derive(Clone, Debug, PartialEq, Eq)]
 pub struct Corrected {
     pub frame: Vec<u8>,
-    pub counts: [u16; 64],
+    pub counts: [u16; INNER_WORDS],
     pub sum: u32,
 }
 
 /// The frame of a payload.
 pub fn encode_frame(payload: &[u8], space: usize) -> Result<Vec<u8>, u8> {
-    require(payload.len() == frame::PAYLOAD_BYTES, REFUSED_PAYLOAD_LENGTH)?;
-    require(space == frame::FRAME_BYTES, REFUSED_SPACE)?;
+    require(payload.len() == PAYLOAD_BYTES, REFUSED_PAYLOAD_LENGTH)?;
+    require(space == FRAME_BYTES, REFUSED_SPACE)?;
     Ok(frame::encode(payload))
 }
 
 /// Accepts a block that is the frame of some payload.
 pub fn check_frame(block: &[u8]) -> Result<(), u8> {
-    require(block.len() == frame::FRAME_BYTES, REFUSED_BLOCK_LENGTH)?;
+    require(block.len() == FRAME_BYTES, REFUSED_BLOCK_LENGTH)?;
     require(frame::is_frame(block), REFUSED_NO_CODE_WORD)
 }
 
 /// The payload of a block that is a frame.
 pub fn extract_payload(block: &[u8], space: usize) -> Result<Vec<u8>, u8> {
-    require(block.len() == frame::FRAME_BYTES, REFUSED_BLOCK_LENGTH)?;
-    require(space == frame::PAYLOAD_BYTES, REFUSED_SPACE)?;
+    require(block.len() == FRAME_BYTES, REFUSED_BLOCK_LENGTH)?;
+    require(space == PAYLOAD_BYTES, REFUSED_SPACE)?;
     require(frame::is_frame(block), REFUSED_NO_CODE_WORD)?;
     Ok(frame::payload(block))
 }
 
 /// The frame that the two passes restore from a received block.
 pub fn correct_frame(block: &[u8], space: usize) -> Result<Corrected, u8> {
-    require(block.len() == frame::FRAME_BYTES, REFUSED_BLOCK_LENGTH)?;
-    require(space == frame::FRAME_BYTES, REFUSED_SPACE)?;
+    require(block.len() == FRAME_BYTES, REFUSED_BLOCK_LENGTH)?;
+    require(space == FRAME_BYTES, REFUSED_SPACE)?;
     frame::correct(block).ok_or(REFUSED_UNCORRECTABLE)
 }
 

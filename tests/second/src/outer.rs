@@ -77,12 +77,12 @@ pub fn correct(word: &[u16]) -> Option<(Vec<u16>, usize)> {
     if roots.len() != locator.len() - 1 {
         return None;
     }
-    let mut proposed = word.to_vec();
+    let mut candidate = word.to_vec();
     for root in roots {
-        proposed[root.place] ^= error_value(&locator, &evaluator, root.point);
+        candidate[root.place] ^= error_value(&locator, &evaluator, root.point);
     }
-    let changed = word.iter().zip(&proposed).filter(|(old, new)| old != new).count();
-    (changed <= RADIUS && is_code_word(&proposed)).then_some((proposed, changed))
+    let changed = word.iter().zip(&candidate).filter(|(old, new)| old != new).count();
+    (changed <= RADIUS && is_code_word(&candidate)).then_some((candidate, changed))
 }
 
 /// Error locator and error evaluator by Sugiyama's algorithm, up to a common

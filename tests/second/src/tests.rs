@@ -158,6 +158,16 @@ fn inner_generator_roots() {
     assert!((1..=16).all(|n| found.contains(&n)));
 }
 
+/// The code word of the last data bit is the generator.
+#[test]
+fn last_data_bit_gives_the_inner_generator() {
+    let mut data = vec![false; inner::DATA];
+    data[inner::DATA - 1] = true;
+    let parity = inner::parity(&data).into_iter();
+    let packed = parity.fold(1, |packed, bit| (packed << 1) | u128::from(bit));
+    assert_eq!(packed, inner::generator());
+}
+
 /// The outer generator, read off as the parity of the data 1, has the roots a^0
 /// to a^15 and no others.
 #[test]

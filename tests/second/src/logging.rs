@@ -1,0 +1,57 @@
+//! What is logged of the corrector's answers: counters, and the worst list of a
+//! report.
+
+use crate::frame::INNER_WORDS;
+use crate::{Corrected, REFUSED_UNCORRECTABLE};
+use std::cmp::Reverse;
+
+/// Places of a worst list.
+pub const LISTED: usize = 8;
+/// What an empty place of a worst list holds.
+pub const EMPTY: u8 = INNER_WORDS as u8;
+
+/// What the corrector's answers since the last clearing add up to. The sums are
+/// kept whole, and limited where they are read.
+#[derive(Clone, Copy, Debug, Default, PartialEq, Eq)]
+pub struct Counters {
+    /// Frames that were corrected, those without a wrong bit among them.
+    pub frames: u64,
+    /// Uncorrectable blocks.
+    pub uncorrectable: u64,
+    /// Bits corrected.
+    pub bits: u64,
+}
+
+impl Counters {
+    /// One more answer. A block that is refused for another reason than that it
+    /// is uncorrectable does not count.
+    pub fn count(&mut self, answer: &Result<Corrected, u8>) {
+        match answer {
+            Ok(corrected) => {
+                self.frames += 1;
+                self.bits += u64::from(corrected.sum);
+            }
+            Err(REFUSED_UNCORRECTABLE) => self.uncorrectable += 1,
+            Err(_) => {}
+        }
+    }
+
+    /// Frames, uncorrectable blocks and bits as numbers of 32 bits: the sum, or
+    /// the largest such number if that is less.
+    pub fn read(&self) -> [u32; 3] {
+        let sums = [self.frames, self.uncorrectable, self.bits];
+        sums.map(|sum| u32::try_from(sum).unwrap_or(u32::MAX))
+    }
+}
+
+/// The inner words with a count above 0, the largest count first, equal counts
+/// by the lower number, as far as there are places; empty places hold 64.
+pub fn worst_words(counts: &[u16; INNER_WORDS]) -> [u8; LISTED] {
+    let mut words: Vec<u8> = (0..EMPTY).filter(|&k| counts[usize::from(k)] > 0).collect();
+    words.sort_by_key(|&k| (Reverse(counts[usize::from(k)]), k));
+    let mut list = [EMPTY; LISTED];
+    for (place, word) in list.iter_mut().zip(words) {
+        *place = word;
+    }
+    list
+}

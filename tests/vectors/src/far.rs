@@ -1,0 +1,106 @@
+//! That no code word is near, known from nine errors themselves and with no decoder.
+
+use crate::calls::Code;
+use crate::damage::{counts, Errors};
+use second::{Field, FieldA, FieldB, INNER_WORDS};
+
+/// The roots of the outer generator are a^0 to a^15, and those of the inner one have a^1 to a^16 among them.
+const FIRST_OUTER_ROOT: usize = 0;
+const FIRST_INNER_ROOT: usize = 1;
+const INNER_PLACES: usize = 2_040;
+/// Symbols and frame bits of an outer word other than the last.
+const OUTER_SYMBOLS: usize = 781;
+const OUTER_BITS: usize = 10 * OUTER_SYMBOLS;
+
+/// Is a single word with nine errors too far from every code word? Its length is given in symbols or bytes.
+pub fn nine_in_word(code: Code, length: usize, errors: &Errors) -> bool {
+    let places = &errors.places;
+    if code == Code::Outer {
+        nine::<FieldA>(FIRST_OUTER_ROOT, length, places, &errors.values)
+    } else {
+        nine::<FieldB>(FIRST_INNER_ROOT, 8 * length, places, &[1; 9])
+    }
+}
+
+/// Is a frame with these bits inverted uncorrectable? One inner word has nine of them, in nine symbols of an outer word, and both words are too far from every
+/// code word; each other inner word has at most eight, and is corrected to what was sent.
+pub fn nine_in_frame(inverted: &[usize]) -> bool {
+    let counts = counts(inverted);
+    let nine_of: Vec<usize> = inverted.iter().copied().filter(|i| counts[i % INNER_WORDS] > 8).collect();
+    let w = nine_of[0] / OUTER_BITS;
+    assert!(w < 15 && nine_of.iter().all(|i| i / OUTER_BITS == w), "all in an outer word other than the last");
+    let places: Vec<usize> = nine_of.iter().map(|i| i / INNER_WORDS).collect();
+    let symbols: Vec<usize> = nine_of.iter().map(|i| i % OUTER_BITS / 10).collect();
+    let values: Vec<u16> = nine_of.iter().map(|i| 512 >> (i % OUTER_BITS % 10)).collect();
+    nine::<FieldB>(FIRST_INNER_ROOT, INNER_PLACES, &places, &[1; 9]) && nine::<FieldA>(FIRST_OUTER_ROOT, OUTER_SYMBOLS, &symbols, &values)
+}
+
+/// Is a word with nine errors more than eight places from every code word?
+///
+/// The sent word differs in nine. Another one within eight differs from the sent one in seventeen places, since no two differ in fewer: the nine, by the
+/// errors, and eight more. Let e_i be the errors, X_i their locators, m the polynomial of degree 8 whose roots are the locators of the eight, and r the
+/// exponent of the first root. For every polynomial q of degree below 8 the e_i X_i^r m(X_i) q(X_i) add up to 0, since the difference is a code word and
+/// the eight add nothing. Nine numbers do so for every q only if they are multiples of the w_i, where w_i is 1 over the product of the X_i - X_j. So m(X_i)
+/// is w_i / (e_i X_i^r), up to a common factor, and by Lagrange's formula m is 0 at a place that is none of the nine just where the sum of the w_i^2 / (e_i
+/// X_i^r (x - X_i)) is 0. If that is so at fewer than eight places, there is no such code word.
+fn nine<F: Field>(first_root: usize, length: usize, places: &[usize], values: &[u16]) -> bool {
+    assert!(places.len() == 9 && values.len() == 9);
+    let locator = |place: usize| F::alpha(length - 1 - place);
+    let nine: Vec<u32> = places.iter().map(|&place| locator(place)).collect();
+    let factor = |i: usize| {
+        let one_over_w = (0..9).filter(|&j| j != i).fold(1, |product, j| F::multiply(product, nine[i] ^ nine[j]));
+        let error = F::multiply(u32::from(values[i]), F::power(nine[i], first_root));
+        F::inverse(F::multiply(F::multiply(one_over_w, one_over_w), error))
+    };
+    let factors: Vec<u32> = (0..9).map(factor).collect();
+    let sum = |x: u32| (0..9).fold(0, |sum, i| sum ^ F::multiply(factors[i], F::inverse(x ^ nine[i])));
+    let others = (0..length).filter(|place| !places.contains(place));
+    others.filter(|&place| sum(locator(place)) == 0).count() < 8
+}
+
+#[cfg(test)]
+mod tests {
+    use super::*;
+    use crate::calls::sent;
+
+    /// Nine of the seventeen places in which two code words differ: the second one is within eight.
+    #[test]
+    fn between_two_code_words_one_is_near() {
+        for n in [17, 18, 781, 1_023] {
+            let mut data = vec![0; n - 16];
+            data[(n - 16) / 2] = 77;
+            let word = sent(Code::Outer, &data);
+            let places: Vec<usize> = (0..n).filter(|&i| word[i] != 0).collect();
+            assert_eq!(places.len(), 17);
+            for from in 0..=8 {
+                let places = &places[from..from + 9];
+                let values: Vec<u16> = places.iter().map(|&i| word[i]).collect();
+                assert!(!nine::<FieldA>(FIRST_OUTER_ROOT, n, places, &values));
+                let other: Vec<u16> = values.iter().map(|value| value ^ 1).collect();
+                assert!(nine::<FieldA>(FIRST_OUTER_ROOT, n, places, &other));
+            }
+        }
+    }
+
+    /// An inner code word with seventeen ones, by their powers: with nine of them it is within eight, with eight of them and another place it is not.
+    #[test]
+    fn towards_an_inner_code_word_it_is_near() {
+        let powers = [34, 51, 58, 106, 146, 205, 244, 307, 628, 883, 1_027, 1_157, 1_470, 1_612, 1_693, 1_836, 1_990];
+        let mut places = powers.map(|power| INNER_PLACES - 1 - power);
+        assert!(!nine::<FieldB>(FIRST_INNER_ROOT, INNER_PLACES, &places[8..], &[1; 9]));
+        places[8] += 1;
+        assert!(nine::<FieldB>(FIRST_INNER_ROOT, INNER_PLACES, &places[8..], &[1; 9]));
+    }
+
+    /// Nine errors at places a step apart: the decoder says the same.
+    #[test]
+    fn the_decoder_agrees() {
+        for (n, step) in (1..100).map(|s| (17 + 10 * s, s)) {
+            let places: Vec<usize> = (0..9).map(|k| (k * step + step * step) % n).collect();
+            let values: Vec<u16> = (1..=9).map(|k| (k * k * step % 1_023) as u16 + 1).collect();
+            let mut word = vec![0; n];
+            places.iter().zip(&values).for_each(|(&i, &value)| word[i] = value);
+            assert_eq!(nine::<FieldA>(FIRST_OUTER_ROOT, n, &places, &values), second::correct_outer(&word, n) == Err(5));
+        }
+    }
+}

@@ -1,0 +1,68 @@
+//! Rows on the logging of corrections, of zero frames with inverted bits: the three counters after each answer, and worst lists.
+
+use crate::damage::{apart, counts, inverted};
+use crate::lines::list;
+use second::logging::{worst_words, Counters};
+use second::{correct_frame, Corrected, FRAME_BYTES as FRAME, INNER_WORDS};
+
+pub fn print() {
+    counters();
+    worst_lists();
+}
+
+/// Each answer once; cleared again; then from numbers just below the largest, which they reach or stop at, and where they stay.
+fn counters() {
+    let mut counters = Counters::default();
+    for (count, step, n, space, number) in [
+        (0, 1, FRAME, FRAME, 0),
+        (8, 64, FRAME, FRAME, 0),
+        (512, 1, FRAME, FRAME, 0),
+        (513, 1, FRAME, FRAME, 5),
+        (0, 1, FRAME - 1, FRAME, 2),
+        (0, 1, FRAME, FRAME - 1, 3),
+    ] {
+        counted(&mut counters, (count, step), n, space, number);
+    }
+    println!("cleared, {}", read(Counters::default()));
+    let mut counters = Counters { frames: 4_294_967_294, uncorrectable: 4_294_967_294, bits: 4_294_967_290 };
+    println!("set, {}", read(counters));
+    for (count, step, number) in [(8, 64, 0), (513, 1, 5), (8, 64, 0), (513, 1, 5)] {
+        counted(&mut counters, (count, step), FRAME, FRAME, number);
+    }
+}
+
+/// A row on the counters after one more answer, to the first n bytes of a block with bits inverted from bit 0 on.
+fn counted(counters: &mut Counters, (count, step): (usize, usize), n: usize, space: usize, number: u8) {
+    let answer = corrected(&apart(count, 0, step), n, space);
+    assert_eq!(answer.as_ref().err().copied().unwrap_or(0), number);
+    counters.count(&answer);
+    println!("counted, length {n}, errors {count} from 0 apart {step}, buffer of {space}, refusal {number}, {}", read(*counters));
+}
+
+fn read(counters: Counters) -> String {
+    format!("counters:{}", list(&counters.read()))
+}
+
+fn worst_lists() {
+    for (count, first, step) in [(0, 0, 1), (5, 37, 64), (9, 1, 12_800), (512, 0, 1)] {
+        worst_list(&format!("errors {count} from {first} apart {step}"), &apart(count, first, step));
+    }
+    let graded: Vec<usize> = (0..INNER_WORDS).flat_map(|k| apart(5 * k % 9, k, INNER_WORDS)).collect();
+    worst_list("(5 k) mod 9 errors of each inner word k", &graded);
+    worst_list("errors 513 from 0 apart 1", &apart(513, 0, 1));
+}
+
+/// A row on the worst list of an answer; that of a refusal has counts of 0.
+fn worst_list(told: &str, bits: &[usize]) {
+    let counts = corrected(bits, FRAME, FRAME).map_or([0; INNER_WORDS], |corrected| corrected.counts);
+    println!("worst list, {told}:{}", list(&worst_words(&counts)));
+}
+
+/// The answer to the first n bytes of the zero frame with these bits inverted. If it is not refused, it is the zero frame, with the counts of these bits.
+fn corrected(bits: &[usize], n: usize, space: usize) -> Result<Corrected, u8> {
+    let answer = correct_frame(&inverted(&[0; FRAME], bits)[..n], space);
+    if let Ok(corrected) = &answer {
+        assert_eq!(*corrected, Corrected { frame: vec![0; FRAME], counts: counts(bits), sum: bits.len() as u32 });
+    }
+    answer
+}

@@ -1,0 +1,31 @@
+//! The rows that crates/acceptance is held to, and the blocks and reports of samples/, made with the second encoder and decoder.
+//!
+//!     vectors           prints the rows
+//!     vectors FOLDER    writes the samples into the folder
+//!
+//! A row gives data (`data`) to a call, or what is received when the word or frame of the data is sent (`damage`); the call is made (`calls`), and what goes in
+//! and what comes out are printed (`rows`, `lines`). The rows themselves: `word_rows`, `frame_rows`, `logging_rows`.
+//!
+//! What comes out is held to how the row is made. A row states the number that it is answered by. Where a correction is not refused, the sent word or frame has
+//! to come back, with the counts of the errors that were made. Where nine errors are refused, that no code word is near follows from the errors (`far`); where
+//! there are more, the decoder alone says so.
+
+mod calls;
+mod damage;
+mod data;
+mod far;
+mod frame_rows;
+mod lines;
+mod logging_rows;
+mod rows;
+mod samples;
+mod word_rows;
+
+fn main() {
+    if let Some(folder) = std::env::args().nth(1) {
+        return samples::write_all(folder.as_ref());
+    }
+    word_rows::print();
+    frame_rows::print();
+    logging_rows::print();
+}

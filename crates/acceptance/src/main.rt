@@ -1,6 +1,6 @@
 // The rows of document 01 that are run by a program: single words, frames, their correction, and its logging. A line names the call and what it is lent, and
 // gives the answer: 0 or the refusal's number; of a correction then how many symbols or bits it changed, and of a frame's the digest of its report's counts;
-// last the buffer. `stdout` is what tests/vectors.rs computes from the documents.
+// last the buffer. `stdout` is what tests/vectors makes with the second encoder and decoder.
 mod calls;
 mod damage;
 mod data;

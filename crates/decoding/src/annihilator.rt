@@ -11,7 +11,7 @@ ghost use lib.ListN.{length};
 ghost use Rattle.fields.specs.Lists.{tabulate};
 ghost use Rattle.fields.specs.Places.{at};
 ghost use Rattle.decoding.specs.Steps.Decoder.{Tables};
-ghost use Rattle.decoding.specs.Steps.Annihilator.{Annihilates, powerRow, PlusPart, Zeros, cleared, cellsOf, reduced, FirstNonzero, convolved, plusShifted, adjusted, berlekampMasseyStep, berlekampMassey, reversedAt};
+ghost use Rattle.decoding.specs.Steps.Annihilator.{Annihilates, powerRow, PlusPart, Zeros, cellCleared, cellsOf, reduced, FirstNonzero, convolved, plusShifted, adjusted, berlekampMasseyStep, berlekampMassey, reversedAt};
 
 const CELLS: usize = RADIUS + COEFFICIENTS;
 
@@ -52,10 +52,10 @@ fn plus_scaled(exp: &[u16], log: &[u16], u: Row, c: u16, v: Row, from: usize, to
 
 // Cell j of u is made zero by the pivot v of that cell, whose coefficients before cell `top` are zero. A pivot that is missing is all zero and changes
 // nothing, and so does one of a cell that is zero.
-fn cleared(exp: &[u16], log: &[u16], u: Row, v: Row, j: usize, top: usize) -> Row
+fn cell_cleared(exp: &[u16], log: &[u16], u: Row, v: Row, j: usize, top: usize) -> Row
     requires { ⌜ (j < 8) × (8 ≤ top) × (top ≤ 17) ⌝ }
     requires { ⌜ Zeros (v .cells) j top ⌝ }
-    ensures { λ r. ⌜ r .cells ≡ cleared (now (exp .entry)) (now (log .entry)) (u .cells) (v .cells) j ⌝ }
+    ensures { λ r. ⌜ r .cells ≡ cellCleared (now (exp .entry)) (now (log .entry)) (u .cells) (v .cells) j ⌝ }
 {
     let c = fields::product(exp, log, u.cells[j], fields::inverse(exp, log, v.cells[j]));
     if c == 0 {
@@ -73,7 +73,7 @@ fn reduced(exp: &[u16], log: &[u16], u: Row, pivots: [Row; RADIUS], top: usize) 
     let mut row = u;
     let mut j: usize = 0;
     while j < RADIUS {
-        row = cleared(exp, log, row, pivots[j], j, top);
+        row = cell_cleared(exp, log, row, pivots[j], j, top);
         j += 1;
     }
     row

@@ -18,14 +18,14 @@ use Rattle.fields.proofs.Places.Counting.{sum-most}
 use Rattle.fields.proofs.Places.Filling.{FilledOver, over-next, filled-end}
 use Rattle.words.specs.Bits.{bitOf}
 use Rattle.words.proofs.Bits.Numbers.{bitOf-lt, bitOf-zero, masked-bit}
-use Rattle.inner_words.specs.Steps.Passes.{counted}
+use Rattle.inner_words.specs.Steps.Passes.{placeCounted}
 
 -- count k, with bit k of x counted
 unfoldable pub countedAt : List ℕ → ℕ → ℕ → ℕ
 countedAt counts x k = at counts k + bitOf 64 x k
 
-pub count-none : (counts : List ℕ) (x : ℕ) → length counts ≡ 64 → x ≡ 0 → counts ≡ counted counts x
-unfolding counted
+pub count-none : (counts : List ℕ) (x : ℕ) → length counts ≡ 64 → x ≡ 0 → counts ≡ placeCounted counts x
+unfolding placeCounted
 count-none counts x long e = tabulate-is 64 _ counts 0 long (λ k l. rw (e, bitOf-zero 64 k) (omega arith))
 
 module _ (before counts : List ℕ) (x k : ℕ) (so-far : FilledOver 64 (countedAt before x) before k counts) where
@@ -67,7 +67,7 @@ module _ (xs : ℕ → ℕ) (counts : List ℕ) (p : ℕ) (so-far : Counting xs 
           omega (arith, count-at k l, rw zero-add at few)
       go (no g) = omega (arith, past counts k (omega (arith, so-far .long)))
 
-  pub counting-next : (x : ℕ) (next : List ℕ) → x ≡ xs p → next ≡ counted counts x → Counting xs (p + 1) next
+  pub counting-next : (x : ℕ) (next : List ℕ) → x ≡ xs p → next ≡ placeCounted counts x → Counting xs (p + 1) next
   unfolding onesUpTo sumTo counted
   counting-next x next ex e =
       record {

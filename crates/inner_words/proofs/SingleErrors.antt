@@ -34,13 +34,13 @@ use Rattle.words.proofs.Codes.Horner.{horner-same, horner-sum}
 use Rattle.words.proofs.Codes.InnerRoots.{inner-code}
 use Rattle.words.proofs.Codes.Proved.{codes}
 use Rattle.words.proofs.Decoding.InnerSyndromes.{value-powers}
-use Rattle.inner_words.specs.Steps.InnerResidues.{WordResidues, oddValue, isSingle}
+use Rattle.inner_words.specs.Steps.InnerResidues.{WordResidues, oddSyndrome, isSingle}
 use Rattle.inner_words.specs.Steps.Passes.{wrongWords, WordCorrected, WordTried}
 use Rattle.inner_words.specs.Steps.Proposals.{Nearer}
 use Rattle.inner_words.proofs.InterleavedBits.{inner-word-length, place-to-bit}
 use Rattle.inner_words.proofs.InnerSteps.{wrong-lt, wrong-bit}
 use Rattle.inner_words.proofs.InnerPass.{restored-some, restored-code, restored-length, word-other, wrong-set}
-use Rattle.inner_words.proofs.WordErrors.{odd-value-word, residues-kept}
+use Rattle.inner_words.proofs.WordErrors.{odd-syndrome-word, residues-kept}
 
 -- ---- its values
 
@@ -90,17 +90,17 @@ one-value e i h =
 
 -- the values at a, a^3, .. before a^(2j+1) are those of a single wrong place
 unfoldable pub singleUpTo : List ℕ → List ℕ → ℕ → ℕ → ℕ → Bool
-singleUpTo es residues k e j = every j (λ j. eqb (oddValue es residues k j) (tablePower es ((2 * j + 1) * e)))
+singleUpTo es residues k e j = every j (λ j. eqb (oddSyndrome es residues k j) (tablePower es ((2 * j + 1) * e)))
 
 module _ (es residues : List ℕ) (k e : ℕ) where
-  pub single-first : oddValue es residues k 0 ≡ tablePower es e → singleUpTo es residues k e 1 ≡ true
+  pub single-first : oddSyndrome es residues k 0 ≡ tablePower es e → singleUpTo es residues k e 1 ≡ true
   unfolding singleUpTo every
   single-first q = let n : (2 * 0 + 1) * e ≡ e = omega arith in rw n (eq-eqb _ _ q)
 
   pub single-exponent : (j : ℕ) → j < 8 → e < 2040 → Fits w64 ((2 * j + 1) * e)
   single-exponent j h l = record { fits = (let m : (2 * j + 1) * e ≤ 15 * e = mul-le-mul-right e (omega arith) in omega arith) }
 
-  module _ (j v x : ℕ) (ev : v ≡ oddValue es residues k j) (ex : x ≡ tablePower es ((2 * j + 1) * e)) where
+  module _ (j v x : ℕ) (ev : v ≡ oddSyndrome es residues k j) (ex : x ≡ tablePower es ((2 * j + 1) * e)) where
     pub single-not : j < 8 → (v ≡ x → ⊥) → false ≡ isSingle es residues k e
     unfolding isSingle
     single-not h n = sym (every-false 8 _ j h (ne-eqb _ _ (λ q. n (ev ∙ q ∙ sym ex))))
@@ -121,7 +121,7 @@ untrue e = absurd (omega (arith, ap {B = ℕ} (λ (x : Bool). cond x 1 0) e))
 pub unfalse : {A : Type 0} → true ≡ false → A
 unfalse e = absurd (omega (arith, ap {B = ℕ} (λ (x : Bool). cond x 1 0) e))
 
-pub value-given : (es residues : List ℕ) (k e x p : ℕ) → x ≡ oddValue es residues k 0 → p ≡ tablePower es e → x ≡ p → oddValue es residues k 0 ≡ tablePower es e
+pub value-given : (es residues : List ℕ) (k e x p : ℕ) → x ≡ oddSyndrome es residues k 0 → p ≡ tablePower es e → x ≡ p → oddSyndrome es residues k 0 ≡ tablePower es e
 value-given es residues k e x p ex ep q = sym ex ∙ q ∙ ep
 
 pub powers-are : (es : List ℕ) → es ≡ powersB → length es ≡ 2047
@@ -152,8 +152,8 @@ module _ (block residues es : List ℕ) (k e : ℕ) (k-lt : k < 64) (long : leng
   value-is : (j : ℕ) → j < 8 → value 11 2053 (powerB (2 * j + 1)) b 2040 ≡ powerB ((2 * j + 1) * e)
   unfolding isSingle
   value-is j h =
-      sym (odd-value-word block k residues R j h)
-      ∙ eqb-true _ _ (every-at 8 (λ j. eqb (oddValue powersB residues k j) (tablePower powersB ((2 * j + 1) * e))) (rw exp at (sym et ∙ not-false t y)) j h)
+      sym (odd-syndrome-word block k residues R j h)
+      ∙ eqb-true _ _ (every-at 8 (λ j. eqb (oddSyndrome powersB residues k j) (tablePower powersB ((2 * j + 1) * e))) (rw exp at (sym et ∙ not-false t y)) j h)
       ∙ table-power 11 2053 field-b ((2 * j + 1) * e)
 
   c-root : (j : ℕ) → j < 8 → value 11 2053 (powerB (2 * j + 1)) (at c) 2040 ≡ 0

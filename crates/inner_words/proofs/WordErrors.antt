@@ -28,7 +28,7 @@ use Rattle.decoding.proofs.Decoding.Changes.{errors-at}
 use Rattle.words.specs.Bits.{bitOf, bitAt, bitsOf, bytesOf}
 use Rattle.words.specs.InnerCode.{divisor, remainder, powerB, isInner}
 use Rattle.words.specs.Nearest.{nearest}
-use Rattle.words.specs.Steps.InnerDecoding.{oddValues, flips, ErrorsOf, InnerErrors, inverted, explains}
+use Rattle.words.specs.Steps.InnerDecoding.{oddSyndromes, flips, ErrorsOf, InnerErrors, inverted, explains}
 use Rattle.words.specs.InnerWords.{innerWord, innerRestored}
 use Rattle.words.proofs.Bits.Bytes.{bitAt-lt, bits-at, bits-length, bytes-bit, bytes-length}
 use Rattle.words.proofs.Bits.Numbers.{bitOf-lt, masked-bit}
@@ -36,9 +36,9 @@ use Rattle.words.proofs.Codes.Horner.{horner-same, valueOf-more}
 use Rattle.words.proofs.Codes.LeastPolynomials.{times-power-sum}
 use Rattle.words.proofs.Codes.InnerRoots.{valueOf-bits, remainder-bits}
 use Rattle.words.proofs.Codes.Proved.{codes}
-use Rattle.words.proofs.Decoding.InnerSyndromes.{value-powers, odd-value-b}
+use Rattle.words.proofs.Decoding.InnerSyndromes.{value-powers, odd-syndrome-b}
 use Rattle.words.proofs.Decoding.Inner.{flip-at, inner-found, inner-lost}
-use Rattle.inner_words.specs.Steps.InnerResidues.{coefficient, wordResidue, residuesOf, WordResidues, oddValue}
+use Rattle.inner_words.specs.Steps.InnerResidues.{coefficient, wordResidue, residuesOf, WordResidues, oddSyndrome}
 use Rattle.inner_words.specs.Steps.Passes.{wrongWords, WordCorrected}
 use Rattle.inner_words.specs.Steps.Proposals.{Nearer}
 use Rattle.inner_words.proofs.InterleavedBits.{inner-word-length, place-to-bit}
@@ -89,14 +89,14 @@ module _ {es residues : List ℕ} {k j i v : ℕ} (s : Adding es residues k j i 
   unfolding xorTo xor
   adding-next l e = record { within = omega arith; value = rw (add-one, e, s .value) }
 
-  pub adding-end : 11 ≤ i → v ≡ oddValue es residues k j
-  unfolding oddValue
+  pub adding-end : 11 ≤ i → v ≡ oddSyndrome es residues k j
+  unfolding oddSyndrome
   adding-end l = let e : i ≡ 11 = omega (arith, s .within) in rw e at (s .value)
 
 -- ---- the values of an inner word
 
-odd-length : (r : ℕ) → length (oddValues powersB r) ≡ 8
-unfolding oddValues
+odd-length : (r : ℕ) → length (oddSyndromes powersB r) ≡ 8
+unfolding oddSyndromes
 odd-length r = tabulate-length 8 _
 
 -- inner word k of a block, as bytes
@@ -133,22 +133,22 @@ module _ (block : List ℕ) (k : ℕ) where
         let e : 11 - suc (11 - suc i) ≡ i = omega arith in
         ap₂ _*_ (R .each (11 * j + i) (omega arith) ∙ rw (q, r, e)) (table-power 11 2053 field-b ((2 * j + 1) * i))
 
-    pub odd-value-word : (j : ℕ) → j < 8 → oddValue powersB residues k j ≡ value 11 2053 (powerB (2 * j + 1)) b 2040
-    unfolding oddValue wordResidue
-    odd-value-word j h =
+    pub odd-syndrome-word : (j : ℕ) → j < 8 → oddSyndrome powersB residues k j ≡ value 11 2053 (powerB (2 * j + 1)) b 2040
+    unfolding oddSyndrome wordResidue
+    odd-syndrome-word j h =
         let e = 2 * j + 1 in
         let r = wordResidue j block 2040 k in
         let bits : (p : ℕ) → b p < 2 = λ p. bitAt-lt block _ in
         xorTo-same 11 _ _ (λ i l. residue-term j i h l) ∙ sym (value-powers 11 2053 field-b e (bitOf 11 r) (bitOf-lt 11 r) 11)
         ∙ sym (valueOf-bits _ 11 r) ∙ sym (valueOf-more _ (times-power-sum e) 1 11 r (residue-lt b bits 2040 j h)) ∙ residue-value b bits 2040 j h
 
-    odd-value : (j : ℕ) → j < 8 → oddValue powersB residues k j ≡ at (oddValues powersB (remainder 88 divisor (bitAt w) 2040)) j
-    odd-value j h =
-        odd-value-word j h ∙ horner-same _ b (bitAt w) 2040 (λ p l. sym (word-bit p l))
-        ∙ sym (odd-value-b (remainder 88 divisor (bitAt w) 2040) j h ∙ remainder-bits (bitAt w) (bitAt-lt w) 2040 j h)
+    odd-syndrome : (j : ℕ) → j < 8 → oddSyndrome powersB residues k j ≡ at (oddSyndromes powersB (remainder 88 divisor (bitAt w) 2040)) j
+    odd-syndrome j h =
+        odd-syndrome-word j h ∙ horner-same _ b (bitAt w) 2040 (λ p l. sym (word-bit p l))
+        ∙ sym (odd-syndrome-b (remainder 88 divisor (bitAt w) 2040) j h ∙ remainder-bits (bitAt w) (bitAt-lt w) 2040 j h)
 
-    values-are : tabulate 8 (oddValue powersB residues k) ≡ oddValues powersB (remainder 88 divisor (bitAt w) 2040)
-    values-are = sym (tabulate-is 8 _ _ 0 (odd-length (remainder 88 divisor (bitAt w) 2040)) (λ j h. sym (odd-value j h)))
+    values-are : tabulate 8 (oddSyndrome powersB residues k) ≡ oddSyndromes powersB (remainder 88 divisor (bitAt w) 2040)
+    values-are = sym (tabulate-is 8 _ _ 0 (odd-length (remainder 88 divisor (bitAt w) 2040)) (λ j h. sym (odd-syndrome j h)))
 
 -- ---- its wrong places inverted
 
@@ -171,12 +171,12 @@ module _ (places values : List ℕ) (k : ℕ) (k-lt : k < 64) where
       rw (ne-eqb (64 * at places n + k) i (λ e. q (omega arith)), inverted-outside n i q) (xor-zero-r 0)
 
 module _ (block residues odd es : List ℕ) (k : ℕ) (k-lt : k < 64) (long : length block ≡ 16320) (exp : es ≡ powersB) (R : WordResidues residues k block)
-    (eo : odd ≡ tabulate 8 (oddValue es residues k)) (places values : List ℕ) (count : ℕ) (left : List ℕ) (E : ErrorsOf odd places values count left)
+    (eo : odd ≡ tabulate 8 (oddSyndrome es residues k)) (places values : List ℕ) (count : ℕ) (left : List ℕ) (E : ErrorsOf odd places values count left)
     (t : Bool) (et : t ≡ explains es places values count left) where
   found : InnerErrors (wordBytes block k) places values count left
   found =
-      let e : odd ≡ oddValues powersB (remainder 88 divisor (bitAt (wordBytes block k)) 2040) =
-      eo ∙ ap (λ (es : List ℕ). tabulate 8 (oddValue es residues k)) exp ∙ values-are block k residues R in
+      let e : odd ≡ oddSyndromes powersB (remainder 88 divisor (bitAt (wordBytes block k)) 2040) =
+      eo ∙ ap (λ (es : List ℕ). tabulate 8 (oddSyndrome es residues k)) exp ∙ values-are block k residues R in
       record { found = rw e at E }
 
   -- without an explanation there is no code word within eight places

@@ -15,7 +15,7 @@ ghost use Rattle.inner_words.specs.Steps.SideBySide.{parities, parityByt
 ghost use Rattle.inner_words.specs.Steps.InnerResidues.{WordResidues};
 ghost use Rattle.inner_words.specs.Steps.Passes.{wrongWords, InnerPassed, innerCodes};
 
-mod odd_values;
+mod odd_syndromes;
 mod one_by_one;
 mod parity;
 mod parity_rows;

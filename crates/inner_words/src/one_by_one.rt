@@ -1,6 +1,6 @@
 // Inner words that are no code words, corrected one after the other by their residues.
 use crate::Interleaved;
-use crate::odd_values::odd_values;
+use crate::odd_syndromes::odd_syndromes;
 use words::wrong_places;
 ghost use mathlib.Core.Path.{_≡_};
 ghost use mathlib.Core.Bool.{true, _&&_, cond};
@@ -28,7 +28,7 @@ fn correct_word(
     ensures put { λ r. ⌜ WordCorrected k (now (block .entry)) (now (block .exit)) r ⌝ }
     ensures tables { λ _. ⌜ PowerTables (now (exp .entry)) (now (tables .exit)) ⌝ }
 {
-    let e = wrong_places::errors_by_tables(exp, log, tables, odd_values(exp, residues, k));
+    let e = wrong_places::errors_by_tables(exp, log, tables, odd_syndromes(exp, residues, k));
     if !wrong_places::explains(exp, e) {
         return false;
     }

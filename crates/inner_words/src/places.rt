@@ -7,7 +7,7 @@ ghost use Rattle.fields.specs.Lists.{tabulate};
 ghost use Rattle.fields.specs.Places.{at};
 ghost use Rattle.fields.specs.Steps.Buffers.{Placed};
 ghost use Rattle.inner_words.specs.Steps.SideBySide.{placeAt, byteOf64};
-ghost use Rattle.inner_words.specs.Steps.Passes.{counted};
+ghost use Rattle.inner_words.specs.Steps.Passes.{placeCounted};
 
 // Place p of every inner word: bit k, the highest first, is that of word k.
 pub fn place(bytes: &[u8], p: usize) -> u64
@@ -48,7 +48,7 @@ pub(crate) fn put_place(block: &mut [u8], p: usize, x: u64)
 // Counts one place of every inner word: bit k of x, the highest first, is 1 where word k is wrong there.
 pub fn count(counts: &mut [u16], x: u64)
     requires { ⌜ (length (now counts) ≡ 64) × ((k : ℕ) → at (now counts) k ≤ 2040) ⌝ }
-    ensures { λ _. ⌜ now (counts .exit) ≡ counted (now (counts .entry)) x ⌝ }
+    ensures { λ _. ⌜ now (counts .exit) ≡ placeCounted (now (counts .entry)) x ⌝ }
 {
     if x == 0 {
         return;

@@ -2,7 +2,7 @@
 // remainder give the wrong places (module wrong_places), which are inverted.
 use crate::Inner;
 use crate::wrong_places;
-use crate::wrong_places::OddValues;
+use crate::wrong_places::OddSyndromes;
 use decoding::error_values::Errors;
 use decoding::symbols;
 ghost use mathlib.Core.Path.{_≡_};
@@ -14,8 +14,8 @@ ghost use Rattle.fields.specs.Places.{at};
 ghost use Rattle.decoding.specs.Steps.Decoder.{withErrors};
 ghost use Rattle.words.specs.Bits.{bitAt, bitsOf, numberOf, bitOf, bytesOf};
 ghost use Rattle.words.specs.InnerCode.{valueOf, factors, divisor, remainder};
-ghost use Rattle.words.specs.Steps.Limbs.{number, Holds, residue, Residues};
-ghost use Rattle.words.specs.Steps.InnerDecoding.{oddValues, plusTerm, flips, InnerErrors};
+ghost use Rattle.words.specs.Steps.Limbs.{number, Represents, residue, Residues};
+ghost use Rattle.words.specs.Steps.InnerDecoding.{oddSyndromes, plusTerm, flips, InnerErrors};
 
 // Coefficients below z^48, the low ones, stand in one number, the others in another.
 const LOW_BITS: usize = 48;
@@ -35,7 +35,7 @@ pub struct Polynomial {
 
 // A bit as the polynomial 0 or 1; any other byte as the polynomial of its bits.
 fn constant(b: u8) -> Polynomial
-    ensures { λ r. ⌜ Holds (r .high) (r .low) b ⌝ }
+    ensures { λ r. ⌜ Represents (r .high) (r .low) b ⌝ }
 {
     Polynomial {
         high: 0,
@@ -45,7 +45,7 @@ fn constant(b: u8) -> Polynomial
 
 fn plus(u: Polynomial, v: Polynomial) -> Polynomial
     requires { ⌜ (u .low < 2 ^ 48) × (v .low < 2 ^ 48) ⌝ }
-    ensures { λ r. ⌜ Holds (r .high) (r .low) (xor (number (u .high) (u .low)) (number (v .high) (v .low))) ⌝ }
+    ensures { λ r. ⌜ Represents (r .high) (r .low) (xor (number (u .high) (u .low)) (number (v .high) (v .low))) ⌝ }
 {
     Polynomial {
         high: u.high ^ v.high,
@@ -55,7 +55,7 @@ fn plus(u: Polynomial, v: Polynomial) -> Polynomial
 
 fn times_z(v: Polynomial) -> Polynomial
     requires { ⌜ (v .high < 2 ^ 60) × (v .low < 2 ^ 48) ⌝ }
-    ensures { λ r. ⌜ Holds (r .high) (r .low) (2 * number (v .high) (v .low)) ⌝ }
+    ensures { λ r. ⌜ Represents (r .high) (r .low) (2 * number (v .high) (v .low)) ⌝ }
 {
     Polynomial {
         high: 2 * v.high + (v.low >> (LOW_BITS - 1)),
@@ -66,7 +66,7 @@ fn times_z(v: Polynomial) -> Polynomial
 // v where the bit is 1, and 0 where it is 0.
 fn scaled(b: u16, v: Polynomial) -> Polynomial
     requires { ⌜ v .low < 2 ^ 48 ⌝ }
-    ensures { λ r. ⌜ Holds (r .high) (r .low) (scale b (number (v .high) (v .low))) ⌝ }
+    ensures { λ r. ⌜ Represents (r .high) (r .low) (scale b (number (v .high) (v .low))) ⌝ }
 {
     if b == 0 {
         return constant(0);
@@ -87,7 +87,7 @@ fn factor(i: usize) -> u16
 // The polynomial f of degree below 12 times v.
 fn times(f: u16, v: Polynomial) -> Polynomial
     requires { ⌜ (v .high < 2 ^ 40) × (v .low < 2 ^ 48) ⌝ }
-    ensures { λ r. ⌜ Holds (r .high) (r .low) (valueOf (λ u. 2 * u) (number (v .high) (v .low)) 12 f) ⌝ }
+    ensures { λ r. ⌜ Represents (r .high) (r .low) (valueOf (λ u. 2 * u) (number (v .high) (v .low)) 12 f) ⌝ }
 {
     let mut u = constant(0);
     let mut k: u16 = 0;
@@ -100,7 +100,7 @@ fn times(f: u16, v: Polynomial) -> Polynomial
 
 // The product of the eight factors, of degree 88.
 pub(crate) fn divisor() -> Polynomial
-    ensures { λ r. ⌜ Holds (r .high) (r .low) divisor ⌝ }
+    ensures { λ r. ⌜ Represents (r .high) (r .low) divisor ⌝ }
 {
     let mut d = constant(1);
     let mut i: usize = 0;
@@ -114,7 +114,7 @@ pub(crate) fn divisor() -> Polynomial
 // z times v, less d where a term z^88 comes up.
 fn doubled(v: Polynomial, d: Polynomial) -> Polynomial
     requires { ⌜ (v .high < 2 ^ 60) × (v .low < 2 ^ 48) × (d .low < 2 ^ 48) ⌝ }
-    ensures { λ r. ⌜ Holds (r .high) (r .low) (doubled 88 (number (d .high) (d .low)) (number (v .high) (v .low))) ⌝ }
+    ensures { λ r. ⌜ Represents (r .high) (r .low) (doubled 88 (number (d .high) (d .low)) (number (v .high) (v .low))) ⌝ }
 {
     let t = times_z(v);
     if (t.high >> HIGH_BITS) % 2 == 0 {
@@ -134,8 +134,8 @@ const STEPS: usize = Inner::PLACES / STEP;
 
 // The remainder of k z^88 after division by the divisor d, where k is a polynomial of degree below 4.
 fn residue(d: Polynomial, k: usize) -> Polynomial
-    requires { ⌜ Holds (d .high) (d .low) divisor × (k < 16) ⌝ }
-    ensures { λ r. ⌜ Holds (r .high) (r .low) (residue divisor k) ⌝ }
+    requires { ⌜ Represents (d .high) (d .low) divisor × (k < 16) ⌝ }
+    ensures { λ r. ⌜ Represents (r .high) (r .low) (residue divisor k) ⌝ }
 {
     let mut v = Polynomial {
         high: (k as u64) << (HIGH_BITS - STEP),
@@ -151,7 +151,7 @@ fn residue(d: Polynomial, k: usize) -> Polynomial
 
 // The table of the division by d: entry k is the remainder of k z^88.
 fn residues(d: Polynomial) -> [Polynomial; STEP_VALUES]
-    requires { ⌜ Holds (d .high) (d .low) divisor ⌝ }
+    requires { ⌜ Represents (d .high) (d .low) divisor ⌝ }
     ensures { λ t. ⌜ Residues divisor 16 t ⌝ }
 {
     let mut t = [constant(0); STEP_VALUES];
@@ -174,7 +174,7 @@ fn leading(v: Polynomial) -> usize
 // z^4 times v, without the terms from z^88 on, plus x.
 fn shifted(v: Polynomial, x: u8) -> Polynomial
     requires { ⌜ (v .low < 2 ^ 48) × (x < 16) ⌝ }
-    ensures { λ r. ⌜ Holds (r .high) (r .low) (16 * number (v .high) (v .low) % 2 ^ 88 + x) ⌝ }
+    ensures { λ r. ⌜ Represents (r .high) (r .low) (16 * number (v .high) (v .low) % 2 ^ 88 + x) ⌝ }
 {
     Polynomial {
         high: (v.high << STEP) % HIGH_VALUES + (v.low >> (LOW_BITS - STEP)),
@@ -195,8 +195,8 @@ fn four_places(bytes: &[u8], i: usize) -> u8
 // The remainder of 2,040 places after division by the divisor d; places past the end of the bytes are 0. It takes four places a step, and so a
 // quarter of the steps: for the terms that come to z^88 and above, a step adds their remainder, which the table has.
 pub(crate) fn remainder(d: Polynomial, bytes: &[u8]) -> Polynomial
-    requires { ⌜ Holds (d .high) (d .low) divisor ⌝ }
-    ensures { λ r. ⌜ Holds (r .high) (r .low) (remainder 88 divisor (bitAt (now (bytes .entry))) 2040) ⌝ }
+    requires { ⌜ Represents (d .high) (d .low) divisor ⌝ }
+    ensures { λ r. ⌜ Represents (r .high) (r .low) (remainder 88 divisor (bitAt (now (bytes .entry))) 2040) ⌝ }
 {
     let t = residues(d);
     let mut v = constant(0);
@@ -251,7 +251,7 @@ fn coefficient(v: Polynomial, k: usize) -> u16
 }
 
 // The values w with those of the term c z^i added. A product by the bit c, not a branch on it: coefficients cannot be predicted.
-fn plus_term(exp: &[u16], w: OddValues, c: u16, i: usize) -> OddValues
+fn plus_term(exp: &[u16], w: OddSyndromes, c: u16, i: usize) -> OddSyndromes
     requires { ⌜ (c < 2) × (i < 88) ⌝ }
     ensures { λ r. ⌜ r .at ≡ plusTerm (now (exp .entry)) (w .at) c i ⌝ }
 {
@@ -262,15 +262,15 @@ fn plus_term(exp: &[u16], w: OddValues, c: u16, i: usize) -> OddValues
         at[j] = symbols::sum(w.at[j], c * x);
         j += 1;
     }
-    OddValues { at }
+    OddSyndromes { at }
 }
 
 // The values of v, of degree below 88: at a^e the sum of a^(e i) over its coefficients i that are 1.
-fn odd_values(exp: &[u16], v: Polynomial) -> OddValues
+fn odd_syndromes(exp: &[u16], v: Polynomial) -> OddSyndromes
     requires { ⌜ v .low < 2 ^ 48 ⌝ }
-    ensures { λ r. ⌜ r .at ≡ oddValues (now (exp .entry)) (number (v .high) (v .low)) ⌝ }
+    ensures { λ r. ⌜ r .at ≡ oddSyndromes (now (exp .entry)) (number (v .high) (v .low)) ⌝ }
 {
-    let mut w = OddValues {
+    let mut w = OddSyndromes {
         at: [0u16; Inner::RADIUS],
     };
     let mut i: usize = 0;
@@ -286,7 +286,7 @@ pub(crate) fn errors(exp: &[u16], log: &[u16], word: &[u8]) -> Errors
     requires { ⌜ (now exp ≡ powersB) × (now log ≡ exponentsB) ⌝ }
     ensures { λ r. ⌜ InnerErrors (now (word .entry)) (r .places .at) (r .values) (r .places .count) (r .left) ⌝ }
 {
-    let odd = odd_values(exp, remainder(divisor(), word));
+    let odd = odd_syndromes(exp, remainder(divisor(), word));
     wrong_places::errors_of(exp, log, odd)
 }
 

@@ -15,12 +15,12 @@ ghost use Rattle.words.specs.Bits.{bitAt};
 ghost use Rattle.words.specs.Steps.InnerDecoding.{Syndromes, isBit, isBinary, ErrorsOf, inverted, explains};
 
 // The values of a polynomial, or of a word, at a, a^3, .. a^15.
-pub struct OddValues {
+pub struct OddSyndromes {
     pub at: [u16; Inner::RADIUS],
 }
 
 // The values of a word at a, a^2, .. a^16, from those at the odd powers: at the even powers they are squares.
-fn syndromes(exp: &[u16], log: &[u16], odd: OddValues) -> [u16; decoding::SYNDROMES]
+fn syndromes(exp: &[u16], log: &[u16], odd: OddSyndromes) -> [u16; decoding::SYNDROMES]
     ensures { λ r. ⌜ Syndromes (now (exp .entry)) (now (log .entry)) (odd .at) 8 r ⌝ }
 {
     let mut t = [0u16; decoding::SYNDROMES];
@@ -59,7 +59,7 @@ fn is_binary(exp: &[u16], e: Errors) -> bool
 }
 
 // The errors in a word that has these values, which is a code word with at most eight places wrong only if they explain it.
-pub(crate) fn errors_of(exp: &[u16], log: &[u16], odd: OddValues) -> Errors
+pub(crate) fn errors_of(exp: &[u16], log: &[u16], odd: OddSyndromes) -> Errors
     requires { ⌜ (now exp ≡ powersB) × (now log ≡ exponentsB) ⌝ }
     ensures { λ r. ⌜ ErrorsOf (odd .at) (r .places .at) (r .values) (r .places .count) (r .left) ⌝ }
 {
@@ -68,7 +68,7 @@ pub(crate) fn errors_of(exp: &[u16], log: &[u16], odd: OddValues) -> Errors
 }
 
 // The errors in an inner word, from its odd syndromes, by tables of powers, which the caller lends from word to word.
-pub fn errors_by_tables(exp: &[u16], log: &[u16], tables: &mut [u16], odd: OddValues) -> Errors
+pub fn errors_by_tables(exp: &[u16], log: &[u16], tables: &mut [u16], odd: OddSyndromes) -> Errors
     requires { ⌜ (now exp ≡ powersB) × (now log ≡ exponentsB) × PowerTables (now exp) (now tables) ⌝ }
     ensures errors { λ r. ⌜ ErrorsOf (odd .at) (r .places .at) (r .values) (r .places .count) (r .left) ⌝ }
     ensures tables { λ _. ⌜ PowerTables (now (exp .entry)) (now (tables .exit)) ⌝ }

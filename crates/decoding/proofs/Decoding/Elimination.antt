@@ -19,7 +19,7 @@ use Rattle.fields.proofs.Places.Counting.{differs-most, sum-most, sum-one-more}
 use Rattle.fields.proofs.Places.Filling.{zeros-at}
 use Rattle.decoding.specs.declared.annihilator.Row.{Row}
 use Rattle.decoding.specs.Steps.Decoder.{Tables}
-use Rattle.decoding.specs.Steps.Annihilator.{Annihilates, powerRow, plusScaled, Zeros, cleared, noRow, cellsOf, reduced, FirstNonzero}
+use Rattle.decoding.specs.Steps.Annihilator.{Annihilates, powerRow, plusScaled, Zeros, cellCleared, noRow, cellsOf, reduced, FirstNonzero}
 use Rattle.decoding.proofs.Algebra.Field.{Ops, Laws, add-self, add-zero, mul-comm, mul-assoc, mul-zero}
 use Rattle.decoding.proofs.Algebra.Locators.{appliedTo, applied-same, applied-linear, applied-zero, applied-power}
 use Rattle.decoding.proofs.Algebra.Tables.{tableOps, table-laws, table-applied}
@@ -81,8 +81,8 @@ module _ (es ls t : List ℕ) where
       plus-same i l z = plus-at i l ∙ cc (z, mul-zero O K c, add-zero O K (at u i))
 
     -- the cell of the pivot is cleared
-    cleared-zero : (u v : List ℕ) (j : ℕ) → j < 17 → Linked u → Linked v → ¬ (at v j ≡ 0) → at (cleared es ls u v j) j ≡ 0
-    unfolding cleared
+    cleared-zero : (u v : List ℕ) (j : ℕ) → j < 17 → Linked u → Linked v → ¬ (at v j ≡ 0) → at (cellCleared es ls u v j) j ≡ 0
+    unfolding cellCleared
     cleared-zero u v j l hu hv n =
         let a = at u j in
         let b = at v j in
@@ -130,8 +130,8 @@ module _ (es ls t : List ℕ) where
 
       -- ---- its reduction
       module _ (pivots : List Row) (each : (j : ℕ) → j < 8 → Pivot d j (cellsOf pivots j)) where
-        cleared-reduced : (n : ℕ) (u : List ℕ) → n < 8 → Reduced pivots d n u → Reduced pivots d (suc n) (cleared es ls u (cellsOf pivots n) n)
-        unfolding cleared
+        cleared-reduced : (n : ℕ) (u : List ℕ) → n < 8 → Reduced pivots d n u → Reduced pivots d (suc n) (cellCleared es ls u (cellsOf pivots n) n)
+        unfolding cellCleared
         cleared-reduced n u l h =
             record {
               linked = plus-linked u v c (h .linked) (p .linked);
@@ -149,7 +149,7 @@ module _ (es ls t : List ℕ) where
             p : Pivot d n v
             p = each n l
 
-            go : (j : ℕ) → j < suc n → Dec (j ≡ n) → ¬ (at (cellsOf pivots j) j ≡ 0) → at (cleared es ls u v n) j ≡ 0
+            go : (j : ℕ) → j < suc n → Dec (j ≡ n) → ¬ (at (cellsOf pivots j) j ≡ 0) → at (cellCleared es ls u v n) j ≡ 0
             go j b (yes e) k = rw e (cleared-zero u v n (omega arith) (h .linked) (p .linked) (rw e at k))
             go j b (no e) k = plus-same u v c j (omega arith) (p .before j (omega arith)) ∙ h .zeros j (omega arith) k
 

@@ -19,7 +19,7 @@ use Rattle.fields.proofs.Lists.{tabulate-is}
 use Rattle.fields.proofs.Xor.{xor-zero-r}
 use Rattle.fields.proofs.Places.Filling.{zeros-at}
 use Rattle.decoding.specs.declared.annihilator.Row.{Row}
-use Rattle.decoding.specs.Steps.Annihilator.{powerRow, plusScaled, PlusPart, Zeros, cleared, noRow, cellsOf, reduced, FirstNonzero}
+use Rattle.decoding.specs.Steps.Annihilator.{powerRow, plusScaled, PlusPart, Zeros, cellCleared, noRow, cellsOf, reduced, FirstNonzero}
 
 -- the first i cells are those of the row of x^d, the others zero
 pub record PowerRow (es ls t : List ℕ) (d i : ℕ) (cells : List ℕ) : Type 0 where
@@ -96,8 +96,8 @@ product-zero es ls x = rw (and-zero-l (length ls - 1)) (go (eqb (bitAnd x (lengt
 
 -- v is added in its cells that may be other than zero
 pub cleared-is : (es ls u v p r : List ℕ) (j top i c : ℕ) → j < 8 → 8 ≤ top → Zeros v j top → i ≡ tableInverse es ls (getD v j 0) → c ≡ tableProduct es ls (getD u j 0) i →
-    PlusPart es ls u c v j 8 p → PlusPart es ls p c v top 17 r → r ≡ cleared es ls u v j
-unfolding cleared plusScaled
+    PlusPart es ls u c v j 8 p → PlusPart es ls p c v top 17 r → r ≡ cellCleared es ls u v j
+unfolding cellCleared plusScaled
 cleared-is es ls u v p r j top i c h high Z ei ec low all = rw (← ei, ← ec) (tabulate-is 17 _ r 0 (all .long) (λ k l. go k l (decLt k j) (decLt k 8) (decLt k top)))
   where
     none : (k : ℕ) → at v k ≡ 0 → at u k ≡ xor (at u k) (tableProduct es ls c (at v k))
@@ -115,8 +115,8 @@ unfolding tableProduct productAt placeIn
 zero-product es ls y = rw (and-zero-l (length ls - 1))
 
 pub cleared-same : (es ls u v : List ℕ) (j i c : ℕ) → length u ≡ 17 → i ≡ tableInverse es ls (getD v j 0) → c ≡ tableProduct es ls (getD u j 0) i → c ≡ 0 →
-    u ≡ cleared es ls u v j
-unfolding cleared plusScaled
+    u ≡ cellCleared es ls u v j
+unfolding cellCleared plusScaled
 cleared-same es ls u v j i c long ei ec z =
     rw (← ei, ← ec, z) (tabulate-is 17 _ u 0 long (λ k l. sym (ap (xor (at u k)) (zero-product es ls (at v k)) ∙ xor-zero-r (at u k))))
 
@@ -125,7 +125,7 @@ unfolding reduced
 reduced-none es ls u pivots = refl
 
 module _ (es ls u : List ℕ) (pivots : List Row) (row : List ℕ) (j : ℕ) (so-far : row ≡ reduced es ls u pivots j) where
-  pub reduced-next : (r : List ℕ) → r ≡ cleared es ls row (getD pivots j noRow .cells) j → r ≡ reduced es ls u pivots (j + 1)
+  pub reduced-next : (r : List ℕ) → r ≡ cellCleared es ls row (getD pivots j noRow .cells) j → r ≡ reduced es ls u pivots (j + 1)
   unfolding reduced cellsOf
   reduced-next r e = rw (add-one, ← so-far) e
 

@@ -48,8 +48,8 @@ pub record Zeros (v : List ℕ) (j top : ℕ) : Type 0 where
   pub above : (k : ℕ) → 8 ≤ k → k < top → at v k ≡ 0
 
 -- u with cell j made zero by the pivot v, where cell j of v is not zero; u itself, where v is zero
-unfoldable pub cleared : List ℕ → List ℕ → List ℕ → List ℕ → ℕ → List ℕ
-cleared es ls u v j = plusScaled es ls u (tableProduct es ls (at u j) (tableInverse es ls (at v j))) v
+unfoldable pub cellCleared : List ℕ → List ℕ → List ℕ → List ℕ → ℕ → List ℕ
+cellCleared es ls u v j = plusScaled es ls u (tableProduct es ls (at u j) (tableInverse es ls (at v j))) v
 
 -- the cells of row j of a list of rows
 abbrev pub noRow : Row
@@ -61,7 +61,7 @@ cellsOf rows j = getD rows j noRow .cells
 -- u with its first n cells made zero by the pivots of these cells, one after the other
 unfoldable pub reduced : List ℕ → List ℕ → List ℕ → List Row → ℕ → List ℕ
 reduced es ls u pivots zero = u
-reduced es ls u pivots (suc j) = cleared es ls (reduced es ls u pivots j) (cellsOf pivots j) j
+reduced es ls u pivots (suc j) = cellCleared es ls (reduced es ls u pivots j) (cellsOf pivots j) j
 
 -- j is the first of the cells 0 to 7 of u that is not zero; 8, if all are
 pub record FirstNonzero (u : List ℕ) (j : ℕ) : Type 0 where

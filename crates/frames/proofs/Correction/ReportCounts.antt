@@ -19,7 +19,7 @@ use Rattle.words.specs.InnerWords.{innerWord}
 use Rattle.words.proofs.Bits.Numbers.{bitOf-lt}
 use Rattle.words.proofs.Codes.ShiftedBits.{bitOf-sum}
 use Rattle.inner_words.specs.Steps.SideBySide.{placeAt}
-use Rattle.inner_words.specs.Steps.Passes.{counted}
+use Rattle.inner_words.specs.Steps.Passes.{placeCounted}
 use Rattle.inner_words.proofs.SideBySide.{place-bit}
 use Rattle.inner_words.proofs.Counts.{onesUpTo, Counting, counting-next, bit-is}
 use Rattle.frames.specs.Correction.{reportOf, total}

@@ -52,12 +52,12 @@ pub record WordResidues (residues : List ℕ) (k : ℕ) (block : List ℕ) : Typ
   pub each : (c : ℕ) → c < 88 → bitOf 64 (at residues c) k ≡ coefficient (c % 11) (wordResidue (c / 11) block 2040 k)
 
 -- the value at a^(2j+1) of inner word k, from its residue modulo factor j: the sum of a^((2j+1) i) over its coefficients i that are 1
-unfoldable pub oddValue : List ℕ → List ℕ → ℕ → ℕ → ℕ
-oddValue es residues k j = xorTo 11 (λ i. bitOf 64 (at residues (11 * j + i)) k * tablePower es ((2 * j + 1) * i))
+unfoldable pub oddSyndrome : List ℕ → List ℕ → ℕ → ℕ → ℕ
+oddSyndrome es residues k j = xorTo 11 (λ i. bitOf 64 (at residues (11 * j + i)) k * tablePower es ((2 * j + 1) * i))
 
 -- inner word k has the values of a single wrong place, whose locator is a^e: a^e, a^(3 e), .. a^(15 e)
 unfoldable pub isSingle : List ℕ → List ℕ → ℕ → ℕ → Bool
-isSingle es residues k e = every 8 (λ j. eqb (oddValue es residues k j) (tablePower es ((2 * j + 1) * e)))
+isSingle es residues k e = every 8 (λ j. eqb (oddSyndrome es residues k j) (tablePower es ((2 * j + 1) * e)))
 
 -- one place x more: the coefficients move up a power, x comes in below, and where z^11 comes up the polynomial p is taken away
 unfoldable pub advanced : ℕ → List ℕ → ℕ → List ℕ

@@ -43,5 +43,5 @@ pub record InnerPassed (before after : List ℕ) : Type 0 where
   pub bits : (i : ℕ) → i < 130560 → bitAt after i ≡ innerPass (bitAt before) i
 
 -- the counts, with one place of every inner word counted: bit k of x, the highest of 64 first, is that of inner word k
-unfoldable pub counted : List ℕ → ℕ → List ℕ
-counted counts x = tabulate 64 (λ k. at counts k + bitOf 64 x k)
+unfoldable pub placeCounted : List ℕ → ℕ → List ℕ
+placeCounted counts x = tabulate 64 (λ k. at counts k + bitOf 64 x k)

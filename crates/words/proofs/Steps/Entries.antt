@@ -19,7 +19,7 @@ use Rattle.words.specs.InnerCode.{divisor, remainder, isInner, innerRema
 use Rattle.words.specs.Answers.{refusal, within, answered, firstOf, outerChecked, outerEncoded, innerChecked, innerEncoded}
 use Rattle.words.specs.Steps.Division.{outerRemainder}
 use Rattle.words.specs.Steps.SixSymbols.{Packs, unpacked}
-use Rattle.words.specs.Steps.Limbs.{number, Holds}
+use Rattle.words.specs.Steps.Limbs.{number, Represents}
 use Rattle.words.proofs.Bits.Numbers.{numberOf-same}
 use Rattle.words.proofs.Bits.Bytes.{bits-at, bits-below, bits-length}
 use Rattle.words.proofs.Codes.Horner.{horner-same}
@@ -121,7 +121,7 @@ module _ (w : List ℕ) where
   unfolding innerChecked firstOf refusal
   inner-refused n = rw (ne-eqb (length w) 255 n)
 
-  module _ (e : length w ≡ 255) (h l : ℕ) (r : Holds h l (remainder 88 divisor (bitAt w) 2040)) (b : Bool) (test : b ≡ eqb (number h l) 0) where
+  module _ (e : length w ≡ 255) (h l : ℕ) (r : Represents h l (remainder 88 divisor (bitAt w) 2040)) (b : Bool) (test : b ≡ eqb (number h l) 0) where
     pub inner-accepted : b ≡ true → 0 ≡ innerChecked w
     unfolding innerChecked firstOf refusal
     inner-accepted t = rw (eq-eqb (length w) 255 e, inner-tested w e, ← r .value, ← test, t)
@@ -148,7 +148,7 @@ module _ (d o : List ℕ) where
     unfolding innerEncoded refusal answered
     encode-inner-space n = rw (eq-eqb (length d) 244 e, ne-eqb (length o) 11 n)
 
-    pub inner-encoded : length o ≡ 11 → (h l : ℕ) (out : List ℕ) → Holds h l (remainder 88 divisor (bitAt d) 2040) → out ≡ bytesOf 11 (bitOf 88 (number h l)) →
+    pub inner-encoded : length o ≡ 11 → (h l : ℕ) (out : List ℕ) → Represents h l (remainder 88 divisor (bitAt d) 2040) → out ≡ bytesOf 11 (bitOf 88 (number h l)) →
         _≡_ {A = ℕ × List ℕ} (0, out) (innerEncoded d o)
     unfolding innerEncoded refusal answered
     inner-encoded f h l out r s =

@@ -18,7 +18,7 @@ use Rattle.fields.proofs.Doubling.{doubled-sum, doubled-below, doubled-lt}
 use Rattle.words.specs.declared.bch.Polynomial.{Polynomial}
 use Rattle.words.specs.Bits.{bitOf, numberOf, bitAt}
 use Rattle.words.specs.InnerCode.{divisor, remainder}
-use Rattle.words.specs.Steps.Limbs.{number, Holds, residue, zeroPolynomial, Residues}
+use Rattle.words.specs.Steps.Limbs.{number, Represents, residue, zeroPolynomial, Residues}
 use Rattle.words.proofs.Bits.Bytes.{bitAt-lt, number-of-bits}
 use Rattle.words.proofs.Bits.Numbers.{bitOf-lt, numberOf-lt}
 use Rattle.words.proofs.Codes.Horner.{iter, horner-same, iter-sum, horner-parts}
@@ -86,23 +86,23 @@ module _ (k : ℕ) (small : k < 16) where
   residue-lt zero = omega arith
   residue-lt (suc i) = doubled-lt 88 divisor divisor-degree _ (residue-lt i)
 
-  pub residue-none : Holds (k * 2 ^ 36 % 2 ^ 64) 0 (residueSoFar k 0)
+  pub residue-none : Represents (k * 2 ^ 36 % 2 ^ 64) 0 (residueSoFar k 0)
   unfolding number iter
   residue-none = record { value = omega arith; split = lit< tt }
 
-  module _ (h l i : ℕ) (so-far : Holds h l (residueSoFar k i)) where
+  module _ (h l i : ℕ) (so-far : Represents h l (residueSoFar k i)) where
     pub residue-room : h < 2 ^ 60
     unfolding number
     residue-room =
         let v : h * 2 ^ 48 + l ≡ residueSoFar k i = so-far .value in
         omega (arith, residue-lt i)
 
-    pub residue-next : (dh dl a b : ℕ) → Holds dh dl divisor → Holds a b (doubled 88 (number dh dl) (number h l)) → Holds a b (residueSoFar k (i + 1))
+    pub residue-next : (dh dl a b : ℕ) → Represents dh dl divisor → Represents a b (doubled 88 (number dh dl) (number h l)) → Represents a b (residueSoFar k (i + 1))
     unfolding iter
     residue-next dh dl a b d r =
         record { value = r .value ∙ ap₂ (doubled 88) (d .value) (so-far .value) ∙ sym (ap (residueSoFar k) (add-one i)); split = r .split }
 
-    pub residue-end : i ≤ 4 → 4 ≤ i → Holds h l (residue divisor k)
+    pub residue-end : i ≤ 4 → 4 ≤ i → Represents h l (residue divisor k)
     residue-end lo hi =
         let e : i ≡ 4 = omega arith in
         rw (residue-is divisor k small, ← e) so-far
@@ -112,10 +112,10 @@ pub residues-none : (p : ℕ) (v : Polynomial) → Residues p 0 (replicate 16 v)
 residues-none p v = record { long = refl; entry = λ k h. absurd (not-suc-le-zero h) }
 
 module _ (p k : ℕ) (t : List Polynomial) (so-far : Residues p k t) where
-  pub residues-next : k < 16 → (r : Polynomial) → Holds (r .high) (r .low) (residue p k) → Residues p (k + 1) (set t k r)
+  pub residues-next : k < 16 → (r : Polynomial) → Represents (r .high) (r .low) (residue p k) → Residues p (k + 1) (set t k r)
   residues-next l r e = record { long = length-set t k r ∙ so-far .long; entry = λ i b. go i b (ℕ-discrete i k) }
     where
-      go : (i : ℕ) → i < k + 1 → Dec (i ≡ k) → Holds (getD (set t k r) i zeroPolynomial .high) (getD (set t k r) i zeroPolynomial .low) (residue p i)
+      go : (i : ℕ) → i < k + 1 → Dec (i ≡ k) → Represents (getD (set t k r) i zeroPolynomial .high) (getD (set t k r) i zeroPolynomial .low) (residue p i)
       go i b (yes q) = rw (q, getD-set-same t k r zeroPolynomial (omega (arith, so-far .long))) e
       go i b (no q) = rw (getD-set-other t k i r zeroPolynomial q) (so-far .entry i (omega arith))
 
@@ -127,15 +127,15 @@ residues-split p t table k x e = table .entry k (omega arith) .split
 
 -- the remainder of the first 4 i places
 module _ (bytes : List ℕ) (h l i : ℕ) where
-  pub remainder-none : Holds h l 0 → Holds h l (remainder 88 divisor (bitAt bytes) (4 * 0))
+  pub remainder-none : Represents h l 0 → Represents h l (remainder 88 divisor (bitAt bytes) (4 * 0))
   unfolding horner
   remainder-none z = z
 
-  module _ (so-far : Holds h l (remainder 88 divisor (bitAt bytes) (4 * i))) where
+  module _ (so-far : Represents h l (remainder 88 divisor (bitAt bytes) (4 * i))) where
     pub remainder-next : (t : List Polynomial) → Residues divisor 16 t → (k x a b c d : ℕ) → k ≡ number h l / 2 ^ 84 % 16 →
-        x ≡ numberOf 4 (λ j. bitAt bytes (4 * i + j)) → Holds a b (16 * number h l % 2 ^ 88 + x) →
-        Holds c d (xor (number (getD t k zeroPolynomial .high) (getD t k zeroPolynomial .low)) (number a b)) →
-        Holds c d (remainder 88 divisor (bitAt bytes) (4 * (i + 1)))
+        x ≡ numberOf 4 (λ j. bitAt bytes (4 * i + j)) → Represents a b (16 * number h l % 2 ^ 88 + x) →
+        Represents c d (xor (number (getD t k zeroPolynomial .high) (getD t k zeroPolynomial .low)) (number a b)) →
+        Represents c d (remainder 88 divisor (bitAt bytes) (4 * (i + 1)))
     remainder-next t table k x a b c d ek ex s r =
         let e : 4 * i + 4 ≡ 4 * (i + 1) = omega arith in
         let four = remainder-four (bitAt bytes) (bitAt-lt bytes) (4 * i) (number h l) (sym (so-far .value)) in
@@ -143,5 +143,5 @@ module _ (bytes : List ℕ) (h l i : ℕ) where
         let below = s .value ∙ ap (λ (y : ℕ). 16 * number h l % 2 ^ 88 + y) ex in
         record { value = r .value ∙ ap₂ xor above below ∙ sym (rw e at four); split = r .split }
 
-    pub remainder-end : i ≤ 510 → 510 ≤ i → Holds h l (remainder 88 divisor (bitAt bytes) 2040)
+    pub remainder-end : i ≤ 510 → 510 ≤ i → Represents h l (remainder 88 divisor (bitAt bytes) 2040)
     remainder-end lo hi = let e : i ≡ 510 = omega arith in rw e at so-far

@@ -14,7 +14,7 @@ use Rattle.fields.proofs.Doubling.{scale-lt}
 use Rattle.fields.proofs.Xor.{xor-lt}
 use Rattle.fields.proofs.Places.Tests.{every-at}
 use Rattle.words.specs.InnerCode.{valueOf, factors, productOf, divisor}
-use Rattle.words.specs.Steps.Limbs.{number, Holds}
+use Rattle.words.specs.Steps.Limbs.{number, Represents}
 
 -- a product by a polynomial of twelve coefficients, the highest first
 product-lt : (y n r : ℕ) → y < 2 ^ 88 → valueOf (λ u. 2 * u) y n r < 2 ^ (88 + n)
@@ -31,11 +31,11 @@ abbrev pub productSoFar : ℕ → ℕ → ℕ → ℕ
 productSoFar f y k = valueOf (λ u. 2 * u) y k (f / 2 ^ (12 - k))
 
 module _ (f h l a b k : ℕ) where
-  pub product-none : Holds a b 0 → Holds a b (productSoFar f (number h l) 0)
+  pub product-none : Represents a b 0 → Represents a b (productSoFar f (number h l) 0)
   unfolding valueOf
   product-none z = z
 
-  module _ (so-far : Holds a b (productSoFar f (number h l) k)) where
+  module _ (so-far : Represents a b (productSoFar f (number h l) k)) where
     pub product-room : h < 2 ^ 40 → l < 2 ^ 48 → k < 12 → a < 2 ^ 60
     unfolding number
     product-room hh hl hk =
@@ -46,8 +46,8 @@ module _ (f h l a b k : ℕ) where
         let t : a * 2 ^ 48 + b < 2 ^ 100 = omega arith in
         omega arith
 
-    pub product-next : k < 12 → (c d p q i j : ℕ) → Holds c d (2 * number a b) → Holds p q (scale (f / 2 ^ (11 - k) % 2) (number h l)) →
-        Holds i j (xor (number c d) (number p q)) → Holds i j (productSoFar f (number h l) (k + 1))
+    pub product-next : k < 12 → (c d p q i j : ℕ) → Represents c d (2 * number a b) → Represents p q (scale (f / 2 ^ (11 - k) % 2) (number h l)) →
+        Represents i j (xor (number c d) (number p q)) → Represents i j (productSoFar f (number h l) (k + 1))
     unfolding valueOf
     product-next hk c d p q i j t u r =
         let y = number h l in
@@ -60,7 +60,7 @@ module _ (f h l a b k : ℕ) where
           split = r .split;
         }
 
-    pub product-end : 12 ≤ k → k ≤ 12 → Holds a b (valueOf (λ u. 2 * u) (number h l) 12 f)
+    pub product-end : 12 ≤ k → k ≤ 12 → Represents a b (valueOf (λ u. 2 * u) (number h l) 12 f)
     product-end lo hi =
         let e : k ≡ 12 = omega arith in
         let z : f / 2 ^ 0 ≡ f = omega arith in
@@ -72,11 +72,11 @@ unfolding every productOf factors valueOf scale xor
 small = refl
 
 module _ (h l i : ℕ) where
-  pub factors-none : Holds h l 1 → Holds h l (productOf 0)
+  pub factors-none : Represents h l 1 → Represents h l (productOf 0)
   unfolding productOf
   factors-none d = d
 
-  module _ (so-far : Holds h l (productOf i)) where
+  module _ (so-far : Represents h l (productOf i)) where
     pub factors-room : i < 8 → h < 2 ^ 40
     unfolding number
     factors-room b =
@@ -84,10 +84,10 @@ module _ (h l i : ℕ) where
         let s : productOf i < 2 ^ 88 = ltb-true _ _ (every-at 8 (λ i. ltb (productOf i) (2 ^ 88)) small i b) in
         omega arith
 
-    pub factors-next : (f a b : ℕ) → f ≡ at factors i → Holds a b (valueOf (λ u. 2 * u) (number h l) 12 f) → Holds a b (productOf (i + 1))
+    pub factors-next : (f a b : ℕ) → f ≡ at factors i → Represents a b (valueOf (λ u. 2 * u) (number h l) 12 f) → Represents a b (productOf (i + 1))
     unfolding productOf
     factors-next f a b e n = record { value = n .value ∙ ap₂ (λ (y g : ℕ). valueOf (λ u. 2 * u) y 12 g) (so-far .value) e ∙ sym (ap productOf (add-one i)); split = n .split }
 
-    pub factors-end : i ≤ 8 → 8 ≤ i → Holds h l divisor
+    pub factors-end : i ≤ 8 → 8 ≤ i → Represents h l divisor
     unfolding divisor
     factors-end lo hi = let e : i ≡ 8 = omega arith in rw e at so-far

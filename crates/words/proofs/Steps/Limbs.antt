@@ -9,28 +9,28 @@ use lib.Pow.{field, mod-mod-pow, shr-shr}
 use borrow.Author.Tests.{ne-eqb}
 use Rattle.fields.specs.Elements.{xor, scale, doubled}
 use Rattle.fields.proofs.Xor.{xor-comm, xor-zero-l}
-use Rattle.words.specs.Steps.Limbs.{number, Holds}
+use Rattle.words.specs.Steps.Limbs.{number, Represents}
 use Rattle.words.specs.Bits.{bitOf, numberOf}
 use Rattle.words.proofs.Bits.Bytes.{number-of-bits}
 
-pub constant-made : (b : ℕ) → b < 256 → Holds 0 b b
+pub constant-made : (b : ℕ) → b < 256 → Represents 0 b b
 unfolding number
 constant-made b h = record { value = omega arith; split = omega arith }
 
-pub plus-made : (a b c d : ℕ) → b < 2 ^ 48 → d < 2 ^ 48 → Holds (bitXor a c) (bitXor b d) (xor (number a b) (number c d))
+pub plus-made : (a b c d : ℕ) → b < 2 ^ 48 → d < 2 ^ 48 → Represents (bitXor a c) (bitXor b d) (xor (number a b) (number c d))
 unfolding number xor
 plus-made a b c d hb hd = record { value = sym (xor-block 48 a c b d hb hd); split = xor-lt 48 b d hb hd }
 
-pub times-z-made : (h l : ℕ) → l < 2 ^ 48 → Holds (2 * h + l / 2 ^ 47) (2 * l % 281474976710656) (2 * number h l)
+pub times-z-made : (h l : ℕ) → l < 2 ^ 48 → Represents (2 * h + l / 2 ^ 47) (2 * l % 281474976710656) (2 * number h l)
 unfolding number
 times-z-made h l b = record { value = omega arith; split = omega arith }
 
 -- times a bit
-pub scaled-none : (b h l x : ℕ) → b ≡ 0 → Holds h l 0 → Holds h l (scale b x)
+pub scaled-none : (b h l x : ℕ) → b ≡ 0 → Represents h l 0 → Represents h l (scale b x)
 unfolding scale
 scaled-none b h l x e z = rw e z
 
-pub scaled-one : (b h l : ℕ) → (b ≡ 0 → ⊥) → l < 2 ^ 48 → Holds h l (scale b (number h l))
+pub scaled-one : (b h l : ℕ) → (b ≡ 0 → ⊥) → l < 2 ^ 48 → Represents h l (scale b (number h l))
 unfolding scale
 scaled-one zero h l n s = absurd (n refl)
 scaled-one (suc b) h l n s = record { value = refl; split = s }
@@ -42,16 +42,16 @@ top h l k s =
     let e : (h * 2 ^ 48 + l) / 2 ^ 48 ≡ h = omega arith in
     sym (shr-shr (h * 2 ^ 48 + l) 48 k) ∙ ap (λ (x : ℕ). x / 2 ^ k) e
 
-module _ (h l x : ℕ) (twice : Holds h l (2 * x)) (d : ℕ) where
+module _ (h l x : ℕ) (twice : Represents h l (2 * x)) (d : ℕ) where
   top-bit : 2 * x / 2 ^ 88 % 2 ≡ h / 2 ^ 40 % 2
   top-bit = ap (λ (y : ℕ). y / 2 ^ 88 % 2) (sym (twice .value)) ∙ ap (λ (y : ℕ). y % 2) (top h l 40 (twice .split))
 
-  pub doubled-below : h / 2 ^ 40 % 2 ≡ 0 → Holds h l (doubled 88 d x)
+  pub doubled-below : h / 2 ^ 40 % 2 ≡ 0 → Represents h l (doubled 88 d x)
   unfolding doubled scale
   doubled-below e =
       record { value = twice .value ∙ sym (ap (λ (t : ℕ). xor (scale t d) (2 * x)) (top-bit ∙ e) ∙ xor-zero-l (2 * x)); split = twice .split }
 
-  pub doubled-above : (h / 2 ^ 40 % 2 ≡ 0 → ⊥) → (a b : ℕ) → Holds a b (xor (number h l) d) → Holds a b (doubled 88 d x)
+  pub doubled-above : (h / 2 ^ 40 % 2 ≡ 0 → ⊥) → (a b : ℕ) → Represents a b (xor (number h l) d) → Represents a b (doubled 88 d x)
   unfolding doubled scale
   doubled-above n a b s =
       let e : h / 2 ^ 40 % 2 ≡ 1 = omega arith in
@@ -66,7 +66,7 @@ module _ (h l : ℕ) (s : l < 2 ^ 48) where
   leading-made = ap (λ (x : ℕ). x % 16) (sym (top h l 36 s))
 
   pub shifted-made : (x : ℕ) → x < 16 →
-      Holds (h * 2 ^ 4 % 2 ^ 64 % 2 ^ 40 + l / 2 ^ 44) (l * 2 ^ 4 % 2 ^ 64 % 2 ^ 48 + x) (16 * number h l % 2 ^ 88 + x)
+      Represents (h * 2 ^ 4 % 2 ^ 64 % 2 ^ 40 + l / 2 ^ 44) (l * 2 ^ 4 % 2 ^ 64 % 2 ^ 48 + x) (16 * number h l % 2 ^ 88 + x)
   unfolding number
   shifted-made x b = record { value = omega arith; split = omega arith }
 

@@ -11,7 +11,7 @@ unfoldable pub number : ℕ → ℕ → ℕ
 number high low = high * 2 ^ 48 + low
 
 -- the two numbers are those of the polynomial x
-pub record Holds (high low x : ℕ) : Type 0 where
+pub record Represents (high low x : ℕ) : Type 0 where
   pub value : number high low ≡ x
   pub split : low < 2 ^ 48
 
@@ -26,4 +26,4 @@ zeroPolynomial = record { high = 0; low = 0 }
 -- the first n of the table's sixteen entries: entry k is the remainder of k z^88
 pub record Residues (p n : ℕ) (t : List Polynomial) : Type 0 where
   pub long : length t ≡ 16
-  pub entry : (k : ℕ) → k < n → Holds (getD t k zeroPolynomial .high) (getD t k zeroPolynomial .low) (residue p k)
+  pub entry : (k : ℕ) → k < n → Represents (getD t k zeroPolynomial .high) (getD t k zeroPolynomial .low) (residue p k)

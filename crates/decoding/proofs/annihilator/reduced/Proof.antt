@@ -16,14 +16,14 @@ abbrev μ-loop : tie.MeasureT-loop
 loop-holds : tie.Need-loop-holds Inv-loop μ-loop
 loop-holds c = search (needs, reduced-none)
 
-mul-cleared : tie.Need-mul-cleared Inv-loop μ-loop
-mul-cleared c = search needs
+mul-cell-cleared : tie.Need-mul-cell-cleared Inv-loop μ-loop
+mul-cell-cleared c = search needs
 
-array-copy-out-cleared : tie.Need-array-copy-out-cleared Inv-loop μ-loop
-array-copy-out-cleared c = search needs
+array-copy-out-cell-cleared : tie.Need-array-copy-out-cell-cleared Inv-loop μ-loop
+array-copy-out-cell-cleared c = search needs
 
-cleared-requires : tie.Need-cleared-requires Inv-loop μ-loop
-cleared-requires c κs = search (needs, reduced-zeros)
+cell-cleared-requires : tie.Need-cell-cleared-requires Inv-loop μ-loop
+cell-cleared-requires c κs = search (needs, reduced-zeros)
 
 add-j : tie.Need-add-j Inv-loop μ-loop
 add-j c = search needs
@@ -44,9 +44,9 @@ reduced-spec =
     Inv-loop
     μ-loop
     loop-holds
-    mul-cleared
-    array-copy-out-cleared
-    cleared-requires
+    mul-cell-cleared
+    array-copy-out-cell-cleared
+    cell-cleared-requires
     add-j
     loop-less
     loop-again

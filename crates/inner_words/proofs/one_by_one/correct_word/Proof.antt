@@ -4,8 +4,8 @@ use Rattle.inner_words.proofs.WordErrors.{not-explained, word-explained
 use Rattle.inner_words.proofs.one_by_one.correct_word.Statement.{statement}
 use Rattle.inner_words.proofs.one_by_one.correct_word.Tie as tie
 
-odd-values-requires : tie.Need-odd-values-requires
-odd-values-requires c κs = search needs
+odd-syndromes-requires : tie.Need-odd-syndromes-requires
+odd-syndromes-requires c κs = search needs
 
 errors-by-tables-requires : tie.Need-errors-by-tables-requires
 errors-by-tables-requires c κs = search needs
@@ -35,7 +35,7 @@ pub correct-word-spec : {M : Type 1} → statement M
 correct-word-spec =
     tie.close
     (tie.spec
-    odd-values-requires
+    odd-syndromes-requires
     errors-by-tables-requires
     explains-requires
     same-length

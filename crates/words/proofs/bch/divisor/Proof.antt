@@ -1,14 +1,14 @@
 -- `words::bch::divisor` meets its contract. Assumes nothing.
 use Prim.Native.Nat.{_-_, _≤_}
 use borrow.Author.Needs.{needs}
-use Rattle.words.specs.Steps.Limbs.{Holds}
+use Rattle.words.specs.Steps.Limbs.{Represents}
 use Rattle.words.specs.InnerCode.{productOf}
 use Rattle.words.proofs.Steps.LimbProducts.{factors-none, factors-room, factors-next, factors-end}
 use Rattle.words.proofs.bch.divisor.Statement.{statement}
 use Rattle.words.proofs.bch.divisor.Tie as tie
 
 abbrev Inv-loop : tie.InvT-loop
-Inv-loop d₀ i₀ d i = (i ≤ 8) × Holds (d .high) (d .low) (productOf i)
+Inv-loop d₀ i₀ d i = (i ≤ 8) × Represents (d .high) (d .low) (productOf i)
 
 abbrev μ-loop : tie.MeasureT-loop
 μ-loop d₀ i₀ d i = 8 - i

@@ -1,7 +1,7 @@
 -- `words::bch::remainder` meets its contract. Assumes nothing.
 use Prim.Native.Nat.{_-_, _*_, _≤_}
 use borrow.Author.Needs.{needs}
-use Rattle.words.specs.Steps.Limbs.{Holds}
+use Rattle.words.specs.Steps.Limbs.{Represents}
 use Rattle.words.specs.Bits.{bitAt}
 use Rattle.words.specs.InnerCode.{divisor, remainder}
 use Rattle.words.proofs.Steps.FourPlaces.{residues-split, remainder-none, remainder-next, remainder-end}
@@ -9,7 +9,7 @@ use Rattle.words.proofs.bch.remainder.Statement.{statement}
 use Rattle.words.proofs.bch.remainder.Tie as tie
 
 abbrev Inv-loop : tie.InvT-loop
-Inv-loop bytes t v₀ i₀ v i = (i ≤ 510) × Holds (v .high) (v .low) (remainder 88 divisor (bitAt bytes) (4 * i))
+Inv-loop bytes t v₀ i₀ v i = (i ≤ 510) × Represents (v .high) (v .low) (remainder 88 divisor (bitAt bytes) (4 * i))
 
 abbrev μ-loop : tie.MeasureT-loop
 μ-loop bytes t v₀ i₀ v i = 510 - i

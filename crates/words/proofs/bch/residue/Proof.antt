@@ -1,13 +1,13 @@
 -- `words::bch::residue` meets its contract. Assumes nothing.
 use Prim.Native.Nat.{_-_, _≤_}
 use borrow.Author.Needs.{needs}
-use Rattle.words.specs.Steps.Limbs.{Holds}
+use Rattle.words.specs.Steps.Limbs.{Represents}
 use Rattle.words.proofs.Steps.FourPlaces.{residueSoFar, residue-none, residue-room, residue-next, residue-end}
 use Rattle.words.proofs.bch.residue.Statement.{statement}
 use Rattle.words.proofs.bch.residue.Tie as tie
 
 abbrev Inv-loop : tie.InvT-loop
-Inv-loop d k v₀ i₀ v i = (i ≤ 4) × Holds (v .high) (v .low) (residueSoFar k i)
+Inv-loop d k v₀ i₀ v i = (i ≤ 4) × Represents (v .high) (v .low) (residueSoFar k i)
 
 abbrev μ-loop : tie.MeasureT-loop
 μ-loop d k v₀ i₀ v i = 4 - i

@@ -1,13 +1,13 @@
 -- `words::bch::times` meets its contract. Assumes nothing.
 use Prim.Native.Nat.{_-_, _≤_}
 use borrow.Author.Needs.{needs}
-use Rattle.words.specs.Steps.Limbs.{number, Holds}
+use Rattle.words.specs.Steps.Limbs.{number, Represents}
 use Rattle.words.proofs.Steps.LimbProducts.{productSoFar, product-none, product-room, product-next, product-end}
 use Rattle.words.proofs.bch.times.Statement.{statement}
 use Rattle.words.proofs.bch.times.Tie as tie
 
 abbrev Inv-loop : tie.InvT-loop
-Inv-loop f v u₀ k₀ u k = (k ≤ 12) × Holds (u .high) (u .low) (productSoFar f (number (v .high) (v .low)) k)
+Inv-loop f v u₀ k₀ u k = (k ≤ 12) × Represents (u .high) (u .low) (productSoFar f (number (v .high) (v .low)) k)
 
 abbrev μ-loop : tie.MeasureT-loop
 μ-loop f v u₀ k₀ u k = 12 - k

@@ -5,7 +5,7 @@ use lib.ListN.{getD}
 use borrow.Author.Needs.{needs}
 use Rattle.fields.specs.Elements.{xor}
 use Rattle.fields.proofs.Places.Filling.{FilledOver, over-start}
-use Rattle.words.proofs.Steps.Digits.{DigitMultiples, table-of}
+use Rattle.words.proofs.Steps.Digits.{DigitMultiples, digits-add}
 use Rattle.words.proofs.Steps.Shifting.{nextCell, shifting-next, shifting-end}
 use Rattle.words.proofs.division.Register.next.Statement.{statement}
 use Rattle.words.proofs.division.Register.next.Tie as tie
@@ -35,7 +35,7 @@ mul-h : tie.Need-mul-h Inv-loop μ-loop
 mul-h c = search needs
 
 loop-holds : tie.Need-loop-holds Inv-loop μ-loop
-loop-holds c = search (needs, table-of, over-start)
+loop-holds c = search (needs, digits-add, over-start)
 
 add-sum : tie.Need-add-sum Inv-loop μ-loop
 add-sum c = search needs

@@ -1,11 +1,11 @@
--- `words::bch::odd_values` meets its contract. Assumes nothing.
+-- `words::bch::odd_syndromes` meets its contract. Assumes nothing.
 use mathlib.Core.Path.{_≡_}
 use Prim.Native.Nat.{_-_, _≤_}
 use borrow.Author.Needs.{needs}
 use Rattle.words.specs.Steps.Limbs.{number}
 use Rattle.words.proofs.Steps.Inner.{oddUpTo, odd-none, odd-next, odd-end}
-use Rattle.words.proofs.bch.odd_values.Statement.{statement}
-use Rattle.words.proofs.bch.odd_values.Tie as tie
+use Rattle.words.proofs.bch.odd_syndromes.Statement.{statement}
+use Rattle.words.proofs.bch.odd_syndromes.Tie as tie
 
 abbrev Inv-loop : tie.InvT-loop
 Inv-loop exp v w₀ i₀ w i = (i ≤ 88) × (w .at ≡ oddUpTo exp (number (v .high) (v .low)) i)
@@ -40,8 +40,8 @@ loop-again c = search (needs, odd-next)
 returns : tie.Need-returns Inv-loop μ-loop
 returns c = search (needs, odd-end)
 
-pub odd-values-spec : {M : Type 1} → statement M
-odd-values-spec =
+pub odd-syndromes-spec : {M : Type 1} → statement M
+odd-syndromes-spec =
     tie.close
     (tie.spec
     Inv-loop

@@ -1,8 +1,8 @@
--- `inner_words::odd_values::term` meets its contract. Assumes nothing.
+-- `inner_words::odd_syndromes::term` meets its contract. Assumes nothing.
 use borrow.Author.Needs.{needs}
 use Rattle.inner_words.proofs.WordErrors.{bit-fits, term-fits, term-is}
-use Rattle.inner_words.proofs.odd_values.term.Statement.{statement}
-use Rattle.inner_words.proofs.odd_values.term.Tie as tie
+use Rattle.inner_words.proofs.odd_syndromes.term.Statement.{statement}
+use Rattle.inner_words.proofs.odd_syndromes.term.Tie as tie
 
 sub-c : tie.Need-sub-c
 sub-c c = search needs

@@ -1,9 +1,9 @@
--- `inner_words::odd_values::odd_value` meets its contract. Assumes nothing.
+-- `inner_words::odd_syndromes::odd_syndrome` meets its contract. Assumes nothing.
 use borrow.Author.Needs.{needs}
 use Rattle.inner_words.proofs.WordErrors.{Adding, adding-start, adding-next, adding-end, exponent-fits, exponent-small}
 use Prim.Native.Nat.{_-_}
-use Rattle.inner_words.proofs.odd_values.odd_value.Statement.{statement}
-use Rattle.inner_words.proofs.odd_values.odd_value.Tie as tie
+use Rattle.inner_words.proofs.odd_syndromes.odd_syndrome.Statement.{statement}
+use Rattle.inner_words.proofs.odd_syndromes.odd_syndrome.Tie as tie
 
 abbrev Inv-loop : tie.InvT-loop
 Inv-loop exp residues k j v₀ i₀ v i = Adding exp residues k j i v
@@ -53,8 +53,8 @@ loop-again c = search (needs, adding-next)
 returns : tie.Need-returns Inv-loop μ-loop
 returns c = search (needs, adding-end)
 
-pub odd-value-spec : {M : Type 1} → statement M
-odd-value-spec =
+pub odd-syndrome-spec : {M : Type 1} → statement M
+odd-syndrome-spec =
     tie.close
     (tie.spec
     Inv-loop

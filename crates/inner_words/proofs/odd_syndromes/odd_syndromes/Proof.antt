@@ -1,13 +1,13 @@
--- `inner_words::odd_values::odd_values` meets its contract. Assumes nothing.
+-- `inner_words::odd_syndromes::odd_syndromes` meets its contract. Assumes nothing.
 use borrow.Author.Needs.{needs}
 use Rattle.fields.proofs.Places.Filling.{Filled, filled-start, filled-next, filled-end}
-use Rattle.inner_words.specs.Steps.InnerResidues.{oddValue}
+use Rattle.inner_words.specs.Steps.InnerResidues.{oddSyndrome}
 use Prim.Native.Nat.{_-_}
-use Rattle.inner_words.proofs.odd_values.odd_values.Statement.{statement}
-use Rattle.inner_words.proofs.odd_values.odd_values.Tie as tie
+use Rattle.inner_words.proofs.odd_syndromes.odd_syndromes.Statement.{statement}
+use Rattle.inner_words.proofs.odd_syndromes.odd_syndromes.Tie as tie
 
 abbrev Inv-loop : tie.InvT-loop
-Inv-loop exp residues k at₀ j₀ at j = Filled 8 (oddValue exp residues k) j at
+Inv-loop exp residues k at₀ j₀ at j = Filled 8 (oddSyndrome exp residues k) j at
 
 abbrev μ-loop : tie.MeasureT-loop
 μ-loop exp residues k at₀ j₀ at j = 8 - j
@@ -15,8 +15,8 @@ abbrev μ-loop : tie.MeasureT-loop
 loop-holds : tie.Need-loop-holds Inv-loop μ-loop
 loop-holds c = search (needs, filled-start)
 
-odd-value-requires : tie.Need-odd-value-requires Inv-loop μ-loop
-odd-value-requires c κs = search needs
+odd-syndrome-requires : tie.Need-odd-syndrome-requires Inv-loop μ-loop
+odd-syndrome-requires c κs = search needs
 
 mul-at : tie.Need-mul-at Inv-loop μ-loop
 mul-at c = search needs
@@ -36,14 +36,14 @@ loop-again c = search (needs, filled-next)
 returns : tie.Need-returns Inv-loop μ-loop
 returns c = search (needs, filled-end)
 
-pub odd-values-spec : {M : Type 1} → statement M
-odd-values-spec =
+pub odd-syndromes-spec : {M : Type 1} → statement M
+odd-syndromes-spec =
     tie.close
     (tie.spec
     Inv-loop
     μ-loop
     loop-holds
-    odd-value-requires
+    odd-syndrome-requires
     mul-at
     array-write-at
     add-j

@@ -1,8 +1,8 @@
--- `decoding::annihilator::cleared` meets its contract. Assumes nothing.
+-- `decoding::annihilator::cell_cleared` meets its contract. Assumes nothing.
 use borrow.Author.Needs.{needs}
 use Rattle.decoding.proofs.Steps.Elimination.{cleared-is, cleared-same}
-use Rattle.decoding.proofs.annihilator.cleared.Statement.{statement}
-use Rattle.decoding.proofs.annihilator.cleared.Tie as tie
+use Rattle.decoding.proofs.annihilator.cell_cleared.Statement.{statement}
+use Rattle.decoding.proofs.annihilator.cell_cleared.Tie as tie
 
 mul-product : tie.Need-mul-product
 mul-product c = search needs
@@ -34,8 +34,8 @@ plus-scaled-requires-2 c κs = search needs
 returns-2 : tie.Need-returns-2
 returns-2 c = search (needs, cleared-is)
 
-pub cleared-spec : {M : Type 1} → statement M
-cleared-spec =
+pub cell-cleared-spec : {M : Type 1} → statement M
+cell-cleared-spec =
     tie.close
     (tie.spec
     mul-product

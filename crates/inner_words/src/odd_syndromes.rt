@@ -1,13 +1,13 @@
 // The values of an inner word at a, a^3, .. a^15, from its residues.
 use crate::Interleaved;
-use words::wrong_places::OddValues;
+use words::wrong_places::OddSyndromes;
 ghost use mathlib.Core.Path.{_≡_};
 ghost use Prim.Native.Nat.{_*_, _<_};
 ghost use lib.ListN.{length};
 ghost use Rattle.fields.specs.Lists.{tabulate};
 ghost use Rattle.fields.specs.Steps.ByTables.{tablePower};
 ghost use Rattle.words.specs.Bits.{bitOf};
-ghost use Rattle.inner_words.specs.Steps.InnerResidues.{oddValue};
+ghost use Rattle.inner_words.specs.Steps.InnerResidues.{oddSyndrome};
 
 // a^n, if bit k of x, the highest first, is 1; else 0.
 fn term(exp: &[u16], x: u64, k: usize, n: u16) -> u16
@@ -19,9 +19,9 @@ fn term(exp: &[u16], x: u64, k: usize, n: u16) -> u16
 }
 
 // The value of inner word k at a^(2 j + 1), from its residue modulo factor j: the sum of the terms.
-pub(crate) fn odd_value(exp: &[u16], residues: &[u64], k: usize, j: usize) -> u16
+pub(crate) fn odd_syndrome(exp: &[u16], residues: &[u64], k: usize, j: usize) -> u16
     requires { ⌜ (length (now residues) ≡ 88) × (k < 64) × (j < 8) ⌝ }
-    ensures { λ r. ⌜ r ≡ oddValue (now (exp .entry)) (now (residues .entry)) k j ⌝ }
+    ensures { λ r. ⌜ r ≡ oddSyndrome (now (exp .entry)) (now (residues .entry)) k j ⌝ }
 {
     let mut v: u16 = 0;
     let mut i: usize = 0;
@@ -39,15 +39,15 @@ pub(crate) fn odd_value(exp: &[u16], residues: &[u64], k: usize, j: usize) -> u1
 }
 
 // Its values at a, a^3, .. a^15.
-pub(crate) fn odd_values(exp: &[u16], residues: &[u64], k: usize) -> OddValues
+pub(crate) fn odd_syndromes(exp: &[u16], residues: &[u64], k: usize) -> OddSyndromes
     requires { ⌜ (length (now residues) ≡ 88) × (k < 64) ⌝ }
-    ensures { λ r. ⌜ r .at ≡ tabulate 8 (oddValue (now (exp .entry)) (now (residues .entry)) k) ⌝ }
+    ensures { λ r. ⌜ r .at ≡ tabulate 8 (oddSyndrome (now (exp .entry)) (now (residues .entry)) k) ⌝ }
 {
     let mut at = [0u16; lanes::FACTORS];
     let mut j: usize = 0;
     while j < lanes::FACTORS {
-        at[j] = odd_value(exp, residues, k, j);
+        at[j] = odd_syndrome(exp, residues, k, j);
         j += 1;
     }
-    OddValues { at }
+    OddSyndromes { at }
 }

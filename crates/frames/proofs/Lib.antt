@@ -19,4 +19,6 @@ pub mod DemandThree
 pub mod ZeroFrame
 pub mod Bench
 pub mod Proved
+pub mod DemandOne
+pub mod DemandTwo
 pub mod Demands

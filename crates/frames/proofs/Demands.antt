@@ -1,11 +1,13 @@
 -- What the buyer asked for, proved: the record of specs/Demands.antt. Assumes nothing.
 use Rattle.fields.proofs.Instances.{field-a, field-b}
 use Rattle.words.proofs.Codes.Proved.{codes}
-use Rattle.frames.specs.Demands.{TwoPasses, Demand3, Demands}
-use Rattle.frames.proofs.Frames.FarApart.{far}
-use Rattle.frames.proofs.Correction.RestoredWords.{inner-near, inner-lost, one-or-other, passed, corrected, uncorrectable, uncorrectable-only, corrected-frame}
-use Rattle.frames.proofs.DemandThree.{first-half}
+use Rattle.frames.specs.Demands.{TwoPasses, Demand2, Demand3, Demands}
+use Rattle.frames.proofs.FarApart.{far}
+use Rattle.frames.proofs.RestoredWords.{inner-near, inner-lost, one-or-other, passed, corrected, uncorrectable, uncorrectable-only, corrected-frame}
 use Rattle.frames.proofs.Proved.{frame-laws}
+use Rattle.frames.proofs.DemandOne.{demand-1}
+use Rattle.frames.proofs.DemandTwo.{encoded, checked, checked-only, extracted, extracted-only}
+use Rattle.frames.proofs.DemandThree.{first-half}
 
 pub two-passes : TwoPasses
 two-passes =
@@ -19,6 +21,17 @@ two-passes =
       corrected-frame = corrected-frame;
     }
 
+pub demand-2 : Demand2
+demand-2 =
+    record {
+      encoded = λ payload buffer valid. encoded payload valid buffer;
+      checked = checked;
+      checked-only = checked-only;
+      extracted = λ payload buffer valid. extracted payload valid buffer;
+      extracted-only = extracted-only;
+      passes = two-passes;
+    }
+
 pub demand-3 : Demand3
 demand-3 =
     record {
@@ -27,4 +40,4 @@ demand-3 =
     }
 
 pub demands : Demands
-demands = record { field-a = field-a; field-b = field-b; codes = codes; frames = frame-laws; passes = two-passes; third = demand-3 }
+demands = record { field-a = field-a; field-b = field-b; codes = codes; frames = frame-laws; first = demand-1; second = demand-2; third = demand-3 }

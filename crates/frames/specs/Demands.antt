@@ -2,22 +2,98 @@
 use mathlib.Core.Path.{_≡_}
 use mathlib.Core.Logic.{_⊎_}
 use mathlib.Core.Bool.{Bool, true, false, cond}
-use mathlib.Core.List.{List, []}
+use mathlib.Core.List.{List, [], _∷_}
+use mathlib.Core.Option.{Option, none, some}
 use Prim.Native.Nat.{ℕ, _+_, _*_, _%_, _≤_, _<_, min}
+use lib.Dec.{eqb}
 use lib.ListN.{length, getD}
 use Rattle.fields.specs.Lists.{tabulate}
 use Rattle.fields.specs.Field.{Field}
-use Rattle.fields.specs.Places.{sumTo, differs, apart}
-use Rattle.words.specs.Bits.{bitAt}
+use Rattle.fields.specs.Places.{allBelow, sumTo, differs, apart}
+use Rattle.words.specs.declared.Correction.{Correction}
+use Rattle.words.specs.declared.Correction.the-variants.{Corrected, Refused}
+use Rattle.words.specs.Bits.{bitAt, bitsOf}
+use Rattle.words.specs.OuterCode.{isOuter}
 use Rattle.words.specs.InnerCode.{isInner}
-use Rattle.words.specs.Codes.{Codes}
+use Rattle.words.specs.Nearest.{nearest}
 use Rattle.words.specs.InnerWords.{innerWord, innerPass}
+use Rattle.words.specs.Answers.{unless, within, refusalOf, changedOf, outerChecked, outerEncoded, outerCorrected, innerChecked, innerEncoded, innerCorrected}
+use Rattle.words.specs.Codes.{Codes}
 use Rattle.frames.specs.Frames.{isPayload, isBlock, dataIn, frameOfWords, frameOf, wrongBits}
-use Rattle.frames.specs.Correction.{receivedBit, receivedWord, isPermitted, reportOf, total}
-use Rattle.frames.specs.Answers.{isFrame, refused, frameCorrected}
+use Rattle.frames.specs.Correction.{receivedBit, receivedWord, isPermitted, restoredFrame, reportOf, total}
+use Rattle.frames.specs.Answers.{isFrame, frameEncoded, frameChecked, payloadExtracted, refused, frameCorrected, withoutReport}
 use Rattle.frames.specs.FrameLaws.{FrameLaws}
 
--- ---- demand 2: the corrector follows the two-pass rule
+-- ---- demand 1: whatever breaks the rules of document 01 is refused by its number, and every lent byte keeps its value
+
+-- an entry's rules in their order, each the number of its refusal and whether it holds: the number of the first that is broken; 0, if all hold
+unfoldable pub firstBroken : List (ℕ × Bool) → ℕ
+firstBroken [] = 0
+firstBroken (rule ∷ rules) = unless (rule .1) (rule .0) (firstBroken rules)
+
+-- what an entry answers that has an output buffer: a number, and what is in the buffer then
+pub record Refuses (answer : ℕ × List ℕ) (buffer : List ℕ) (rules : List (ℕ × Bool)) : Type 0 where
+  -- the number is that of the first rule that is broken
+  pub number : answer .0 ≡ firstBroken rules
+  -- a number that is not 0 leaves the buffer as it was
+  pub kept : (answer .0 ≡ 0 → ⊥) → answer .1 ≡ buffer
+  -- what is written has the size of the buffer
+  pub fits : length (answer .1) ≡ length buffer
+
+-- rule 5: there is a restored frame, or a code word within eight
+abbrev pub isSome : {A : Type 0} → Option A → Bool
+isSome none = false
+isSome (some a) = true
+
+-- number and buffer of the answer to a single word's correction
+abbrev pub withoutCount : Correction × List ℕ → ℕ × List ℕ
+withoutCount a = (refusalOf (a .0), a .1)
+
+-- each entry's answer, as its contract gives it (words/src/lib.rt, frames/src/lib.rt, frames/src/c_entries.rt), and its rules
+pub record Demand1 : Type 0 where
+  -- encoder: 1, length of the payload; 3, size of the buffer
+  pub encode : (payload buffer : List ℕ) →
+      Refuses (frameEncoded payload buffer) buffer ((1, eqb (length payload) 15296) ∷ (3, eqb (length buffer) 16320) ∷ [])
+  -- check: 2, length of the block; 4, no frame
+  pub check : (block : List ℕ) → frameChecked block ≡ firstBroken ((2, eqb (length block) 16320) ∷ (4, isFrame block) ∷ [])
+  -- extractor: 2, length of the block; 3, size of the buffer; 4, no frame
+  pub extract : (block buffer : List ℕ) →
+      Refuses (payloadExtracted block buffer) buffer ((2, eqb (length block) 16320) ∷ (3, eqb (length buffer) 15296) ∷ (4, isFrame block) ∷ [])
+  -- corrector: 2, length of the block; 3, size of the buffer; 5, uncorrectable
+  pub correct : (block buffer : List ℕ) →
+      Refuses (withoutReport (frameCorrected block buffer)) buffer
+      ((2, eqb (length block) 16320) ∷ (3, eqb (length buffer) 16320) ∷ (5, isSome (restoredFrame block)) ∷ [])
+  -- its refusals carry nothing else: counts and sum are 0
+  pub correct-alone : (block buffer : List ℕ) → (frameCorrected block buffer .0 ≡ 0 → ⊥) →
+      frameCorrected block buffer ≡ refused (frameCorrected block buffer .0) buffer
+  -- its entry for the C host gives its number and its buffer
+  pub correct-c : (block buffer : List ℕ) → withoutReport (frameCorrected block buffer) ≡ (frameCorrected block buffer .0, frameCorrected block buffer .3)
+  -- check of an outer word: 6, its length; 7, a symbol above 1,023; 4, no code word
+  pub check-outer : (word : List ℕ) →
+      outerChecked word ≡ firstBroken ((6, within 17 1023 (length word)) ∷ (7, allBelow 1024 word) ∷ (4, isOuter word) ∷ [])
+  -- parity of outer data: 6, its length; 3, size of the buffer; 7, a symbol above 1,023
+  pub encode-outer : (d buffer : List ℕ) →
+      Refuses (outerEncoded d buffer) buffer ((6, within 1 1007 (length d)) ∷ (3, eqb (length buffer) 16) ∷ (7, allBelow 1024 d) ∷ [])
+  -- correction of an outer word: 6, its length; 3, size of the buffer; 7, a symbol above 1,023; 5, no code word within eight symbols
+  pub correct-outer : (word buffer : List ℕ) →
+      Refuses (withoutCount (outerCorrected word buffer)) buffer
+      ((6, within 17 1023 (length word)) ∷ (3, eqb (length buffer) (length word)) ∷ (7, allBelow 1024 word) ∷ (5, isSome (nearest isOuter 1024 8 word)) ∷ [])
+  -- the answer is a count with the number 0, else a number alone
+  pub outer-alone : (word buffer : List ℕ) → let a = outerCorrected word buffer .0 in
+      a ≡ cond (eqb (refusalOf a) 0) (Corrected (changedOf a)) (Refused (refusalOf a))
+  -- check of an inner word: 6, its length; 4, no code word
+  pub check-inner : (word : List ℕ) → innerChecked word ≡ firstBroken ((6, eqb (length word) 255) ∷ (4, isInner (bitsOf word)) ∷ [])
+  -- parity of inner data: 6, its length; 3, size of the buffer
+  pub encode-inner : (d buffer : List ℕ) → Refuses (innerEncoded d buffer) buffer ((6, eqb (length d) 244) ∷ (3, eqb (length buffer) 11) ∷ [])
+  -- correction of an inner word: 6, its length; 3, size of the buffer; 5, no code word within eight places
+  pub correct-inner : (word buffer : List ℕ) →
+      Refuses (withoutCount (innerCorrected word buffer)) buffer
+      ((6, eqb (length word) 255) ∷ (3, eqb (length buffer) 255) ∷ (5, isSome (nearest isInner 2 8 (bitsOf word))) ∷ [])
+  -- the answer is a count with the number 0, else a number alone
+  pub inner-alone : (word buffer : List ℕ) → let a = innerCorrected word buffer .0 in
+      a ≡ cond (eqb (refusalOf a) 0) (Corrected (changedOf a)) (Refused (refusalOf a))
+
+-- ---- demand 2: what encoder and extractor give, and the two-pass rule of the corrector
 
 -- outer word w of the bits b has no permitted code word within eight symbols
 abbrev pub Uncorrectable : (ℕ → ℕ) → ℕ → Type 0
@@ -48,6 +124,20 @@ pub record TwoPasses : Type 0 where
   -- a restored frame is a frame that the encoder writes
   pub corrected-frame : (block buffer counts frame : List ℕ) (sum : ℕ) → frameCorrected block buffer ≡ (0, counts, sum, frame) →
       (isBlock frame ≡ true) × (isFrame frame ≡ true)
+
+pub record Demand2 : Type 0 where
+  -- the encoder writes exactly the frame of the payload
+  pub encoded : (payload buffer : List ℕ) → isPayload payload ≡ true → length buffer ≡ 16320 → frameEncoded payload buffer ≡ (0, frameOf payload)
+  -- the check answers 0 for the frame of every payload
+  pub checked : (payload : List ℕ) → isPayload payload ≡ true → frameChecked (frameOf payload) ≡ 0
+  -- and for nothing else
+  pub checked-only : (block : List ℕ) → frameChecked block ≡ 0 → (payload : List ℕ) × (isPayload payload ≡ true) × (frameOf payload ≡ block)
+  -- the extractor returns the payload of every frame
+  pub extracted : (payload buffer : List ℕ) → isPayload payload ≡ true → length buffer ≡ 15296 → payloadExtracted (frameOf payload) buffer ≡ (0, payload)
+  -- and refuses all else: where it answers 0 it has written a payload, and the block is its frame
+  pub extracted-only : (block buffer payload : List ℕ) → payloadExtracted block buffer ≡ (0, payload) → (isPayload payload ≡ true) × (frameOf payload ≡ block)
+  -- the corrector follows the two-pass rule
+  pub passes : TwoPasses
 
 -- ---- demand 3
 
@@ -87,5 +177,6 @@ pub record Demands : Type 0 where
   pub field-b : Field 11 2053
   pub codes : Codes
   pub frames : FrameLaws
-  pub passes : TwoPasses
+  pub first : Demand1
+  pub second : Demand2
   pub third : Demand3

@@ -7,7 +7,7 @@ use native.Mathlib.Omega.{arith}
 use lib.Dec.{eqb}
 use Rattle.frames.specs.declared.Report.{Report}
 use Rattle.logging.specs.declared.Counters.{Counters}
-use Rattle.logging.specs.Counting.{framesOf, uncorrectableOf, bitsOf, limited, cleared, counted, Call, clear, count, after, since, sumOver, totals}
+use Rattle.logging.specs.Counting.{framesOf, uncorrectableOf, correctedBitsOf, limited, cleared, counted, Call, clear, count, after, since, sumOver, totals}
 
 -- ---- what one call gives
 
@@ -18,7 +18,7 @@ clearing = refl
 pub counting : (c : Counters) (r : Report) (f u b x y z : ℕ) → x ≡ cond (eqb (r .refusal) 0) 1 0 → y ≡ cond (eqb (r .refusal) 5) 1 0 →
     z ≡ cond (eqb (r .refusal) 0) (r .sum) 0 → f ≡ limited (c .frames + x) → u ≡ limited (c .uncorrectable + y) → b ≡ limited (c .bits + z) →
     record { frames = f; uncorrectable = u; bits = b } ≡ counted c r
-unfolding counted framesOf uncorrectableOf bitsOf
+unfolding counted framesOf uncorrectableOf correctedBitsOf
 counting c r f u b x y z ex ey ez ef eu eb = rw (ef, eu, eb, ex, ey, ez)
 
 -- ---- every sequence of calls
@@ -30,13 +30,13 @@ next f answers r = omega arith
 
 counted-totals : (answers : List Report) (r : Report) → counted (totals answers) r ≡ totals (r ∷ answers)
 unfolding counted totals
-counted-totals answers r = rw (next framesOf answers r, next uncorrectableOf answers r, next bitsOf answers r)
+counted-totals answers r = rw (next framesOf answers r, next uncorrectableOf answers r, next correctedBitsOf answers r)
 
 cleared-totals : cleared ≡ totals []
 unfolding cleared totals sumOver
 cleared-totals = refl
 
-pub since-clearing : (calls : List Call) → after calls ≡ totals (since calls)
+pub since-clearing : (calls : List (Call Report)) → after calls ≡ totals (since calls)
 unfolding after since
 since-clearing [] = cleared-totals
 since-clearing (clear ∷ earlier) = cleared-totals

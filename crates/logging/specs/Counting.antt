@@ -13,8 +13,8 @@ framesOf r = cond (eqb (r .refusal) 0) 1 0
 unfoldable pub uncorrectableOf : Report → ℕ
 uncorrectableOf r = cond (eqb (r .refusal) 5) 1 0
 
-unfoldable pub bitsOf : Report → ℕ
-bitsOf r = cond (eqb (r .refusal) 0) (r .sum) 0
+unfoldable pub correctedBitsOf : Report → ℕ
+correctedBitsOf r = cond (eqb (r .refusal) 0) (r .sum) 0
 
 -- a sum, or the largest 32-bit number if that is less
 abbrev pub limited : ℕ → ℕ
@@ -29,26 +29,26 @@ counted c r =
     record {
       frames = limited (c .frames + framesOf r);
       uncorrectable = limited (c .uncorrectable + uncorrectableOf r);
-      bits = limited (c .bits + bitsOf r);
+      bits = limited (c .bits + correctedBitsOf r);
     }
 
 -- ---- every sequence of calls
 
--- the counters are cleared, or an answer is counted
-pub data Call : Type 0 where
-  clear : Call
-  count : Report → Call
+-- a call clears the counters, or counts something: an answer, or what gave it
+pub data Call (A : Type 0) : Type 0 where
+  clear : Call A
+  count : A → Call A
 
--- the counters after calls, and the answers counted since the last clearing; the last call stands first
-unfoldable pub after : List Call → Counters
+-- the counters after calls, and what was counted since the last clearing; the last call stands first
+unfoldable pub after : List (Call Report) → Counters
 after [] = cleared
 after (clear ∷ earlier) = cleared
 after (count r ∷ earlier) = counted (after earlier) r
 
-unfoldable pub since : List Call → List Report
+unfoldable pub since : {A : Type 0} → List (Call A) → List A
 since [] = []
 since (clear ∷ earlier) = []
-since (count r ∷ earlier) = r ∷ since earlier
+since (count a ∷ earlier) = a ∷ since earlier
 
 -- what answers add up to, and the counters that show it
 unfoldable pub sumOver : {A : Type 0} → (A → ℕ) → List A → ℕ
@@ -60,5 +60,5 @@ totals answers =
     record {
       frames = limited (sumOver framesOf answers);
       uncorrectable = limited (sumOver uncorrectableOf answers);
-      bits = limited (sumOver bitsOf answers);
+      bits = limited (sumOver correctedBitsOf answers);
     }

@@ -8,13 +8,13 @@ use lib.Dec.{eqb}
 use lib.ListN.{length, getD}
 use Rattle.frames.specs.Answers.{frameCorrected}
 use Rattle.frames.specs.declared.Report.{Report}
-use Rattle.logging.specs.Counting.{limited, Call, count, after, since, sumOver, totals}
+use Rattle.logging.specs.Counting.{limited, Call, clear, count, after, since, sumOver, totals}
 use Rattle.logging.specs.WorstList.{countOf, worstWords}
 
 -- ---- counters
 
 -- a call of the corrector: block and output buffer, then report and buffer as its contract promises them
-pub record Correction : Type 0 where
+pub record CorrectorCall : Type 0 where
   pub block : List ℕ
   pub buffer : List ℕ
   pub report : Report
@@ -22,22 +22,27 @@ pub record Correction : Type 0 where
   pub promised : (report .refusal, report .counts, report .sum, out) ≡ frameCorrected block buffer
 
 -- the number and the sum that are promised
-abbrev pub numberOf : Correction → ℕ
-numberOf c = frameCorrected (c .block) (c .buffer) .0
+abbrev pub numberPromised : CorrectorCall → ℕ
+numberPromised c = frameCorrected (c .block) (c .buffer) .0
 
-abbrev pub sumOf : Correction → ℕ
-sumOf c = frameCorrected (c .block) (c .buffer) .2
+abbrev pub sumPromised : CorrectorCall → ℕ
+sumPromised c = frameCorrected (c .block) (c .buffer) .2
+
+-- what the counters are given: a clearing, or the report of the corrector's call
+abbrev pub given : Call CorrectorCall → Call Report
+given clear = clear
+given (count c) = count (c .report)
 
 pub record CounterLaws : Type 0 where
   -- after any calls, each number is the sum over the answers since the last clearing, or 4,294,967,295 if that is less
-  pub since-clearing : (calls : List Call) → after calls ≡ totals (since calls)
-  -- for the corrector's answers these are its corrected blocks, its refusals 5, and the bits of its corrected blocks
-  pub corrections : (cs : List Correction) →
-      after (map (λ c. count (c .report)) cs)
+  pub since-clearing : (calls : List (Call Report)) → after calls ≡ totals (since calls)
+  -- where the answers are the corrector's, these are its corrected blocks since the last clearing, its refusals 5, and the bits of its corrected blocks
+  pub corrections : (calls : List (Call CorrectorCall)) →
+      after (map given calls)
       ≡ record {
-        frames = limited (sumOver (λ c. cond (eqb (numberOf c) 0) 1 0) cs);
-        uncorrectable = limited (sumOver (λ c. cond (eqb (numberOf c) 5) 1 0) cs);
-        bits = limited (sumOver (λ c. cond (eqb (numberOf c) 0) (sumOf c) 0) cs);
+        frames = limited (sumOver (λ c. cond (eqb (numberPromised c) 0) 1 0) (since calls));
+        uncorrectable = limited (sumOver (λ c. cond (eqb (numberPromised c) 5) 1 0) (since calls));
+        bits = limited (sumOver (λ c. cond (eqb (numberPromised c) 0) (sumPromised c) 0) (since calls));
       }
 
 -- ---- worst list

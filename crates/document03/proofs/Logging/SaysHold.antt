@@ -8,7 +8,7 @@ use borrow.Author.Tests.{leb-false, leb-true}
 use lib.Dec.{eqb, leb}
 use Rattle.frames.specs.declared.Report.{Report}
 use Rattle.logging.specs.declared.Counters.{Counters}
-use Rattle.logging.specs.Counting.{framesOf, uncorrectableOf, bitsOf, limited, cleared, counted}
+use Rattle.logging.specs.Counting.{framesOf, uncorrectableOf, correctedBitsOf, limited, cleared, counted}
 use Rattle.logging.specs.WorstList.{worstWords}
 use Rattle.logging.proofs.Order.{count-inside}
 use Rattle.document03.proofs.Fields.{pick}
@@ -41,7 +41,7 @@ unfolding cleared
 clear-says t e = rw e (refl, refl, refl)
 
 pub count-says : (t : Counters) (r : Report) (u : Counters) → u ≡ counted t r → CountSays t r u
-unfolding counted framesOf uncorrectableOf bitsOf
+unfolding counted framesOf uncorrectableOf correctedBitsOf
 count-says t r u e =
     rw e (
       number-says (t .frames) _ _ (when-agrees (eqb (r .refusal) 0) 1),

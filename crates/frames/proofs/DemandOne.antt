@@ -1,0 +1,151 @@
+-- Demand 1: each entry answers the number of the first rule that is broken, and a number that is not 0 leaves the buffer as it was. Assumes nothing.
+use mathlib.Core.Path.{_≡_, refl, sym, _∙_}
+use mathlib.Core.Bool.{Bool, true, false, cond, and-eq-true-iff}
+use mathlib.Core.List.{List, [], _∷_}
+use mathlib.Core.Option.{Option, none, some, Option·map}
+use Prim.Native.Nat.{ℕ, zero, suc}
+use native.Mathlib.Omega.{arith}
+use borrow.Author.Tests.{eqb-true, leb-true}
+use lib.Dec.{eqb, leb, eqb·suc-zero}
+use lib.ListN.{length}
+use Rattle.fields.specs.Places.{at, allBelow}
+use Rattle.words.specs.declared.Correction.the-variants.{Corrected, Refused}
+use Rattle.words.specs.Bits.{bitAt, bitsOf, bytesOf}
+use Rattle.words.specs.OuterCode.{isOuter, outerParity}
+use Rattle.words.specs.InnerCode.{isInner}
+use Rattle.words.specs.Nearest.{nearest}
+use Rattle.words.specs.InnerWords.{innerPass}
+use Rattle.words.specs.Answers.{unless, refusal, within, answered, firstOf, refusalOf, changedOf, found, corrected, outerChecked, outerEncoded, outerCorrected, innerChecked, innerEncoded, innerCorrected}
+use Rattle.words.proofs.Bits.Bytes.{bytes-length}
+use Rattle.words.proofs.Codes.Proved.{codes}
+use Rattle.frames.specs.Frames.{outerWords, frameOfWords, frameOf, payloadOf}
+use Rattle.frames.specs.Correction.{outerPass, restoredFrame}
+use Rattle.frames.specs.Answers.{isFrame, frameEncoded, frameChecked, payloadExtracted, refused, reported, frameCorrected, withoutReport}
+use Rattle.frames.specs.Demands.{firstBroken, Refuses, isSome, withoutCount, Demand1}
+use Rattle.frames.proofs.FrameBits.{payloadOf-length, frame-length}
+
+-- where no rule is broken the first holds, and those after it
+pub none-broken : (test : Bool) (n next : ℕ) → unless test (suc n) next ≡ 0 → (test ≡ true) × (next ≡ 0)
+none-broken true n next e = (refl, e)
+none-broken false n next e = absurd (omega arith)
+
+-- ---- entries that write
+
+module _ (buffer : List ℕ) (rules : List (ℕ × Bool)) where
+  refuses : (n : ℕ) → n ≡ firstBroken rules → Refuses (n, buffer) buffer rules
+  refuses n e = record { number = e; kept = λ f. refl; fits = refl }
+
+  writes : (answer : List ℕ) → 0 ≡ firstBroken rules → length answer ≡ length buffer → Refuses (0, answer) buffer rules
+  writes answer e long = record { number = e; kept = λ f. absurd (f refl); fits = long }
+
+-- encoders and extractor: the second rule is the size of the buffer
+module _ (buffer answer : List ℕ) (size n : ℕ) (test : Bool) (rest : List (ℕ × Bool)) where
+  abbrev rules : List (ℕ × Bool)
+  rules = (suc n, test) ∷ (3, eqb (length buffer) size) ∷ rest
+
+  answers : length answer ≡ size → Refuses (answered (firstBroken rules) answer buffer) buffer rules
+  unfolding answered firstBroken
+  answers long = go (firstBroken rules) refl
+    where
+      go : (k : ℕ) → firstBroken rules ≡ k → Refuses (answered k answer buffer) buffer rules
+      go zero e =
+          let room = none-broken (eqb (length buffer) size) 2 _ (none-broken test n _ e .1) .0 in
+          writes buffer rules answer (sym e) (long ∙ sym (eqb-true (length buffer) size room))
+      go (suc k) e = rw (eqb·suc-zero k) (refuses buffer rules (suc k) (sym e))
+
+-- the corrector
+module _ (block buffer : List ℕ) where
+  corrected-block : (long room : Bool) (words : Option (List (List ℕ))) → (room ≡ true → length buffer ≡ 16320) →
+      (let frame = Option·map frameOfWords words in
+      Refuses (withoutReport (cond long (cond room (reported block buffer frame) (refused 3 buffer)) (refused 2 buffer))) buffer
+      ((2, long) ∷ (3, room) ∷ (5, isSome frame) ∷ []))
+  unfolding reported refused withoutReport firstBroken
+  corrected-block false room words fits = refuses buffer _ 2 refl
+  corrected-block true false words fits = refuses buffer _ 3 refl
+  corrected-block true true none fits = refuses buffer _ 5 refl
+  corrected-block true true (some words) fits = writes buffer _ (frameOfWords words) refl (frame-length words ∙ sym (fits refl))
+
+  block-alone : (long room : Bool) (frame : Option (List ℕ)) →
+      (let a = cond long (cond room (reported block buffer frame) (refused 3 buffer)) (refused 2 buffer) in (a .0 ≡ 0 → ⊥) → a ≡ refused (a .0) buffer)
+  unfolding reported refused
+  block-alone false room frame f = refl
+  block-alone true false frame f = refl
+  block-alone true true none f = refl
+  block-alone true true (some frame) f = absurd (f refl)
+
+-- ---- single words
+
+word-checked : (long symbols code : Bool) → firstOf (refusal long true symbols) (unless code 4 0) ≡ firstBroken ((6, long) ∷ (7, symbols) ∷ (4, code) ∷ [])
+unfolding firstOf refusal firstBroken
+word-checked true true true = refl
+word-checked true true false = refl
+word-checked true false code = refl
+word-checked false symbols code = refl
+
+-- correction
+module _ (content : List ℕ → List ℕ) (word buffer : List ℕ) where
+  word-corrected : (long room symbols : Bool) (near : Option (List ℕ)) →
+      (long ≡ true → room ≡ true → (c : List ℕ) → near ≡ some c → length (content c) ≡ length buffer) →
+      Refuses (withoutCount (corrected (refusal long room symbols) buffer (found content word buffer near))) buffer
+      ((6, long) ∷ (3, room) ∷ (7, symbols) ∷ (5, isSome near) ∷ [])
+  unfolding corrected refusal found firstBroken
+  word-corrected false room symbols near fits = refuses buffer _ 6 refl
+  word-corrected true false symbols near fits = refuses buffer _ 3 refl
+  word-corrected true true false near fits = refuses buffer _ 7 refl
+  word-corrected true true true none fits = refuses buffer _ 5 refl
+  word-corrected true true true (some c) fits = writes buffer _ (content c) refl (fits refl refl c refl)
+
+  word-alone : (long room symbols : Bool) (near : Option (List ℕ)) →
+      (let a = corrected (refusal long room symbols) buffer (found content word buffer near) .0 in
+      a ≡ cond (eqb (refusalOf a) 0) (Corrected (changedOf a)) (Refused (refusalOf a)))
+  unfolding corrected refusal found
+  word-alone false room symbols near = refl
+  word-alone true false symbols near = refl
+  word-alone true true false near = refl
+  word-alone true true true none = refl
+  word-alone true true true (some c) = refl
+
+-- the code word within eight symbols is as long as the word
+outer-fits : (word buffer c : List ℕ) → within 17 1023 (length word) ≡ true → eqb (length buffer) (length word) ≡ true → nearest isOuter 1024 8 word ≡ some c →
+    length c ≡ length buffer
+unfolding within
+outer-fits word buffer c long room near =
+    let short = leb-true (length word) 1023 (and-eq-true-iff (leb 17 (length word)) (leb (length word) 1023) .0 long .1) in
+    codes .outer-nearest (length word) short .sound word c refl near .0 ∙ sym (eqb-true (length buffer) (length word) room)
+
+inner-corrected : (word buffer : List ℕ) →
+    Refuses (withoutCount (innerCorrected word buffer)) buffer
+    ((6, eqb (length word) 255) ∷ (3, eqb (length buffer) 255) ∷ (5, isSome (nearest isInner 2 8 (bitsOf word))) ∷ [])
+unfolding innerCorrected firstBroken
+inner-corrected word buffer =
+    let bits = bitsOf word in
+    let r = word-corrected (λ c. bytesOf 255 (at c)) bits buffer (eqb (length word) 255) (eqb (length buffer) 255) true (nearest isInner 2 8 bits)
+    (λ long room c near. bytes-length 255 (at c) ∙ sym (eqb-true (length buffer) 255 room)) in
+    record { number = r .number; kept = r .kept; fits = r .fits }
+
+pub demand-1 : Demand1
+unfolding frameEncoded frameChecked payloadExtracted frameCorrected restoredFrame withoutReport frameOf
+    outerChecked outerEncoded outerCorrected innerChecked innerEncoded innerCorrected refusal firstBroken
+demand-1 =
+    record {
+      encode = λ payload buffer. answers buffer (frameOf payload) 16320 0 (eqb (length payload) 15296) [] (frame-length (outerWords payload));
+      check = λ block. refl;
+      extract = λ block buffer. answers buffer (payloadOf block) 15296 1 (eqb (length block) 16320) ((4, isFrame block) ∷ []) (payloadOf-length block);
+      correct = λ block buffer.
+          corrected-block block buffer (eqb (length block) 16320) (eqb (length buffer) 16320) (outerPass (innerPass (bitAt block)))
+          (eqb-true (length buffer) 16320);
+      correct-alone = λ block buffer. block-alone block buffer (eqb (length block) 16320) (eqb (length buffer) 16320) (restoredFrame block);
+      correct-c = λ block buffer. refl;
+      check-outer = λ word. word-checked (within 17 1023 (length word)) (allBelow 1024 word) (isOuter word);
+      encode-outer = λ d buffer. answers buffer (outerParity d) 16 5 (within 1 1007 (length d)) ((7, allBelow 1024 d) ∷ []) (codes .outer-length d);
+      correct-outer = λ word buffer.
+          word-corrected (λ c. c) word buffer (within 17 1023 (length word)) (eqb (length buffer) (length word)) (allBelow 1024 word)
+          (nearest isOuter 1024 8 word) (λ long room c. outer-fits word buffer c long room);
+      outer-alone = λ word buffer.
+          word-alone (λ c. c) word buffer (within 17 1023 (length word)) (eqb (length buffer) (length word)) (allBelow 1024 word) (nearest isOuter 1024 8 word);
+      check-inner = λ word. word-checked (eqb (length word) 255) true (isInner (bitsOf word));
+      encode-inner = λ d buffer. answers buffer _ 11 5 (eqb (length d) 244) [] (bytes-length 11 _);
+      correct-inner = inner-corrected;
+      inner-alone = λ word buffer.
+          word-alone (λ c. bytesOf 255 (at c)) (bitsOf word) buffer (eqb (length word) 255) (eqb (length buffer) 255) true (nearest isInner 2 8 (bitsOf word));
+    }

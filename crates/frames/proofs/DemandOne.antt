@@ -22,7 +22,7 @@ use Rattle.frames.specs.Frames.{outerWords, frameOfWords, frameOf, paylo
 use Rattle.frames.specs.Correction.{outerPass, restoredFrame}
 use Rattle.frames.specs.Answers.{isFrame, frameEncoded, frameChecked, payloadExtracted, refused, reported, frameCorrected, withoutReport}
 use Rattle.frames.specs.Demands.{firstBroken, Refuses, isSome, withoutCount, Demand1}
-use Rattle.frames.proofs.FrameBits.{payloadOf-length, frame-length}
+use Rattle.frames.proofs.Frames.FrameBits.{payloadOf-length, frame-length}
 
 -- where no rule is broken the first holds, and those after it
 pub none-broken : (test : Bool) (n next : ℕ) → unless test (suc n) next ≡ 0 → (test ≡ true) × (next ≡ 0)

@@ -11,7 +11,7 @@ use Rattle.fields.proofs.Places.Differences.{apart-none}
 use Rattle.words.specs.Answers.{answered}
 use Rattle.frames.specs.Frames.{isPayload, isBlock, outerWords, frameOfWords, frameOf, payloadOf}
 use Rattle.frames.specs.Answers.{isFrame, frameEncoded, frameChecked, payloadExtracted}
-use Rattle.frames.proofs.FrameBits.{payload-is, block-is, frame-length, frame-block}
+use Rattle.frames.proofs.Frames.FrameBits.{payload-is, block-is, frame-length, frame-block}
 use Rattle.frames.proofs.Proved.{frame-laws}
 use Rattle.frames.proofs.DemandOne.{none-broken}
 

@@ -2,8 +2,8 @@
 use Rattle.fields.proofs.Instances.{field-a, field-b}
 use Rattle.words.proofs.Codes.Proved.{codes}
 use Rattle.frames.specs.Demands.{TwoPasses, Demand2, Demand3, Demands}
-use Rattle.frames.proofs.FarApart.{far}
-use Rattle.frames.proofs.RestoredWords.{inner-near, inner-lost, one-or-other, passed, corrected, uncorrectable, uncorrectable-only, corrected-frame}
+use Rattle.frames.proofs.Frames.FarApart.{far}
+use Rattle.frames.proofs.Correction.RestoredWords.{inner-near, inner-lost, one-or-other, passed, corrected, uncorrectable, uncorrectable-only, corrected-frame}
 use Rattle.frames.proofs.Proved.{frame-laws}
 use Rattle.frames.proofs.DemandOne.{demand-1}
 use Rattle.frames.proofs.DemandTwo.{encoded, checked, checked-only, extracted, extracted-only}

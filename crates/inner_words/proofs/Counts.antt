@@ -36,8 +36,8 @@ module _ (before counts : List ℕ) (x k : ℕ) (so-far : FilledOver 64 (counted
   unfolding countedAt
   count-next h = over-next so-far h (ap₂ _+_ (so-far .ahead k (le-refl k)) (masked-bit 64 x k (63 - k) (omega arith)))
 
-  pub count-end : 64 ≤ k → counts ≡ counted before x
-  unfolding countedAt counted
+  pub count-end : 64 ≤ k → counts ≡ placeCounted before x
+  unfolding countedAt placeCounted
   count-end h = filled-end (so-far .filled) h
 
 -- how many of the first p numbers have a 1 in bit k
@@ -68,7 +68,7 @@ module _ (xs : ℕ → ℕ) (counts : List ℕ) (p : ℕ) (so-far : Counting xs 
       go (no g) = omega (arith, past counts k (omega (arith, so-far .long)))
 
   pub counting-next : (x : ℕ) (next : List ℕ) → x ≡ xs p → next ≡ placeCounted counts x → Counting xs (p + 1) next
-  unfolding onesUpTo sumTo counted
+  unfolding onesUpTo sumTo placeCounted
   counting-next x next ex e =
       record {
         long = ap length e ∙ tabulate-length 64 _;

@@ -10,7 +10,7 @@ use lib.ListN.{length}
 use Rattle.fields.specs.Elements.{xor, scale, doubled}
 use Rattle.fields.specs.Places.{at, every}
 use Rattle.fields.proofs.Lists.{tabulate-is}
-use Rattle.fields.proofs.Rows.{rows, look, look-is}
+use Rattle.fields.proofs.Pieces.{pieces, look, look-is}
 use Rattle.fields.proofs.Places.Tests.{every-at}
 use Rattle.words.specs.Bits.{bitOf, numberOf, bytesOf}
 use Rattle.words.specs.InnerCode.{valueOf}
@@ -61,10 +61,10 @@ abbrev pub byte-by : ℕ → ℕ
 byte-by k = numberOf 8 (λ j. bitOf 88 (at columns ((8 * k + j) % 88)) ((8 * k + j) / 88))
 
 abbrev pub rows-test : List ℕ → Bool
-rows-test xs = every 968 (λ k. eqb (look (rows xs) k) (byte-by k))
+rows-test xs = every 968 (λ k. eqb (look (pieces xs) k) (byte-by k))
 
 pub table-is : (xs : List ℕ) → length xs ≡ 968 → rows-test xs ≡ true → xs ≡ parityRows
 unfolding parityRows bytesOf
 table-is xs long t =
-    tabulate-is 968 _ xs 0 long (λ k l. sym (look-is xs k (rw long l)) ∙ eqb-true _ _ (every-at 968 (λ k. eqb (look (rows xs) k) (byte-by k)) t k l)
+    tabulate-is 968 _ xs 0 long (λ k l. sym (look-is xs k (rw long l)) ∙ eqb-true _ _ (every-at 968 (λ k. eqb (look (pieces xs) k) (byte-by k)) t k l)
     ∙ numberOf-same 8 _ _ (λ j m. ap (λ (x : ℕ). bitOf 88 x ((8 * k + j) / 88)) (column-is ((8 * k + j) % 88) (omega arith))))

@@ -49,7 +49,7 @@ module _ (block frame counts : List ℕ) (p : ℕ) (so-far : Counting (differenc
       ∙ ap (λ (x : ℕ). differs x 0) (bitOf-sum 64 k (placeAt block q) (placeAt frame q) ∙ ap₂ xor (place-bit block q k l) (place-bit frame q k l))
       ∙ differs-sum (bitAt block (64 * q + k)) (bitAt frame (64 * q + k))
 
-  pub report-next : (x y : ℕ) (next : List ℕ) → x ≡ placeAt block p → y ≡ placeAt frame p → next ≡ counted counts (bitXor x y) →
+  pub report-next : (x y : ℕ) (next : List ℕ) → x ≡ placeAt block p → y ≡ placeAt frame p → next ≡ placeCounted counts (bitXor x y) →
       Counting (differences block frame) (p + 1) next
   unfolding differences xor
   report-next x y next ex ey e = counting-next (differences block frame) counts p so-far (bitXor x y) next (ap₂ bitXor ex ey) e

@@ -8,7 +8,7 @@ use Rattle.frames.specs.Frames.{isPayload, outerWords, frameOf, payloadO
 use Rattle.frames.specs.FrameLaws.{FrameLaws}
 use Rattle.frames.proofs.Frames.FrameBits.{payload-is, payloadOf-length, payloadOf-below, frame-block, frame-parity, frame-inner, outer-code, payload-bits, payload-back}
 use Rattle.frames.proofs.OuterSymbols.Received.{frame-same, same-frame}
-use Rattle.frames.proofs.Frames.ExamplesHold.{bench}
+use Rattle.frames.proofs.Frames.ExamplesHold.{examples-hold}
 
 back : (p : List ℕ) → isPayload p ≡ true → payloadOf (frameOf p) ≡ p
 back p h = let t = payload-is p h in payload-back p (t .0) (t .1)

@@ -1,6 +1,6 @@
 //! One function for each entry: it makes the call on both sides, and compares the answers and every element of every buffer, before and after.
 
-use crate::lent::{Element, Lent};
+use crate::guarded::{Element, Guarded};
 use crate::random::Random;
 use second::Corrected;
 use wrapper::{frames, words, Refusal};
@@ -14,32 +14,32 @@ type Expected<T> = Result<(Vec<T>, u32), u8>;
 fn compare<T: Element>(
     entry: &str,
     input: &[T],
-    out: &mut Lent<T>,
+    out: &mut Guarded<T>,
     expected: Expected<T>,
     call: impl FnOnce(&[T], &mut [T]) -> Result<u32, Refusal>,
 ) -> Answer {
-    let lent = Lent::new(input);
-    let found = call(lent.slice(), out.slice_mut()).map_err(Refusal::number);
+    let guarded = Guarded::new(input);
+    let found = call(guarded.slice(), out.slice_mut()).map_err(Refusal::number);
     let answers = expected.as_ref().map(|e| e.1).map_err(|n| *n);
     if found != answers {
         return Err(format!("{entry}: the library answers {found:?}, the second {answers:?}"));
     }
     let told = |e| format!("{entry}: {e}");
-    lent.kept("the input").map_err(told)?;
+    guarded.kept("the input").map_err(told)?;
     match expected {
         Ok((content, _)) => out.holds("the output", &content).map(|()| 0).map_err(told),
         Err(number) => out.kept("the output").map(|()| number).map_err(told),
     }
 }
 
-pub fn bytes_before(random: &mut Random, space: usize) -> Lent<u8> {
-    Lent::new(&random.bytes(space))
+pub fn bytes_before(random: &mut Random, space: usize) -> Guarded<u8> {
+    Guarded::new(&random.bytes(space))
 }
 
 /// Symbols before a call may be any numbers of 16 bits.
-pub fn symbols_before(random: &mut Random, space: usize) -> Lent<u16> {
+pub fn symbols_before(random: &mut Random, space: usize) -> Guarded<u16> {
     let symbols: Vec<u16> = (0..space).map(|_| random.next() as u16).collect();
-    Lent::new(&symbols)
+    Guarded::new(&symbols)
 }
 
 fn no_number<T>(answer: Result<Vec<T>, u8>) -> Expected<T> {
@@ -53,7 +53,7 @@ pub fn encode_frame(random: &mut Random, payload: &[u8], space: usize) -> Answer
 
 pub fn check_frame(block: &[u8]) -> Answer {
     let expected = second::check_frame(block).map(|()| (vec![], 0));
-    compare("check_frame", block, &mut Lent::new(&[]), expected, |i, _| frames::check(i).map(|()| 0))
+    compare("check_frame", block, &mut Guarded::new(&[]), expected, |i, _| frames::check(i).map(|()| 0))
 }
 
 pub fn extract_payload(random: &mut Random, block: &[u8], space: usize) -> Answer {
@@ -80,7 +80,7 @@ pub fn correct_frame(random: &mut Random, block: &[u8], space: usize, places: us
 
 pub fn check_outer(word: &[u16]) -> Answer {
     let expected = second::check_outer(word).map(|()| (vec![], 0));
-    compare("check_outer", word, &mut Lent::new(&[]), expected, |i, _| words::check_outer(i).map(|()| 0))
+    compare("check_outer", word, &mut Guarded::new(&[]), expected, |i, _| words::check_outer(i).map(|()| 0))
 }
 
 pub fn encode_outer(random: &mut Random, data: &[u16], space: usize) -> Answer {
@@ -95,7 +95,7 @@ pub fn correct_outer(random: &mut Random, word: &[u16], space: usize) -> Answer 
 
 pub fn check_inner(word: &[u8]) -> Answer {
     let expected = second::check_inner(word).map(|()| (vec![], 0));
-    compare("check_inner", word, &mut Lent::new(&[]), expected, |i, _| words::check_inner(i).map(|()| 0))
+    compare("check_inner", word, &mut Guarded::new(&[]), expected, |i, _| words::check_inner(i).map(|()| 0))
 }
 
 pub fn encode_inner(random: &mut Random, data: &[u8], space: usize) -> Answer {
@@ -113,7 +113,7 @@ mod tests {
     use super::*;
 
     fn told(expected: Expected<u8>, call: impl FnOnce(&[u8], &mut [u8]) -> Result<u32, Refusal>) -> bool {
-        compare("entry", &[1, 2, 3], &mut Lent::new(&[4, 5]), expected, call).is_ok()
+        compare("entry", &[1, 2, 3], &mut Guarded::new(&[4, 5]), expected, call).is_ok()
     }
 
     #[test]

@@ -8,9 +8,9 @@
 
 mod calls;
 mod frames;
+mod guarded;
 mod layout;
 mod lengths;
-mod lent;
 mod light;
 mod random;
 mod words;

@@ -118,7 +118,7 @@ fn reduction_reaches_degree_30() {
 
 /// Bench rows 1 to 4.
 #[test]
-fn bench_rows_of_the_fields() {
+fn examples_of_the_fields() {
     assert_eq!(FieldA::multiply(512, 2), 9);
     assert_eq!(FieldA::multiply(516, 2), 1);
     assert_eq!(FieldB::multiply(1024, 2), 5);

@@ -1,4 +1,4 @@
-//! Buffers as they are lent to the library, with guards on both sides, and a copy of how they were.
+//! Buffers that the library is lent, with guards on both sides, and a copy of how they were.
 
 const GUARD: usize = 32;
 
@@ -14,17 +14,17 @@ impl Element for u16 {
     const GUARDS: u16 = 0xA5C3;
 }
 
-pub struct Lent<T> {
+pub struct Guarded<T> {
     now: Vec<T>,
     before: Vec<T>,
 }
 
-impl<T: Element> Lent<T> {
-    pub fn new(content: &[T]) -> Lent<T> {
+impl<T: Element> Guarded<T> {
+    pub fn new(content: &[T]) -> Guarded<T> {
         let mut now = vec![T::GUARDS; GUARD];
         now.extend_from_slice(content);
         now.extend_from_slice(&[T::GUARDS; GUARD]);
-        Lent { before: now.clone(), now }
+        Guarded { before: now.clone(), now }
     }
 
     pub fn len(&self) -> usize {
@@ -72,10 +72,10 @@ mod tests {
     #[test]
     fn a_write_is_seen_inside_and_outside() {
         for i in 0..2 * GUARD + 3 {
-            let mut lent = Lent::new(&[1u8, 2, 3]);
-            assert!(lent.kept("it").is_ok() && lent.holds("it", &[1, 2, 3]).is_ok());
+            let mut lent = Guarded::new(&[1u8, 2, 3]);
+            assert!(guarded.kept("it").is_ok() && lent.holds("it", &[1, 2, 3]).is_ok());
             lent.now[i] ^= 1;
-            assert!(lent.kept("it").is_err() && lent.holds("it", &[1, 2, 3]).is_err());
+            assert!(guarded.kept("it").is_err() && lent.holds("it", &[1, 2, 3]).is_err());
         }
     }
 }

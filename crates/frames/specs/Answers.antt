@@ -11,7 +11,7 @@ use Rattle.words.specs.Answers.{unless, answered}
 use Rattle.frames.specs.Frames.{frameOf, payloadOf}
 use Rattle.frames.specs.Correction.{restoredFrame, reportOf, total}
 
--- a block that differs nowhere from the frame of the payload that stands in it. No other block is written for any payload (`written-only`)
+-- a block that differs nowhere from the frame of the payload that stands in it. No other block is written for any payload (`written-accepted`)
 unfoldable pub isFrame : List ℕ → Bool
 isFrame block = eqb (apart (frameOf (payloadOf block)) block) 0
 

@@ -1,31 +1,35 @@
--- The inner pass: an inner word corrected, and all inner words of a block one after the other. Assumes nothing.
-use mathlib.Core.Path.{_≡_, refl, sym, ap, _∙_}
-use mathlib.Core.Bool.{Bool, true, _&&_, cond, and-eq-true-iff}
+-- The inner pass: what an inner word is restored to, and all inner words of a block one after the other. Assumes nothing.
+use mathlib.Core.Path.{_≡_, refl, sym, ap, ap₂, _∙_}
+use mathlib.Core.Bool.{Bool, true, false, cond}
 use mathlib.Core.List.{List}
-use mathlib.Core.Option.{Option, none, some, Option·getD}
+use mathlib.Core.Option.{Option, none, some, Option·getD, Option·map}
 use Prim.Native.Nat.{ℕ, _+_, _-_, _*_, _/_, _%_, _^_, _≤_, _<_, zero-le}
 use native.Mathlib.Decide.{ℕ-discrete}
-use native.Mathlib.Nat.{not-suc-le-zero}
+use native.Mathlib.Nat.{le-refl, not-suc-le-zero}
+use native.Mathlib.Numerals.{add-one}
 use native.Mathlib.Omega.{arith}
-use borrow.Author.Tests.{eq-eqb}
 use lib.Bits.{bitAnd}
 use lib.ListN.{length}
+use lib.Pow.{pow-mono}
+use mir.Syntax.{w64}
+use mir.Val.{Fits}
 use Rattle.fields.specs.Places.{at}
 use Rattle.fields.proofs.Lists.{tabulate-same}
-use Rattle.fields.proofs.Places.Tests.{every-at, every-true}
 use Rattle.fields.proofs.Places.Differences.{apart-self}
-use Rattle.words.specs.Bits.{bitOf, bitAt}
+use Rattle.words.specs.Bits.{bitOf, numberOf, bitAt}
 use Rattle.words.specs.InnerCode.{isInner}
 use Rattle.words.specs.Nearest.{nearest}
 use Rattle.words.specs.InnerWords.{innerWord, innerRestored, innerPass}
-use Rattle.words.proofs.Bits.Numbers.{bitOf-lt, masked-bit}
+use Rattle.words.proofs.Bits.Numbers.{bitOf-lt, bitOf-zero, masked-bit, numberOf-lt, numberOf-same}
 use Rattle.words.proofs.Codes.InnerWords.{inner-is}
 use Rattle.words.proofs.Codes.Proved.{codes}
-use Rattle.inner_words.specs.Passes.{innerCodes, wrongWords, WordPut, WordCorrected, InnerPassed}
-use Rattle.inner_words.proofs.InterleavedBits.{place-to-bit, bit-to-place}
-use Rattle.inner_words.proofs.InnerSteps.{wrong-not, wrong-bit, none-wrong}
+use Rattle.inner_words.specs.InnerResidues.{residuesOf, WordResidues}
+use Rattle.inner_words.specs.Passes.{wrongWords, WordRestored, WordNearer, OneWord, EachWord, InnerPassed}
+use Rattle.inner_words.proofs.InterleavedBits.{bit-to-place}
+use Rattle.inner_words.proofs.ResidueCodes.{whole-residues, residues-kept}
+use Rattle.inner_words.proofs.InnerSteps.{wrong-lt, wrong-not, wrong-no, wrong-bit}
 
--- ---- an inner word corrected
+-- ---- an inner word
 
 module _ (w : List ℕ) where
   pub restored-none : nearest isInner 2 8 w ≡ none → innerRestored w ≡ w
@@ -36,9 +40,20 @@ module _ (w : List ℕ) where
   unfolding innerRestored
   restored-some c e = rw e
 
-  -- a code word stays as it is
+  -- a code word is the nearest one to itself
+  code-nearest : isInner w ≡ true → nearest isInner 2 8 w ≡ some w
+  code-nearest h = let l = inner-is w h .long in codes .inner-nearest .complete w w l l h (omega (arith, apart-self w))
+
   pub restored-code : isInner w ≡ true → innerRestored w ≡ w
-  restored-code h = let l = inner-is w h .long in restored-some w (codes .inner-nearest .complete w w l l h (omega (arith, apart-self w)))
+  restored-code h = restored-some w (code-nearest h)
+
+  -- a word without a code word within eight places is none
+  pub lost-wrong : nearest isInner 2 8 w ≡ none → isInner w ≡ false
+  lost-wrong e = go (isInner w) refl
+    where
+      go : (t : Bool) → isInner w ≡ t → t ≡ false
+      go false h = refl
+      go true h = absurd (omega (arith, ap {B = ℕ} (λ (o : Option (List ℕ)). Option·getD (Option·map (λ (c : List ℕ). 1) o) 0) (sym (code-nearest h) ∙ e)))
 
 pub restored-length : (w : List ℕ) → length w ≡ 2040 → length (innerRestored w) ≡ 2040
 unfolding innerRestored
@@ -48,100 +63,164 @@ restored-length w long = go (nearest isInner 2 8 w) refl
     go none e = long
     go (some c) e = codes .inner-nearest .sound w c long e .0
 
--- a word that is not among those that are wrong is a code word
-pub right-stays : (block : List ℕ) (k x : ℕ) → bitOf 64 x k ≡ cond (isInner (innerWord (bitAt block) k)) 0 1 → (bitAnd (x / 2 ^ (63 - k)) 1 ≡ 1 → ⊥) → k < 64 →
-    WordCorrected k block block true
-right-stays block k x e n l =
-    let v = innerWord (bitAt block) k in
-    let none : bitOf 64 x k ≡ 0 = omega (arith, masked-bit 64 x k (63 - k) (omega arith), bitOf-lt 64 x k) in
-    let code : isInner v ≡ true = wrong-not (isInner v) (sym e ∙ none) in
-    record {
-      put = record {
-        long = refl;
-        inside = λ p b. sym (place-to-bit (bitAt block) k p b) ∙ ap (λ (w : List ℕ). at w p) (sym (restored-code v code));
-        others = λ i b q. refl;
-      };
-      code = λ t. code;
-    }
+pub nearer-self : (w : List ℕ) → WordNearer w w
+nearer-self w = record { same = refl; kept = λ e. refl }
 
--- and one that is among them has its bit set
+-- ---- one inner word of a block
+
+-- 1 for an inner word that is no code word
+abbrev pub wrongAt : List ℕ → ℕ → ℕ
+wrongAt block k = cond (isInner (innerWord (bitAt block) k)) 0 1
+
+-- bits that change outside inner word k leave the other inner words
+pub word-other : (before after : List ℕ) (k : ℕ) → ((i : ℕ) → i < 130560 → (i % 64 ≡ k → ⊥) → bitAt after i ≡ bitAt before i) → (j : ℕ) → j < 64 → (j ≡ k → ⊥) →
+    innerWord (bitAt after) j ≡ innerWord (bitAt before) j
+unfolding innerWord
+word-other before after k others j h n = tabulate-same 2040 _ _ (λ p l. others (64 * p + j) (omega arith) (λ e. n (omega arith)))
+
+pub word-stays : {P : List ℕ → List ℕ → Type 0} {block : List ℕ} {k bit : ℕ} → bit ≡ wrongAt block k → P (innerWord (bitAt block) k) (innerWord (bitAt block) k) →
+    OneWord P k block block bit
+word-stays told p = record { long = refl; told = told; word = p; others = λ j h n. refl }
+
+-- the bit of inner word k among those that are wrong is set, or is not
 pub wrong-set : (k x : ℕ) → bitAnd (x / 2 ^ (63 - k)) 1 ≡ 1 → k < 64 → bitOf 64 x k ≡ 1
 wrong-set k x e l = sym (masked-bit 64 x k (63 - k) (omega arith)) ∙ e
 
--- ---- the inner words one after the other
+wrong-unset : (k x : ℕ) → (bitAnd (x / 2 ^ (63 - k)) 1 ≡ 1 → ⊥) → k < 64 → bitOf 64 x k ≡ 0
+wrong-unset k x n l = omega (arith, masked-bit 64 x k (63 - k) (omega arith), bitOf-lt 64 x k)
 
--- the invariant: the first k inner words are restored, the others as they were; `all` only if the first k are code words
-pub record Passing (before : List ℕ) (k : ℕ) (all : Bool) (after : List ℕ) : Type 0 where
-  pub within : k ≤ 64
-  pub long : length after ≡ length before
-  pub done : (i : ℕ) → i < 130560 → i % 64 < k → bitAt after i ≡ innerPass (bitAt before) i
-  pub ahead : (i : ℕ) → i < 130560 → k ≤ i % 64 → bitAt after i ≡ bitAt before i
-  pub codes : all ≡ true → (j : ℕ) → j < k → isInner (innerWord (bitAt after) j) ≡ true
+module _ (block : List ℕ) (k x : ℕ) (told : bitOf 64 x k ≡ wrongAt block k) (l : k < 64) where
+  abbrev w : List ℕ
+  w = innerWord (bitAt block) k
 
-pub passing-start : {before : List ℕ} → Passing before 0 true before
-passing-start =
+  pub wrong-residues : (residues : List ℕ) → (bitOf 64 x k ≡ 1 → WordResidues residues k block) → bitAnd (x / 2 ^ (63 - k)) 1 ≡ 1 → WordResidues residues k block
+  wrong-residues residues R e = R (wrong-set k x e l)
+
+  pub wrong-stays : bitAnd (x / 2 ^ (63 - k)) 1 ≡ 1 → (after : List ℕ) (r : Bool) → (r ≡ false → after ≡ block) → r ≡ false → OneWord WordNearer k block after 1
+  wrong-stays e after r same f = rw (same f) (word-stays (sym (wrong-set k x e l) ∙ told) (nearer-self w))
+
+  -- a word that is not among those that are wrong is a code word
+  module _ (n : bitAnd (x / 2 ^ (63 - k)) 1 ≡ 1 → ⊥) where
+    right : 0 ≡ wrongAt block k
+    right = sym (wrong-unset k x n l) ∙ told
+
+    pub right-nearer : OneWord WordNearer k block block 0
+    right-nearer = word-stays right (nearer-self w)
+
+    pub right-restored : OneWord WordRestored k block block 0
+    right-restored = word-stays right (record { is = sym (restored-code w (wrong-not (isInner w) (sym right))) })
+
+-- an inner word that is restored to a code word has come nearer
+pub restored-nearer : (k : ℕ) (before after : List ℕ) (r : Bool) → (r ≡ true → OneWord WordRestored k before after 0) → r ≡ true → OneWord WordNearer k before after 0
+restored-nearer k before after r corrected t =
+    let o = corrected t in
+    let v = innerWord (bitAt after) k in
+    let code : isInner v ≡ true = wrong-not (isInner v) (sym (o .told)) in
     record {
-      within = zero-le;
-      long = refl;
-      done = λ i b h. absurd (not-suc-le-zero h);
-      ahead = λ i b h. refl;
-      codes = λ t j h. absurd (not-suc-le-zero h);
+      long = o .long;
+      told = o .told;
+      word = record {
+        same = restored-code v code ∙ o .word .is;
+        kept = λ e. absurd (omega (arith, ap {B = ℕ} (λ (t : Bool). cond t 0 1) (sym code ∙ e)));
+      };
+      others = o .others;
     }
 
--- an inner word that is not written stays
-pub word-other : {k : ℕ} {c : ℕ → ℕ} {before after : List ℕ} → WordPut k c before after → (j : ℕ) → j < 64 → (j ≡ k → ⊥) →
-    innerWord (bitAt after) j ≡ innerWord (bitAt before) j
-unfolding innerWord
-word-other put j h n = tabulate-same 2040 _ _ (λ p l. put .others (64 * p + j) (omega arith) (λ e. n (omega arith)))
+-- ---- the inner words one after the other
 
-module _ {before after : List ℕ} {k : ℕ} {all : Bool} (s : Passing before k all after) where
-  pub word-same : k < 64 → innerWord (bitAt after) k ≡ innerWord (bitAt before) k
-  unfolding innerWord
-  word-same h = tabulate-same 2040 _ _ (λ p l. s .ahead (64 * p + k) (omega arith) (omega arith))
+-- the invariant: the first k inner words stand to what they were as P says, the others are as they were; `left` has a 1 for those of the first k that are no
+-- code words
+pub record Going (P : List ℕ → List ℕ → Type 0) (before : List ℕ) (k left : ℕ) (after : List ℕ) : Type 0 where
+  pub within : k ≤ 64
+  pub long : length after ≡ length before
+  pub value : left ≡ numberOf k (wrongAt after)
+  pub done : (j : ℕ) → j < k → P (innerWord (bitAt before) j) (innerWord (bitAt after) j)
+  pub ahead : (j : ℕ) → k ≤ j → j < 64 → innerWord (bitAt after) j ≡ innerWord (bitAt before) j
 
-  -- the wrong words were found before the pass
-  pub passing-wrong : {x : ℕ} → x ≡ wrongWords (bitAt before) → k < 64 → bitOf 64 x k ≡ cond (isInner (innerWord (bitAt after) k)) 0 1
-  passing-wrong e h = rw (e, word-same h) (wrong-bit (bitAt before) k h)
+module _ {P : List ℕ → List ℕ → Type 0} where
+  pub going-start : {before : List ℕ} → Going P before 0 0 before
+  unfolding numberOf
+  going-start =
+      record { within = zero-le; long = refl; value = refl; done = λ j h. absurd (not-suc-le-zero h); ahead = λ j l h. refl }
 
-  pub passing-next : {next : List ℕ} {r t : Bool} → k < 64 → WordCorrected k after next r → t ≡ (all && r) → Passing before (k + 1) t next
-  unfolding innerPass
-  passing-next {next} {r} {t} h w e =
-      record {
-        within = omega arith;
-        long = w .put .long ∙ s .long;
-        done = λ i b l. here i b l (ℕ-discrete (i % 64) k);
-        ahead = λ i b l. w .put .others i b (λ e. omega arith) ∙ s .ahead i b (omega arith);
-        codes = λ q j l. code (and-eq-true-iff all r .0 (sym e ∙ q)) j l (ℕ-discrete j k);
-      }
-    where
-      here : (i : ℕ) → i < 130560 → i % 64 < k + 1 → Dec (i % 64 ≡ k) → bitAt next i ≡ innerPass (bitAt before) i
-      here i b l (yes e) =
-          let q : i ≡ 64 * (i / 64) + k = omega arith in
-          ap (bitAt next) q ∙ w .put .inside (i / 64) (omega arith) ∙ rw (e, word-same h)
-      here i b l (no e) = w .put .others i b e ∙ s .done i b (omega arith)
+  module _ {before after : List ℕ} {k left : ℕ} (s : Going P before k left after) where
+    -- the wrong words were found before, and so were their residues
+    pub going-wrong : {x : ℕ} → x ≡ wrongWords (bitAt before) → k < 64 → bitOf 64 x k ≡ wrongAt after k
+    going-wrong e h = rw (e, s .ahead k (le-refl k) h) (wrong-bit (bitAt before) k h)
 
-      code : (all ≡ true) × (r ≡ true) → (j : ℕ) → j < k + 1 → Dec (j ≡ k) → isInner (innerWord (bitAt next) j) ≡ true
-      code q j l (yes e) = rw e (w .code (q .1))
-      code q j l (no n) = ap isInner (word-other (w .put) j (omega arith) n) ∙ s .codes (q .0) j (omega arith)
+    pub going-residues : {residues : List ℕ} (x : ℕ) → k < 64 → ((k : ℕ) → k < 64 → bitOf 64 x k ≡ 1 → WordResidues residues k before) → bitOf 64 x k ≡ 1 →
+        WordResidues residues k after
+    going-residues x h R set = residues-kept (s .ahead k (le-refl k) h) (R k h set)
 
-  pub passing-end : 64 ≤ k → InnerPassed before after
-  passing-end h = record { long = s .long; bits = λ i b. s .done i b (omega arith) }
+    going-lt : k < 64 → left < 2 ^ 63
+    going-lt l =
+        omega (arith, s .value, numberOf-lt (wrongAt after) (λ j. wrong-lt (isInner (innerWord (bitAt after) j))) k, pow-mono {i = k} {j = 63} (omega arith))
 
-  pub passing-codes : 64 ≤ k → all ≡ true → innerCodes (bitAt after) ≡ true
-  unfolding innerCodes
-  passing-codes h t = every-true 64 _ (λ j l. s .codes t j (omega arith))
+    pub going-twice : k < 64 → Fits w64 (2 * left)
+    going-twice l = record { fits = omega (arith, going-lt l) }
 
--- a block whose inner words are all code words is what the pass makes of it
-module _ (block : List ℕ) (x : ℕ) (told : x ≡ wrongWords (bitAt block)) (none : x ≡ 0) where
-  pub none-codes : innerCodes (bitAt block) ≡ true
-  none-codes = sym (none-wrong (bitAt block) x told) ∙ eq-eqb x 0 none
+    module _ {next : List ℕ} {bit : ℕ} (h : k < 64) (w : OneWord P k after next bit) where
+      pub going-fits : Fits w64 (2 * left + bit)
+      going-fits = record { fits = omega (arith, going-lt h, w .told, wrong-lt (isInner (innerWord (bitAt next) k))) }
 
-  pub none-passed : InnerPassed block block
-  unfolding innerPass innerCodes
-  none-passed =
-      record {
-        long = refl;
-        bits = λ i b.
-            let w = innerWord (bitAt block) (i % 64) in
-            bit-to-place (bitAt block) i b ∙ ap (λ (c : List ℕ). at c (i / 64)) (sym (restored-code w (every-at 64 _ none-codes (i % 64) (omega arith))));
-      }
+      pub going-next : Going P before (k + 1) (2 * left + bit) next
+      unfolding numberOf
+      going-next =
+          record {
+            within = omega arith;
+            long = w .long ∙ s .long;
+            value = rw (add-one) (ap₂ (λ (x y : ℕ). 2 * x + y)
+                (s .value ∙ numberOf-same k _ _ (λ j l. ap (λ (v : List ℕ). cond (isInner v) 0 1) (sym (w .others j (omega arith) (λ e. omega arith))))) (w .told));
+            done = λ j l. here j l (ℕ-discrete j k);
+            ahead = λ j l b. w .others j b (λ e. omega arith) ∙ s .ahead j (omega arith) b;
+          }
+        where
+          here : (j : ℕ) → j < k + 1 → Dec (j ≡ k) → P (innerWord (bitAt before) j) (innerWord (bitAt next) j)
+          here j l (yes e) = rw (e, ← s .ahead k (le-refl k) h) (w .word)
+          here j l (no n) = rw (w .others j (omega arith) n) (s .done j (omega arith))
+
+    pub going-left : 64 ≤ k → left ≡ wrongWords (bitAt after)
+    unfolding wrongWords
+    going-left h = let e : k ≡ 64 = omega (arith, s .within) in rw e at (s .value)
+
+    pub going-end : 64 ≤ k → EachWord P before after
+    going-end h = record { long = s .long; word = λ j l. s .done j (omega arith) }
+
+-- ---- one way after the other
+
+pub nearer-twice : (before mid after : List ℕ) → EachWord WordNearer before mid → EachWord WordNearer mid after → EachWord WordNearer before after
+nearer-twice before mid after m n =
+    record {
+      long = n .long ∙ m .long;
+      word = λ k l. record {
+        same = n .word k l .same ∙ m .word k l .same;
+        kept = λ e. let q = n .word k l .kept e in q ∙ m .word k l .kept (ap isInner (sym q) ∙ e);
+      };
+    }
+
+-- a word that is left wrong is as it was, and has the residues that it had
+pub left-residues : (residues before after : List ℕ) (x : ℕ) → EachWord WordNearer before after → x ≡ wrongWords (bitAt after) →
+    residues ≡ residuesOf before (5 + 11 * 185) → (k : ℕ) → k < 64 → bitOf 64 x k ≡ 1 → WordResidues residues k after
+left-residues residues before after x n told e k l q =
+    residues-kept (n .word k l .kept (wrong-no (isInner (innerWord (bitAt after) k)) (sym (wrong-bit (bitAt after) k l) ∙ rw told at q)))
+    (whole-residues residues before e k l)
+
+-- where no word is wrong each is restored
+pub none-restored : (block : List ℕ) (x : ℕ) → x ≡ wrongWords (bitAt block) → x ≡ 0 → EachWord WordRestored block block
+none-restored block x told e =
+    record {
+      long = refl;
+      word = λ k l.
+          let w = innerWord (bitAt block) k in
+          record { is = sym (restored-code w (wrong-not (isInner w) (sym (wrong-bit (bitAt block) k l) ∙ ap (λ (y : ℕ). bitOf 64 y k) (sym told ∙ e) ∙ bitOf-zero 64 k))) };
+    }
+
+pub pass-restored : (before after : List ℕ) → EachWord WordRestored before after → InnerPassed before after
+unfolding innerPass
+pass-restored before after r =
+    record { long = r .long; bits = λ i b. bit-to-place (bitAt after) i b ∙ ap (λ (w : List ℕ). at w (i / 64)) (r .word (i % 64) (omega arith) .is) }
+
+-- what has come nearer, and is restored then, is restored
+pub nearer-restored : (before mid after : List ℕ) → EachWord WordNearer before mid → EachWord WordRestored mid after → EachWord WordRestored before after
+nearer-restored before mid after n r =
+    record { long = r .long ∙ n .long; word = λ k l. record { is = r .word k l .is ∙ n .word k l .same } }

@@ -192,6 +192,10 @@ pub wrong-not : (t : Bool) → _≡_ {A = ℕ} (cond t 0 1) 0 → t ≡ true
 wrong-not true e = refl
 wrong-not false e = absurd (omega arith)
 
+pub wrong-no : (t : Bool) → _≡_ {A = ℕ} (cond t 0 1) 1 → t ≡ false
+wrong-no true e = absurd (omega arith)
+wrong-no false e = refl
+
 module _ (b : ℕ → ℕ) where
   pub wrong-bit : (k : ℕ) → k < 64 → bitOf 64 (wrongWords b) k ≡ cond (isInner (innerWord b k)) 0 1
   unfolding wrongWords

@@ -22,7 +22,7 @@ use Rattle.words.proofs.Codes.Horner.{horner-same, remainder-lt, valueOf-zero}
 use Rattle.words.proofs.Codes.LeastPolynomials.{factor-vanishes, none-lower, times-power-sum}
 use Rattle.words.proofs.Codes.InnerWords.{inner-is, inner-roots, remainder-value}
 use Rattle.words.proofs.Codes.InnerRoots.{inner-code}
-use Rattle.inner_words.specs.InnerResidues.{coefficient, wordResidue, residuesOf}
+use Rattle.inner_words.specs.InnerResidues.{coefficient, wordResidue, residuesOf, WordResidues}
 use Rattle.inner_words.specs.Passes.{wrongWords}
 use Rattle.inner_words.proofs.InterleavedBits.{inner-word-length, place-to-bit}
 use Rattle.inner_words.proofs.SideBySide.{orTo-bit, orTo-lt}
@@ -113,3 +113,21 @@ module _ (block : List ℕ) where
 
   pub words-wrong : (cells : List ℕ) (x : ℕ) → cells ≡ residuesOf block (5 + 11 * 185) → x ≡ orTo 88 (at cells) → x ≡ wrongWords (bitAt block)
   words-wrong cells x e h = h ∙ ap (λ (c : List ℕ). orTo 88 (at c)) e ∙ residues-wrong
+
+  pub words-right : (cells : List ℕ) (x : ℕ) → cells ≡ residuesOf block (5 + 11 * 185) → x ≡ orTo 88 (at cells) → x ≡ 0 → 0 ≡ wrongWords (bitAt block)
+  words-right cells x e h z = sym z ∙ words-wrong cells x e h
+
+-- ---- the residues of the words that are left
+
+residue-same : (b c : List ℕ) (j k : ℕ) → innerWord (bitAt b) k ≡ innerWord (bitAt c) k → wordResidue j b 2040 k ≡ wordResidue j c 2040 k
+unfolding wordResidue
+residue-same b c j k e =
+    horner-same _ _ _ 2040 (λ p l. sym (place-to-bit (bitAt b) k p l) ∙ ap (λ (w : List ℕ). at w p) e ∙ place-to-bit (bitAt c) k p l)
+
+pub whole-residues : (residues block : List ℕ) → residues ≡ residuesOf block (5 + 11 * 185) → (k : ℕ) → k < 64 → WordResidues residues k block
+whole-residues residues block e k l = record { each = λ c h. ap (λ (r : List ℕ). bitOf 64 (at r c) k) e ∙ residue-bit block 2040 k c l h }
+
+-- a word that is as it was has the residues that it had
+pub residues-kept : {residues before after : List ℕ} {k : ℕ} → innerWord (bitAt after) k ≡ innerWord (bitAt before) k → WordResidues residues k before → WordResidues residues k after
+residues-kept {residues} {before} {after} {k} same R =
+    record { each = λ c h. R .each c h ∙ ap (coefficient (c % 11)) (residue-same before after (c / 11) k (sym same)) }

@@ -35,12 +35,10 @@ use Rattle.words.proofs.Codes.InnerRoots.{inner-code}
 use Rattle.words.proofs.Codes.Proved.{codes}
 use Rattle.words.proofs.Decoding.InnerSyndromes.{value-powers}
 use Rattle.inner_words.specs.InnerResidues.{WordResidues, oddValue, isSingle}
-use Rattle.inner_words.specs.Passes.{wrongWords, WordCorrected, WordTried}
-use Rattle.inner_words.specs.Proposals.{Nearer}
+use Rattle.inner_words.specs.Passes.{WordRestored, OneWord}
 use Rattle.inner_words.proofs.InterleavedBits.{inner-word-length, place-to-bit}
-use Rattle.inner_words.proofs.InnerSteps.{wrong-lt, wrong-bit}
-use Rattle.inner_words.proofs.InnerPass.{restored-some, restored-code, restored-length, word-other, wrong-set}
-use Rattle.inner_words.proofs.WordErrors.{odd-value-word, residues-kept}
+use Rattle.inner_words.proofs.InnerPass.{restored-some, word-other}
+use Rattle.inner_words.proofs.WordErrors.{odd-value-word}
 
 -- ---- its values
 
@@ -194,120 +192,11 @@ module _ (block residues es : List ℕ) (k e : ℕ) (k-lt : k < 64) (long : leng
     unfolding innerWord
     word-is = sym (tabulate-is 2040 _ c 0 c-long (λ p l. sym (inside p l)))
 
-    pub single-corrected : WordCorrected k block next true
-    single-corrected =
+    pub single-restored : OneWord WordRestored k block next 0
+    single-restored =
         record {
-          put = record {
-            long = same;
-            inside = λ p l. inside p l ∙ ap (λ (w : List ℕ). at w p) (sym restored);
-            others = λ i l n. bits i (omega arith) ∙ rw (ne-eqb (64 * (2039 - e) + k) i (λ z. n (omega arith))) (xor-zero-r (bitAt block i));
-          };
-          code = λ z. ap isInner word-is ∙ c-code;
+          long = same;
+          told = rw (word-is, c-code);
+          word = record { is = word-is ∙ sym restored };
+          others = word-other block next k (λ i l n. bits i (omega arith) ∙ rw (ne-eqb (64 * (2039 - e) + k) i (λ z. n (omega arith))) (xor-zero-r (bitAt block i)));
         }
-
--- ---- one word after the other
-
-module _ (k : ℕ) (before after : List ℕ) where
-  pub tried-corrected : (r : Bool) → (r ≡ true → WordCorrected k before after true) → r ≡ true → WordTried k before after 0
-  unfolding innerWord
-  tried-corrected r corrected e =
-      let w = corrected e in
-      let v = innerRestored (innerWord (bitAt before) k) in
-      let code = w .code refl in
-      let here : innerWord (bitAt after) k ≡ v =
-      sym (tabulate-is 2040 _ v 0 (restored-length (innerWord (bitAt before) k) (inner-word-length (bitAt before) k)) (λ p l. sym (w .put .inside p l))) in
-      record {
-        long = w .put .long;
-        told = rw code;
-        word = restored-code (innerWord (bitAt after) k) code ∙ here;
-        kept = λ e. absurd (omega arith);
-        others = λ j h n. word-other (w .put) j h n;
-      }
-
-  module _ (x : ℕ) (told : bitOf 64 x k ≡ cond (isInner (innerWord (bitAt before) k)) 0 1) (l : k < 64) where
-    pub tried-left : bitAnd (x / 2 ^ (63 - k)) 1 ≡ 1 → (r : Bool) → (r ≡ false → after ≡ before) → r ≡ false → WordTried k before after 1
-    tried-left e r same f =
-        rw (same f) (record { long = refl; told = sym (wrong-set k x e l) ∙ told; word = refl; kept = λ q. refl; others = λ j h n. refl })
-
-    pub tried-right : (bitAnd (x / 2 ^ (63 - k)) 1 ≡ 1 → ⊥) → WordTried k before before 0
-    tried-right n =
-        record {
-          long = refl;
-          told = sym (omega (arith, masked-bit 64 x k (63 - k) (omega arith), bitOf-lt 64 x k)) ∙ told;
-          word = refl;
-          kept = λ q. refl;
-          others = λ j h n. refl;
-        }
-
--- 1 for an inner word that is no code word
-abbrev wrongAt : List ℕ → ℕ → ℕ
-wrongAt block j = cond (isInner (innerWord (bitAt block) j)) 0 1
-
--- the invariant: the first k inner words are tried, the others as they were
-pub record Trying (before : List ℕ) (k left : ℕ) (after : List ℕ) : Type 0 where
-  pub within : k ≤ 64
-  pub long : length after ≡ length before
-  pub value : left ≡ numberOf k (wrongAt after)
-  pub word : (j : ℕ) → j < 64 → innerRestored (innerWord (bitAt after) j) ≡ innerRestored (innerWord (bitAt before) j)
-  pub kept : (j : ℕ) → j < 64 → wrongAt after j ≡ 1 → innerWord (bitAt after) j ≡ innerWord (bitAt before) j
-  pub ahead : (j : ℕ) → k ≤ j → j < 64 → innerWord (bitAt after) j ≡ innerWord (bitAt before) j
-
-pub trying-start : {before : List ℕ} → Trying before 0 0 before
-unfolding numberOf
-trying-start =
-    record { within = zero-le; long = refl; value = refl; word = λ j h. refl; kept = λ j h e. refl; ahead = λ j l h. refl }
-
-module _ {before after : List ℕ} {k left : ℕ} (s : Trying before k left after) where
-  -- the wrong words were found before, and so were their residues
-  pub trying-wrong : {x : ℕ} → x ≡ wrongWords (bitAt before) → k < 64 → bitOf 64 x k ≡ wrongAt after k
-  trying-wrong e h = rw (e, s .ahead k (le-refl k) h) (wrong-bit (bitAt before) k h)
-
-  pub trying-residues : {residues : List ℕ} (x : ℕ) → k < 64 → ((k : ℕ) → k < 64 → bitOf 64 x k ≡ 1 → WordResidues residues k before) → bitOf 64 x k ≡ 1 →
-      WordResidues residues k after
-  trying-residues x h R set = residues-kept (s .ahead k (le-refl k) h) (R k h set)
-
-  trying-lt : k < 64 → left < 2 ^ 63
-  trying-lt l =
-      omega (arith, s .value, numberOf-lt (wrongAt after) (λ j. wrong-lt (isInner (innerWord (bitAt after) j))) k, pow-mono {i = k} {j = 63} (omega arith))
-
-  pub trying-twice : k < 64 → Fits w64 (2 * left)
-  trying-twice l = record { fits = omega (arith, trying-lt l) }
-
-  module _ {next : List ℕ} {bit : ℕ} (h : k < 64) (w : WordTried k after next bit) where
-    pub trying-fits : Fits w64 (2 * left + bit)
-    trying-fits = record { fits = omega (arith, trying-lt h, w .told, wrong-lt (isInner (innerWord (bitAt next) k))) }
-
-    pub trying-next : Trying before (k + 1) (2 * left + bit) next
-    unfolding numberOf
-    trying-next =
-        record {
-          within = omega arith;
-          long = w .long ∙ s .long;
-          value = rw (add-one) (ap₂ (λ (x y : ℕ). 2 * x + y)
-              (s .value ∙ numberOf-same k _ _ (λ j l. ap (λ (v : List ℕ). cond (isInner v) 0 1) (sym (w .others j (omega arith) (λ e. omega arith))))) (w .told));
-          word = λ j l. restored-at j l (ℕ-discrete j k);
-          kept = λ j l e. kept-at j l e (ℕ-discrete j k);
-          ahead = λ j l b. w .others j b (λ e. omega arith) ∙ s .ahead j (omega arith) b;
-        }
-      where
-        restored-at : (j : ℕ) → j < 64 → Dec (j ≡ k) → innerRestored (innerWord (bitAt next) j) ≡ innerRestored (innerWord (bitAt before) j)
-        restored-at j l (yes e) = rw e (w .word ∙ s .word k h)
-        restored-at j l (no n) = ap innerRestored (w .others j l n) ∙ s .word j l
-
-        kept-at : (j : ℕ) → j < 64 → wrongAt next j ≡ 1 → Dec (j ≡ k) → innerWord (bitAt next) j ≡ innerWord (bitAt before) j
-        kept-at j l q (yes e) = rw e (w .kept (w .told ∙ (rw e at q)) ∙ s .ahead k (le-refl k) h)
-        kept-at j l q (no n) =
-            let same = w .others j l n in
-            same ∙ s .kept j l (ap (λ (v : List ℕ). cond (isInner v) 0 1) (sym same) ∙ q)
-
-  pub trying-left : 64 ≤ k → left ≡ wrongWords (bitAt after)
-  unfolding wrongWords
-  trying-left h = let e : k ≡ 64 = omega (arith, s .within) in rw e at (s .value)
-
-  pub trying-end : 64 ≤ k → Nearer left before after
-  trying-end h =
-      record {
-        long = s .long;
-        word = s .word;
-        kept = λ j l e. s .kept j l (sym (ap (λ (x : ℕ). bitOf 64 x j) (trying-left h) ∙ wrong-bit (bitAt after) j l) ∙ e);
-      }

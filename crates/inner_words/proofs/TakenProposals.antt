@@ -32,12 +32,12 @@ use Rattle.words.proofs.Codes.ShiftedBits.{bitOf-sum}
 use Rattle.words.proofs.Codes.InnerWords.{inner-is}
 use Rattle.words.proofs.Codes.Proved.{codes}
 use Rattle.inner_words.specs.SideBySide.{placeAt, byteOf64}
-use Rattle.inner_words.specs.Passes.{wrongWords, InnerPassed}
-use Rattle.inner_words.specs.Proposals.{Flipped, flipCounts, overRadius, beyondRadius, ones, Nearer}
+use Rattle.inner_words.specs.Passes.{wrongWords, WordNearer, EachWord}
+use Rattle.inner_words.specs.Proposals.{Flipped, flipCounts, overRadius, beyondRadius, ones}
 use Rattle.inner_words.proofs.InterleavedBits.{inner-word-length}
 use Rattle.inner_words.proofs.SideBySide.{place-bit, bit-product, bit-or, all-ones}
 use Rattle.inner_words.proofs.InnerSteps.{wrong-lt, wrong-not, wrong-bit}
-use Rattle.inner_words.proofs.InnerPass.{restored-some, restored-code, none-passed}
+use Rattle.inner_words.proofs.InnerPass.{restored-some, restored-code}
 use Rattle.inner_words.proofs.Counts.{onesUpTo, Counting, bit-is}
 
 -- ---- one place of every inner word, written
@@ -327,18 +327,25 @@ module _ (before mid last flips counts : List ℕ) (wrong now m : ℕ) (told : w
         ∙ ap (λ (x : ℕ). bitOf 64 x k) told ∙ wrong-bit (bitAt before) k l ∙ ap (λ (x : List ℕ). cond (isInner x) 0 1) (sym (kept e))
     left (suc (suc x)) e h = absurd (omega arith)
 
+    wrong-kept : isInner (innerWord (bitAt last) k) ≡ false → (x : ℕ) → bitOf 64 back k ≡ x → x < 2 → innerWord (bitAt last) k ≡ w
+    wrong-kept q zero e h = absurd (omega (arith, ap {B = ℕ} (λ (t : Bool). cond t 0 1) (sym (ap isInner (taken e) ∙ code e) ∙ q)))
+    wrong-kept q (suc zero) e h = kept e
+    wrong-kept q (suc (suc x)) e h = absurd (omega arith)
+
   pub taken-left : bitAnd wrong back ≡ wrongWords (bitAt last)
   unfolding wrongWords
   taken-left =
       sym (numberOf-bits 64 (bitAnd wrong back) (omega (arith, and-le-l wrong back, told, wrong-below (bitAt before))))
       ∙ numberOf-same 64 _ _ (λ k l. left k l (bitOf 64 back k) refl (bitOf-lt 64 back k))
 
-  pub taken-nearer : Nearer (bitAnd wrong back) before last
+  pub taken-nearer : EachWord WordNearer before last
   taken-nearer =
       record {
         long = g .long ∙ f .long;
-        word = λ k l. restored k l (bitOf 64 back k) refl (bitOf-lt 64 back k);
-        kept = λ k l e. kept k l (scaled-one (bitOf 64 wrong k) (bitOf 64 back k) (bitOf-lt 64 back k) (sym (bit-product 64 k wrong back) ∙ e));
+        word = λ k l. record {
+          same = restored k l (bitOf 64 back k) refl (bitOf-lt 64 back k);
+          kept = λ e. wrong-kept k l e (bitOf 64 back k) refl (bitOf-lt 64 back k);
+        };
       }
 
 -- the same where nothing is to be inverted back
@@ -354,22 +361,5 @@ module _ (before mid flips counts : List ℕ) (wrong now m : ℕ) (told : wrong 
   pub all-left : 0 ≡ wrongWords (bitAt mid)
   all-left = none-left ∙ taken-left before mid mid flips counts wrong now m told f en ec em none-flipped
 
-  pub all-nearer : Nearer 0 before mid
-  all-nearer = rw none-left (taken-nearer before mid mid flips counts wrong now m told f en ec em none-flipped)
-
--- what is left wrong was wrong before
-pub nearer-wrong : (x y : ℕ) (before after : List ℕ) → x ≡ wrongWords (bitAt before) → Nearer y before after → y ≡ wrongWords (bitAt after) →
-    (k : ℕ) → k < 64 → bitOf 64 y k ≡ 1 → bitOf 64 x k ≡ 1
-nearer-wrong x y before after told m still k l e =
-    ap (λ (z : ℕ). bitOf 64 z k) told ∙ wrong-bit (bitAt before) k l ∙ ap (λ (w : List ℕ). cond (isInner w) 0 1) (sym (m .kept k l e))
-    ∙ sym (wrong-bit (bitAt after) k l) ∙ ap (λ (z : ℕ). bitOf 64 z k) (sym still) ∙ e
-
--- the inner pass may go on from there
-pub nearer-passed : (left : ℕ) (before mid after : List ℕ) → Nearer left before mid → InnerPassed mid after → InnerPassed before after
-unfolding innerPass
-nearer-passed left before mid after n p =
-    record { long = p .long ∙ n .long; bits = λ i b. p .bits i b ∙ ap (λ (w : List ℕ). at w (i / 64)) (n .word (i % 64) (omega arith)) }
-
--- a proposal that leaves no wrong word is the pass
-pub nearer-done : (before after : List ℕ) (x : ℕ) → Nearer x before after → x ≡ wrongWords (bitAt after) → x ≡ 0 → InnerPassed before after
-nearer-done before after x n told e = nearer-passed x before after after n (none-passed after x told e)
+  pub all-nearer : EachWord WordNearer before mid
+  all-nearer = taken-nearer before mid mid flips counts wrong now m told f en ec em none-flipped

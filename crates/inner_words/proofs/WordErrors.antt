@@ -39,12 +39,10 @@ use Rattle.words.proofs.Codes.Proved.{codes}
 use Rattle.words.proofs.Decoding.InnerSyndromes.{value-powers, odd-value-b}
 use Rattle.words.proofs.Decoding.Inner.{flip-at, inner-found, inner-lost}
 use Rattle.inner_words.specs.InnerResidues.{coefficient, wordResidue, residuesOf, WordResidues, oddValue}
-use Rattle.inner_words.specs.Passes.{wrongWords, WordCorrected}
-use Rattle.inner_words.specs.Proposals.{Nearer}
+use Rattle.inner_words.specs.Passes.{WordRestored, OneWord}
 use Rattle.inner_words.proofs.InterleavedBits.{inner-word-length, place-to-bit}
-use Rattle.inner_words.proofs.ResidueCodes.{residue-bit, residue-value, residue-lt}
-use Rattle.inner_words.proofs.InnerPass.{restored-none, restored-some, Passing, word-same, wrong-set}
-use Rattle.inner_words.proofs.TakenProposals.{nearer-wrong}
+use Rattle.inner_words.proofs.ResidueCodes.{residue-value, residue-lt}
+use Rattle.inner_words.proofs.InnerPass.{restored-none, restored-some, lost-wrong, word-stays, word-other}
 
 -- ---- a term of a value
 
@@ -180,19 +178,12 @@ module _ (block residues odd es : List ℕ) (k : ℕ) (k-lt : k < 64) (long : le
       record { found = rw e at E }
 
   -- without an explanation there is no code word within eight places
-  pub not-explained : not t ≡ true → WordCorrected k block block false
+  pub not-explained : not t ≡ true → OneWord WordRestored k block block 1
   not-explained n =
       let fails : explains powersB places values count left ≡ false = rw (← exp, ← et) (not-true t n) in
-      let none = rw (word-bits block k) at (inner-lost (wordBytes block k) (word-length block k) places values count left found fails) in
-      let same = restored-none (innerWord (bitAt block) k) none in
-      record {
-        put = record {
-          long = refl;
-          inside = λ p b. sym (place-to-bit (bitAt block) k p b) ∙ ap (λ (w : List ℕ). at w p) (sym same);
-          others = λ i b q. refl;
-        };
-        code = λ q. absurd (omega (arith, ap {B = ℕ} (λ (x : Bool). cond x 1 0) q));
-      }
+      let w = innerWord (bitAt block) k in
+      let lost = rw (word-bits block k) at (inner-lost (wordBytes block k) (word-length block k) places values count left found fails) in
+      word-stays (rw (lost-wrong w lost)) (record { is = sym (restored-none w lost) })
 
   -- with one, the word with its places inverted is that code word
   module _ (y : not t ≡ false) (next : List ℕ) (same : length next ≡ length block)
@@ -221,47 +212,12 @@ module _ (block residues odd es : List ℕ) (k : ℕ) (k-lt : k < 64) (long : le
         let s = codes .inner-nearest .sound (innerWord (bitAt block) k) c (inner-word-length (bitAt block) k) near in
         sym (tabulate-is 2040 _ c 0 (s .0) (λ p l. sym (inside p l)))
 
-    pub word-explained : WordCorrected k block next true
+    pub word-explained : OneWord WordRestored k block next 0
     word-explained =
         record {
-          put = record {
-            long = same;
-            inside = λ p l. inside p l ∙ ap (λ (w : List ℕ). at w p) (sym restored);
-            others = λ i l q. bits i (omega arith) ∙ ap (xor (bitAt block i)) (inverted-outside places values k k-lt count i q) ∙ xor-zero-r (bitAt block i);
-          };
-          code = λ q. ap isInner word-is ∙ codes .inner-nearest .sound (innerWord (bitAt block) k) c (inner-word-length (bitAt block) k) near .1;
+          long = same;
+          told = rw (word-is, codes .inner-nearest .sound (innerWord (bitAt block) k) c (inner-word-length (bitAt block) k) near .1);
+          word = record { is = word-is ∙ sym restored };
+          others = word-other block next k
+              (λ i l q. bits i (omega arith) ∙ ap (xor (bitAt block i)) (inverted-outside places values k k-lt count i q) ∙ xor-zero-r (bitAt block i));
         }
-
--- ---- the residues of the words that are left
-
-residue-same : (b c : List ℕ) (j k : ℕ) → innerWord (bitAt b) k ≡ innerWord (bitAt c) k → wordResidue j b 2040 k ≡ wordResidue j c 2040 k
-unfolding wordResidue
-residue-same b c j k e =
-    horner-same _ _ _ 2040 (λ p l. sym (place-to-bit (bitAt b) k p l) ∙ ap (λ (w : List ℕ). at w p) e ∙ place-to-bit (bitAt c) k p l)
-
-pub whole-residues : (residues block : List ℕ) → residues ≡ residuesOf block (5 + 11 * 185) → (k : ℕ) → k < 64 → WordResidues residues k block
-whole-residues residues block e k l = record { each = λ c h. ap (λ (r : List ℕ). bitOf 64 (at r c) k) e ∙ residue-bit block 2040 k c l h }
-
--- a word that is as it was has the residues that it had
-pub residues-kept : {residues before after : List ℕ} {k : ℕ} → innerWord (bitAt after) k ≡ innerWord (bitAt before) k → WordResidues residues k before → WordResidues residues k after
-residues-kept {residues} {before} {after} {k} same R =
-    record { each = λ c h. R .each c h ∙ ap (coefficient (c % 11)) (residue-same before after (c / 11) k (sym same)) }
-
-pub left-residues : (residues before mid : List ℕ) (left : ℕ) → residues ≡ residuesOf before (5 + 11 * 185) → Nearer left before mid →
-    (k : ℕ) → k < 64 → bitOf 64 left k ≡ 1 → WordResidues residues k mid
-left-residues residues before mid left e n k l q =
-    residues-kept (n .kept k l q) (whole-residues residues before e k l)
-
-pub rest-residues : (residues before after : List ℕ) (x y : ℕ) → ((k : ℕ) → k < 64 → bitOf 64 x k ≡ 1 → WordResidues residues k before) → x ≡ wrongWords (bitAt before) →
-    Nearer y before after → y ≡ wrongWords (bitAt after) → (k : ℕ) → k < 64 → bitOf 64 y k ≡ 1 → WordResidues residues k after
-rest-residues residues before after x y R told m still k l e = residues-kept (m .kept k l e) (R k l (nearer-wrong x y before after told m still k l e))
-
--- a pass does not change the words ahead of it
-pub left-ahead : (residues before after : List ℕ) (k x : ℕ) (all : Bool) → Passing before k all after → k < 64 →
-    ((k : ℕ) → k < 64 → bitOf 64 x k ≡ 1 → WordResidues residues k before) → bitOf 64 x k ≡ 1 → WordResidues residues k after
-left-ahead residues before after k x all s l R q = residues-kept (word-same s l) (R k l q)
-
--- the residues of a word that its bit tells to be wrong
-pub wrong-residues : (residues block : List ℕ) (k x : ℕ) → (bitOf 64 x k ≡ 1 → WordResidues residues k block) → bitAnd (x / 2 ^ (63 - k)) 1 ≡ 1 → k < 64 →
-    WordResidues residues k block
-wrong-residues residues block k x R e l = R (wrong-set k x e l)

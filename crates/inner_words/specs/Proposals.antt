@@ -10,7 +10,6 @@ use Rattle.fields.specs.Lists.{tabulate}
 use Rattle.fields.specs.Elements.{xor}
 use Rattle.fields.specs.Places.{at, sumTo}
 use Rattle.words.specs.Bits.{bitOf, numberOf, bitAt}
-use Rattle.words.specs.InnerWords.{innerWord, innerRestored}
 
 -- the places of the proposal are inverted in the inner words that the mask has a 1 for
 pub record Flipped (flips : List ℕ) (mask : ℕ) (before after : List ℕ) : Type 0 where
@@ -31,9 +30,3 @@ beyondRadius counts = numberOf 64 (λ k. overRadius (at counts k))
 -- how many of 64 bits are 1
 unfoldable pub ones : ℕ → ℕ
 ones x = sumTo 64 (bitOf 64 x)
-
--- inner words may have become code words within eight places: what they are restored to is the same. Those that `left` has a 1 for are as they were
-pub record Nearer (left : ℕ) (before after : List ℕ) : Type 0 where
-  pub long : length after ≡ length before
-  pub word : (k : ℕ) → k < 64 → innerRestored (innerWord (bitAt after) k) ≡ innerRestored (innerWord (bitAt before) k)
-  pub kept : (k : ℕ) → k < 64 → bitOf 64 left k ≡ 1 → innerWord (bitAt after) k ≡ innerWord (bitAt before) k

@@ -4,15 +4,11 @@
 // others one by one (module one_by_one).
 use words::Inner;
 ghost use mathlib.Core.Path.{_≡_};
-ghost use mathlib.Core.Bool.{true};
-ghost use Prim.Native.Nat.{ℕ, _<_};
 ghost use lib.ListN.{length};
-ghost use Rattle.fields.specs.Elements.{powersB, exponentsB};
 ghost use Rattle.fields.specs.Buffers.{Placed};
-ghost use Rattle.words.specs.Bits.{bitOf, bitAt, bytesOf};
+ghost use Rattle.words.specs.Bits.{bitAt, bytesOf};
 ghost use Rattle.words.specs.InnerWords.{withParity};
 ghost use Rattle.inner_words.specs.SideBySide.{parities, parityBytes};
-ghost use Rattle.inner_words.specs.InnerResidues.{WordResidues};
 ghost use Rattle.inner_words.specs.Passes.{wrongWords, InnerPassed, innerCodes};
 
 mod odd_values;
@@ -91,45 +87,21 @@ pub fn blank() -> [u8; Interleaved::BYTES]
     [0; Interleaved::BYTES]
 }
 
-// The inner words of the block that are no code words, by their residues: many at once, and what is left one by one. True only if all inner words are code
-// words then.
-fn correct_rest(
-    exp: &[u16],
-    log: &[u16],
-    residues: &[u64; Inner::PARITY],
-    wrong: u64,
-    block: &mut [u8],
-) -> bool
-    requires { ⌜ (now exp ≡ powersB) × (now log ≡ exponentsB) ⌝ }
-    requires { ⌜ (length (now block) ≡ 16320) × (wrong ≡ wrongWords (bitAt (now block))) ⌝ }
-    requires { ⌜ ((k : ℕ) → k < 64 → bitOf 64 wrong k ≡ 1 → WordResidues (now residues) k (now block)) ⌝ }
-    ensures passed { λ _. ⌜ InnerPassed (now (block .entry)) (now (block .exit)) ⌝ }
-    ensures codes { λ r. ⌜ (r ≡ true → innerCodes (bitAt (now (block .exit))) ≡ true) ⌝ }
-{
-    let left = proposals::correct(residues, wrong, block);
-    if left == 0 {
-        return true;
-    }
-    one_by_one::correct_each(exp, log, residues, left, block)
-}
-
 // The inner pass over a copy of the received block: each inner word becomes the code word within eight places; where there is none it is left as received.
-// True only if all inner words are code words then.
-pub fn correct(block: &mut [u8]) -> bool
+// The answer is what is left wrong: bit k, the highest first, is 1 where word k is no code word.
+pub fn correct(block: &mut [u8]) -> u64
     requires { ⌜ length (now block) ≡ 16320 ⌝ }
     ensures passed { λ _. ⌜ InnerPassed (now (block .entry)) (now (block .exit)) ⌝ }
-    ensures codes { λ r. ⌜ (r ≡ true → innerCodes (bitAt (now (block .exit))) ≡ true) ⌝ }
+    ensures left { λ r. ⌜ r ≡ wrongWords (bitAt (now (block .exit))) ⌝ }
 {
     let residues = residues::residues(block, lanes::WORD_BLOCKS);
     let wrong = residues::wrong(&residues);
     if wrong == 0 {
-        return true;
+        return 0;
     }
     let exp = fields::exp_b();
     let log = fields::log_b();
-    let left = singles::correct_singles(&exp, &log, &residues, wrong, block);
-    if left == 0 {
-        return true;
-    }
-    correct_rest(&exp, &log, &residues, left, block)
+    let many = singles::correct_singles(&exp, &log, &residues, wrong, block);
+    let left = proposals::correct(&residues, many, block);
+    one_by_one::correct_each(&exp, &log, &residues, left, block)
 }

@@ -9,8 +9,8 @@ ghost use mathlib.Core.Path.{_≡_};
 ghost use Prim.Native.Nat.{_+_, _*_, _<_};
 ghost use lib.ListN.{length};
 ghost use Rattle.words.specs.Bits.{bitAt};
-ghost use Rattle.inner_words.specs.Passes.{wrongWords};
-ghost use Rattle.inner_words.specs.Proposals.{Flipped, flipCounts, overRadius, beyondRadius, ones, Nearer};
+ghost use Rattle.inner_words.specs.Passes.{wrongWords, WordNearer, EachWord};
+ghost use Rattle.inner_words.specs.Proposals.{Flipped, flipCounts, overRadius, beyondRadius, ones};
 
 // Inverts the places that `flips` has a 1 for, in the inner words that the mask has a 1 for.
 fn flip_places(flips: &[u64], mask: u64, block: &mut [u8])
@@ -64,7 +64,7 @@ fn flip_counts(flips: &[u64]) -> [u16; Interleaved::WORDS]
 fn take(wrong: u64, flips: &[u64], block: &mut [u8]) -> u64
     requires { ⌜ (length (now block) ≡ 16320) × (length (now flips) ≡ 2040) ⌝ }
     requires { ⌜ wrong ≡ wrongWords (bitAt (now block)) ⌝ }
-    ensures { λ r. ⌜ (r ≡ wrongWords (bitAt (now (block .exit)))) × Nearer r (now (block .entry)) (now (block .exit)) ⌝ }
+    ensures { λ r. ⌜ (r ≡ wrongWords (bitAt (now (block .exit)))) × EachWord WordNearer (now (block .entry)) (now (block .exit)) ⌝ }
 {
     flip_places(flips, side_by_side::ALL, block);
     let wrong_now = residues::wrong_words(block);
@@ -104,7 +104,7 @@ fn blank() -> [u64; Inner::PLACES]
 // answer.
 pub(crate) fn correct(residues: &[u64; Inner::PARITY], wrong: u64, block: &mut [u8]) -> u64
     requires { ⌜ (length (now block) ≡ 16320) × (wrong ≡ wrongWords (bitAt (now block))) ⌝ }
-    ensures { λ r. ⌜ (r ≡ wrongWords (bitAt (now (block .exit)))) × Nearer r (now (block .entry)) (now (block .exit)) ⌝ }
+    ensures { λ r. ⌜ (r ≡ wrongWords (bitAt (now (block .exit)))) × EachWord WordNearer (now (block .entry)) (now (block .exit)) ⌝ }
 {
     if ones(wrong) <= FEW {
         return wrong;

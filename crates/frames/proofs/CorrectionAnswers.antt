@@ -20,7 +20,7 @@ use Rattle.words.specs.Nearest.{nearest}
 use Rattle.words.specs.InnerWords.{withParity, innerPass}
 use Rattle.words.proofs.Bits.Numbers.{numberOf-same}
 use Rattle.inner_words.specs.Passes.{innerCodes, wrongWords, InnerPassed}
-use Rattle.inner_words.proofs.InnerSteps.{none-wrong}
+use Rattle.inner_words.proofs.Passes.WrongWords.{none-wrong}
 use Rattle.frames.specs.Frames.{symbolAt, dataIn, frameOfWords}
 use Rattle.frames.specs.Correction.{receivedBit, receivedSymbol, receivedWord, isPermitted, outerRestored, everyOf, outerPass, restoredFrame, reportOf, total}
 use Rattle.frames.specs.Answers.{Corrected, noCounts, refused, reported, frameCorrected, withoutReport}

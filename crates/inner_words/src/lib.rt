@@ -1,6 +1,6 @@
-// The 64 inner words of a frame, side by side: eight bytes are one place of them all, the bits of one number (module places). Their residues modulo the eight
+// The 64 inner words of a frame, bit-sliced: eight bytes are one place of them all, the bits of one number (module places). Their residues modulo the eight
 // factors of the divisor (module residues) give the parity bits (module parity), and tell which inner words of a block are no code words; of those the ones with
-// a single wrong place are corrected at sight (module singles), many others at once, as candidates that are tested (module proposals, over crate lanes), few
+// a single wrong place are corrected at sight (module singles), many others at once, as candidates that are tested (module candidates, over crate lanes), few
 // others one by one (module one_by_one).
 use words::Inner;
 ghost use mathlib.Core.Path.{_≡_};
@@ -8,15 +8,15 @@ ghost use lib.ListN.{length};
 ghost use Rattle.fields.specs.Buffers.{Placed};
 ghost use Rattle.words.specs.Bits.{bitAt, bytesOf};
 ghost use Rattle.words.specs.InnerWords.{withParity};
-ghost use Rattle.inner_words.specs.SideBySide.{parities, parityBytes};
+ghost use Rattle.inner_words.specs.BitSliced.{parityPlaces, parityBytes};
 ghost use Rattle.inner_words.specs.Passes.{wrongWords, InnerPassed, innerCodes};
 
-mod odd_values;
+mod candidates;
+mod odd_syndromes;
 mod one_by_one;
 mod parity;
-mod parity_rows;
+mod parity_matrix;
 pub mod places;
-mod proposals;
 mod residues;
 mod singles;
 
@@ -40,12 +40,12 @@ impl Interleaved {
 const PARITY_BYTES: usize = Interleaved::BYTES - Interleaved::DATA_BYTES;
 
 // What the parity places are to be, from the data places.
-fn parities(bytes: &[u8]) -> [u64; Inner::PARITY]
+fn parity_places(bytes: &[u8]) -> [u64; Inner::PARITY]
     requires { ⌜ length (now bytes) ≡ 16320 ⌝ }
-    ensures { λ r. ⌜ r ≡ parities (now (bytes .entry)) ⌝ }
+    ensures { λ r. ⌜ r ≡ parityPlaces (now (bytes .entry)) ⌝ }
 {
     let residues = residues::residues(bytes, residues::DATA_BLOCKS);
-    parity::parities(&residues)
+    parity::from_residues(&residues)
 }
 
 // Writes the parity places.
@@ -68,7 +68,7 @@ pub fn encode(out: &mut [u8])
     requires { ⌜ length (now out) ≡ 16320 ⌝ }
     ensures { λ _. ⌜ now (out .exit) ≡ bytesOf 16320 (withParity (bitAt (now (out .entry)))) ⌝ }
 {
-    let cells = parities(out);
+    let cells = parity_places(out);
     store(&cells, out);
 }
 
@@ -102,6 +102,6 @@ pub fn correct(block: &mut [u8]) -> u64
     let exp = fields::exp_b();
     let log = fields::log_b();
     let many = singles::correct_singles(&exp, &log, &residues, wrong, block);
-    let left = proposals::correct(&residues, many, block);
+    let left = candidates::correct(&residues, many, block);
     one_by_one::correct_each(&exp, &log, &residues, left, block)
 }

@@ -1,6 +1,6 @@
 // Inner words that are no code words, corrected one after the other by their residues.
 use crate::Interleaved;
-use crate::odd_values::odd_values;
+use crate::odd_syndromes::odd_syndromes;
 use decoding::decoder;
 use words::wrong_places;
 ghost use mathlib.Core.Path.{_≡_};
@@ -29,7 +29,7 @@ fn correct_word(
     ensures put { λ r. ⌜ OneWord WordRestored k (now (block .entry)) (now (block .exit)) r ⌝ }
     ensures rows { λ _. ⌜ Rows (now (exp .entry)) (now (rows .exit)) ⌝ }
 {
-    let e = wrong_places::errors_by_rows(exp, log, rows, odd_values(exp, residues, k));
+    let e = wrong_places::errors_by_rows(exp, log, rows, odd_syndromes(exp, residues, k));
     if !wrong_places::explains(exp, e) {
         return 1;
     }

@@ -1,4 +1,4 @@
-// The residues of the 64 inner words of a frame modulo the eight factors of the divisor, side by side: a number holds one coefficient of 64 residues. An
+// The residues of the 64 inner words of a frame modulo the eight factors of the divisor, bit-sliced: a number holds one coefficient of 64 residues. An
 // inner word is a code word just where all eight of its residues are zero, and the residues give its parity bits.
 use crate::Interleaved;
 use crate::places::byte;

@@ -1,6 +1,6 @@
 // Inner words with a single wrong place, corrected at sight by their residues.
 use crate::Interleaved;
-use crate::odd_values::odd_value;
+use crate::odd_syndromes::odd_syndrome;
 use decoding::symbols;
 use words::Inner;
 use words::wrong_places;
@@ -13,7 +13,7 @@ ghost use Rattle.fields.specs.ByTables.{tablePower};
 ghost use Rattle.words.specs.Bits.{bitOf, bitAt};
 ghost use Rattle.words.specs.InnerCode.{isInner};
 ghost use Rattle.words.specs.InnerWords.{innerWord};
-ghost use Rattle.inner_words.specs.InnerResidues.{WordResidues, oddValue, isSingle};
+ghost use Rattle.inner_words.specs.InnerResidues.{WordResidues, oddSyndrome, isSingle};
 ghost use Rattle.inner_words.specs.Passes.{wrongWords, WordRestored, WordNearer, OneWord, EachWord};
 
 // The order of a.
@@ -27,15 +27,15 @@ fn power(exp: &[u16], n: usize) -> u16
     exp[n % ORDER]
 }
 
-// Inner word k has the values of a single wrong place, whose locator is a^e, at a^3, .. a^15 too.
+// Inner word k has the odd syndromes of a single wrong place, whose locator is a^e, at a^3, .. a^15 too.
 fn is_single(exp: &[u16], residues: &[u64], k: usize, e: usize) -> bool
     requires { ⌜ (length (now exp) ≡ 2047) × (length (now residues) ≡ 88) × (k < 64) × (e < 2040) ⌝ }
-    requires { ⌜ oddValue (now exp) (now residues) k 0 ≡ tablePower (now exp) e ⌝ }
+    requires { ⌜ oddSyndrome (now exp) (now residues) k 0 ≡ tablePower (now exp) e ⌝ }
     ensures { λ r. ⌜ r ≡ isSingle (now (exp .entry)) (now (residues .entry)) k e ⌝ }
 {
     let mut j: usize = 1;
     while j < lanes::FACTORS {
-        if odd_value(exp, residues, k, j) != power(exp, (2 * j + 1) * e) {
+        if odd_syndrome(exp, residues, k, j) != power(exp, (2 * j + 1) * e) {
             return false;
         }
         j += 1;
@@ -50,7 +50,7 @@ fn correct_single(exp: &[u16], log: &[u16], residues: &[u64], k: usize, block: &
     ensures corrected { λ r. ⌜ (r ≡ true → OneWord WordRestored k (now (block .entry)) (now (block .exit)) 0) ⌝ }
     ensures left { λ r. ⌜ (r ≡ false → now (block .exit) ≡ now (block .entry)) ⌝ }
 {
-    let x = odd_value(exp, residues, k, 0);
+    let x = odd_syndrome(exp, residues, k, 0);
     let e = symbols::symbol(log, x as usize) as usize;
     if Inner::PLACES <= e {
         return false;
@@ -65,7 +65,7 @@ fn correct_single(exp: &[u16], log: &[u16], residues: &[u64], k: usize, block: &
     true
 }
 
-// The same where the word's bit of those that are wrong is 1. The answer is 1 for a word that is left wrong.
+// Inner word k is tried where its bit of those that are wrong is 1. The answer is 1 for a word that is left wrong.
 fn try_single(
     exp: &[u16],
     log: &[u16],

@@ -18,8 +18,8 @@ unfoldable pub powersValue : List ℕ → ℕ → ℕ → ℕ
 powersValue es r e = xorTo 88 (λ i. bitOf 88 r (87 - i) * tablePower es (e * i))
 
 -- its values at a, a^3, .. a^15; and such values w with those of the term c z^i added
-unfoldable pub oddValues : List ℕ → ℕ → List ℕ
-oddValues es r = tabulate 8 (λ j. powersValue es r (2 * j + 1))
+unfoldable pub oddSyndromes : List ℕ → ℕ → List ℕ
+oddSyndromes es r = tabulate 8 (λ j. powersValue es r (2 * j + 1))
 
 unfoldable pub plusTerm : List ℕ → List ℕ → ℕ → ℕ → List ℕ
 plusTerm es w c i = tabulate 8 (λ j. xor (at w j) (c * tablePower es ((2 * j + 1) * i)))
@@ -50,7 +50,7 @@ pub record ErrorsOf (w places values : List ℕ) (count : ℕ) (left : List ℕ)
 
 -- and of a word lent as bytes
 pub record InnerErrors (w places values : List ℕ) (count : ℕ) (left : List ℕ) : Type 0 where
-  pub found : ErrorsOf (oddValues powersB (remainder 88 divisor (bitAt w) 2040)) places values count left
+  pub found : ErrorsOf (oddSyndromes powersB (remainder 88 divisor (bitAt w) 2040)) places values count left
 
 -- what the errors invert of bit l of some bytes, where place i of the word stands at bit `step * i + first`
 unfoldable pub inverted : ℕ → ℕ → List ℕ → List ℕ → ℕ → ℕ → ℕ

@@ -2,7 +2,7 @@
 // remainder give the wrong places (module wrong_places), which are inverted.
 use crate::Inner;
 use crate::wrong_places;
-use crate::wrong_places::OddValues;
+use crate::wrong_places::OddSyndromes;
 use decoding::decoder;
 use decoding::decoder::Errors;
 use decoding::symbols;
@@ -16,7 +16,7 @@ ghost use Rattle.decoding.specs.Decoder.{withErrors};
 ghost use Rattle.words.specs.Bits.{bitAt, bitsOf, numberOf, bitOf, bytesOf};
 ghost use Rattle.words.specs.InnerCode.{valueOf, factors, divisor, remainder};
 ghost use Rattle.words.specs.Limbs.{number, Holds, residue, Residues};
-ghost use Rattle.words.specs.InnerDecoding.{oddValues, plusTerm, flips, InnerErrors};
+ghost use Rattle.words.specs.InnerDecoding.{oddSyndromes, plusTerm, flips, InnerErrors};
 
 // Coefficients below z^48, the low ones, stand in one number, the others in another.
 const LOW_BITS: usize = 48;
@@ -252,7 +252,7 @@ fn coefficient(v: Polynomial, k: usize) -> u16
 }
 
 // The values w with those of the term c z^i added. A product by the bit c, not a branch on it: coefficients cannot be predicted.
-fn plus_term(exp: &[u16], w: OddValues, c: u16, i: usize) -> OddValues
+fn plus_term(exp: &[u16], w: OddSyndromes, c: u16, i: usize) -> OddSyndromes
     requires { ⌜ (c < 2) × (i < 88) ⌝ }
     ensures { λ r. ⌜ r .at ≡ plusTerm (now (exp .entry)) (w .at) c i ⌝ }
 {
@@ -263,15 +263,15 @@ fn plus_term(exp: &[u16], w: OddValues, c: u16, i: usize) -> OddValues
         at[j] = symbols::sum(w.at[j], c * x);
         j += 1;
     }
-    OddValues { at }
+    OddSyndromes { at }
 }
 
 // The values of v, of degree below 88: at a^e the sum of a^(e i) over its coefficients i that are 1.
-fn odd_values(exp: &[u16], v: Polynomial) -> OddValues
+fn odd_syndromes(exp: &[u16], v: Polynomial) -> OddSyndromes
     requires { ⌜ v .low < 2 ^ 48 ⌝ }
-    ensures { λ r. ⌜ r .at ≡ oddValues (now (exp .entry)) (number (v .high) (v .low)) ⌝ }
+    ensures { λ r. ⌜ r .at ≡ oddSyndromes (now (exp .entry)) (number (v .high) (v .low)) ⌝ }
 {
-    let mut w = OddValues {
+    let mut w = OddSyndromes {
         at: [0u16; decoder::RADIUS],
     };
     let mut i: usize = 0;
@@ -287,7 +287,7 @@ pub(crate) fn errors(exp: &[u16], log: &[u16], word: &[u8]) -> Errors
     requires { ⌜ (now exp ≡ powersB) × (now log ≡ exponentsB) ⌝ }
     ensures { λ r. ⌜ InnerErrors (now (word .entry)) (r .places .at) (r .values) (r .places .count) (r .left) ⌝ }
 {
-    let odd = odd_values(exp, remainder(divisor(), word));
+    let odd = odd_syndromes(exp, remainder(divisor(), word));
     wrong_places::errors_of(exp, log, odd)
 }
 

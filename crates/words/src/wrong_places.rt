@@ -16,12 +16,12 @@ ghost use Rattle.words.specs.Bits.{bitAt};
 ghost use Rattle.words.specs.InnerDecoding.{Syndromes, isBit, isBinary, ErrorsOf, inverted, explains};
 
 // The values of a polynomial, or of a word, at a, a^3, .. a^15.
-pub struct OddValues {
+pub struct OddSyndromes {
     pub at: [u16; decoder::RADIUS],
 }
 
 // The values of a word at a, a^2, .. a^16, from those at the odd powers: at the even powers they are squares.
-fn syndromes(exp: &[u16], log: &[u16], odd: OddValues) -> [u16; decoder::SYNDROMES]
+fn syndromes(exp: &[u16], log: &[u16], odd: OddSyndromes) -> [u16; decoder::SYNDROMES]
     ensures { λ r. ⌜ Syndromes (now (exp .entry)) (now (log .entry)) (odd .at) 8 r ⌝ }
 {
     let mut t = [0u16; decoder::SYNDROMES];
@@ -60,7 +60,7 @@ fn is_binary(exp: &[u16], e: Errors) -> bool
 }
 
 // The errors in a word that has these values, which is a code word with at most eight places wrong only if they explain it.
-pub(crate) fn errors_of(exp: &[u16], log: &[u16], odd: OddValues) -> Errors
+pub(crate) fn errors_of(exp: &[u16], log: &[u16], odd: OddSyndromes) -> Errors
     requires { ⌜ (now exp ≡ powersB) × (now log ≡ exponentsB) ⌝ }
     ensures { λ r. ⌜ ErrorsOf (odd .at) (r .places .at) (r .values) (r .places .count) (r .left) ⌝ }
 {
@@ -69,7 +69,7 @@ pub(crate) fn errors_of(exp: &[u16], log: &[u16], odd: OddValues) -> Errors
 }
 
 // The same by rows of powers, which the caller lends from word to word.
-pub fn errors_by_rows(exp: &[u16], log: &[u16], rows: &mut [u16], odd: OddValues) -> Errors
+pub fn errors_by_rows(exp: &[u16], log: &[u16], rows: &mut [u16], odd: OddSyndromes) -> Errors
     requires { ⌜ (now exp ≡ powersB) × (now log ≡ exponentsB) × Rows (now exp) (now rows) ⌝ }
     ensures errors { λ r. ⌜ ErrorsOf (odd .at) (r .places .at) (r .values) (r .places .count) (r .left) ⌝ }
     ensures rows { λ _. ⌜ Rows (now (exp .entry)) (now (rows .exit)) ⌝ }

@@ -1,7 +1,7 @@
 -- `inner_words::correct` meets its contract. Assumes nothing.
 use borrow.Author.Needs.{needs}
-use Rattle.inner_words.proofs.ResidueCodes.{words-wrong, words-right, whole-residues}
-use Rattle.inner_words.proofs.InnerPass.{nearer-twice, left-residues, none-restored, nearer-restored, pass-restored}
+use Rattle.inner_words.proofs.Remainders.ResidueCodes.{words-wrong, words-right, whole-residues}
+use Rattle.inner_words.proofs.Passes.InnerPass.{nearer-twice, left-residues, none-restored, nearer-restored, pass-restored}
 use Rattle.inner_words.proofs.correct.Statement.{statement}
 use Rattle.inner_words.proofs.correct.Tie as tie
 

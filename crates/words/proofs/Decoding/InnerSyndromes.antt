@@ -25,7 +25,7 @@ use Rattle.decoding.proofs.Algebra.Tables.{lentOps, lent-laws, lent-powers, exp
 use Rattle.decoding.proofs.Decoding.Changes.{value-syndrome}
 use Rattle.words.specs.Bits.{bitOf}
 use Rattle.words.specs.InnerCode.{powerB, divisor, remainder}
-use Rattle.words.specs.InnerDecoding.{powersValue, oddValues, Syndromes, isBit}
+use Rattle.words.specs.InnerDecoding.{powersValue, oddSyndromes, Syndromes, isBit}
 use Rattle.words.proofs.Bits.Numbers.{bitOf-lt}
 use Rattle.words.proofs.Codes.Horner.{Additive, iter, iter-sum, horner-front}
 use Rattle.words.proofs.Codes.Lent.{product-same, horner-lent}
@@ -136,9 +136,9 @@ module _ (m p : ℕ) (F : Field m p) (e : ℕ) where
       shifted : (i : ℕ) → i < n → b (suc (n - suc i)) * power m p (e * i) ≡ b (suc n - suc i) * power m p (e * i)
       shifted i l = let q : suc (n - suc i) ≡ suc n - suc i = omega arith in rw q
 
-pub odd-value-b : (r j : ℕ) → j < 8 → at (oddValues powersB r) j ≡ value 11 2053 (powerB (2 * j + 1)) (bitOf 88 r) 88
-unfolding oddValues powersValue
-odd-value-b r j h = tabulate-at 8 _ j 0 h ∙ xorTo-same 88 _ _ same ∙ sym (value-powers 11 2053 field-b e (bitOf 88 r) (bitOf-lt 88 r) 88)
+pub odd-syndrome-b : (r j : ℕ) → j < 8 → at (oddSyndromes powersB r) j ≡ value 11 2053 (powerB (2 * j + 1)) (bitOf 88 r) 88
+unfolding oddSyndromes powersValue
+odd-syndrome-b r j h = tabulate-at 8 _ j 0 h ∙ xorTo-same 88 _ _ same ∙ sym (value-powers 11 2053 field-b e (bitOf 88 r) (bitOf-lt 88 r) 88)
   where
     e : ℕ
     e = 2 * j + 1
@@ -147,14 +147,14 @@ odd-value-b r j h = tabulate-at 8 _ j 0 h ∙ xorTo-same 88 _ _ same ∙ sym (va
     same i l = let q : 87 - i ≡ 88 - suc i = omega arith in rw (q, table-power 11 2053 field-b (e * i))
 
 -- the values computed from the remainder are those of the word
-module _ (b : ℕ → ℕ) (bits : (i : ℕ) → b i < 2) (t : List ℕ) (S : Syndromes powersB exponentsB (oddValues powersB (remainder 88 divisor b 2040)) 8 t) where
+module _ (b : ℕ → ℕ) (bits : (i : ℕ) → b i < 2) (t : List ℕ) (S : Syndromes powersB exponentsB (oddSyndromes powersB (remainder 88 divisor b 2040)) 8 t) where
   abbrev Known : ℕ → Type 0
   Known e = at t (e - 1) ≡ value 11 2053 (powerB e) b 2040
 
   known-odd : (j : ℕ) → j < 8 → Known (2 * j + 1)
   known-odd j h =
       let q : 2 * j + 1 - 1 ≡ 2 * j = omega arith in
-      rw q (S .odd j h ∙ odd-value-b (remainder 88 divisor b 2040) j h ∙ remainder-bits b bits 2040 j h)
+      rw q (S .odd j h ∙ odd-syndrome-b (remainder 88 divisor b 2040) j h ∙ remainder-bits b bits 2040 j h)
 
   known-twice : (e : ℕ) → 0 < e → e ≤ 8 → Known e → Known (e + e)
   known-twice e h l k =

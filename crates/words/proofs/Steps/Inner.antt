@@ -31,7 +31,7 @@ use Rattle.decoding.proofs.Algebra.Tables.{powers-length, tables-b}
 use Rattle.words.specs.Bits.{bitOf, bitAt, bitsOf}
 use Rattle.words.specs.InnerCode.{divisor, remainder}
 use Rattle.words.specs.Limbs.{number, Holds}
-use Rattle.words.specs.InnerDecoding.{powersValue, oddValues, plusTerm, Syndromes, isBit, isBinary, flips, ErrorsOf, InnerErrors, inverted, explains}
+use Rattle.words.specs.InnerDecoding.{powersValue, oddSyndromes, plusTerm, Syndromes, isBit, isBinary, flips, ErrorsOf, InnerErrors, inverted, explains}
 use Rattle.words.proofs.Decoding.Inner.{flip-at}
 
 -- coefficient k of 88, the highest first: where it is one of the 48 low ones, and where it is not
@@ -93,8 +93,8 @@ module _ (es : List ℕ) (r : ℕ) where
     odd-next c s ec e =
         rw (add-one, ← ec) (e ∙ tabulate-same 8 _ _ (λ j l. ap (λ (x : ℕ). xor x (c * tablePower es ((2 * j + 1) * i))) (ap (λ (v : List ℕ). at v j) so-far ∙ tabulate-at 8 _ j 0 l)))
 
-    pub odd-end : i ≤ 88 → 88 ≤ i → w ≡ oddValues es r
-    unfolding oddUpTo oddValues powersValue
+    pub odd-end : i ≤ 88 → 88 ≤ i → w ≡ oddSyndromes es r
+    unfolding oddUpTo oddSyndromes powersValue
     odd-end l h = let q : i ≡ 88 = omega arith in rw q at so-far
 
 -- the syndromes at a^(2i+1) and a^(2i+2), stored
@@ -182,7 +182,7 @@ module _ (es ls : List ℕ) (exp : es ≡ powersB) (log : ls ≡ exponentsB) whe
       record { t = t; syndromes = rw (exp, log) at S; decoded = rw (exp, log) at D; left-long = n }
 
   pub word-errors : (w : List ℕ) (h l : ℕ) (odd places values : List ℕ) (count : ℕ) (left : List ℕ) → Holds h l (remainder 88 divisor (bitAt w) 2040) →
-      odd ≡ oddValues es (number h l) → ErrorsOf odd places values count left → InnerErrors w places values count left
+      odd ≡ oddSyndromes es (number h l) → ErrorsOf odd places values count left → InnerErrors w places values count left
   word-errors w h l odd places values count left r e E = record { found = rw (e, exp, r .value) at E }
 
 module _ (es places values : List ℕ) (count : ℕ) (left : List ℕ) (t : Bool) (tested : t ≡ allBelow 1 left) where

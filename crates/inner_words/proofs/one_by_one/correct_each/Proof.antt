@@ -2,7 +2,7 @@
 use borrow.Author.Needs.{needs}
 use Rattle.decoding.specs.RowSearch.{Rows}
 use Rattle.inner_words.specs.Passes.{WordRestored}
-use Rattle.inner_words.proofs.InnerPass.{none-restored, Going, going-start, going-wrong, going-residues, going-twice, going-fits, going-next, going-left, going-end}
+use Rattle.inner_words.proofs.Passes.InnerPass.{none-restored, Going, going-start, going-wrong, going-residues, going-twice, going-fits, going-next, going-left, going-end}
 use Prim.Native.Nat.{_-_}
 use Rattle.inner_words.proofs.one_by_one.correct_each.Statement.{statement}
 use Rattle.inner_words.proofs.one_by_one.correct_each.Tie as tie

@@ -1,11 +1,11 @@
 -- `inner_words::one_by_one::correct_word` meets its contract. Assumes nothing.
 use borrow.Author.Needs.{needs}
-use Rattle.inner_words.proofs.WordErrors.{not-explained, word-explained}
+use Rattle.inner_words.proofs.Passes.WordErrors.{not-explained, word-explained}
 use Rattle.inner_words.proofs.one_by_one.correct_word.Statement.{statement}
 use Rattle.inner_words.proofs.one_by_one.correct_word.Tie as tie
 
-odd-values-requires : tie.Need-odd-values-requires
-odd-values-requires c κs = search needs
+odd-syndromes-requires : tie.Need-odd-syndromes-requires
+odd-syndromes-requires c κs = search needs
 
 errors-by-rows-requires : tie.Need-errors-by-rows-requires
 errors-by-rows-requires c κs = search needs
@@ -35,7 +35,7 @@ pub correct-word-spec : {M : Type 1} → statement M
 correct-word-spec =
     tie.close
     (tie.spec
-    odd-values-requires
+    odd-syndromes-requires
     errors-by-rows-requires
     explains-requires
     same-length

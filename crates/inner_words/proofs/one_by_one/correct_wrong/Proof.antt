@@ -1,6 +1,6 @@
 -- `inner_words::one_by_one::correct_wrong` meets its contract. Assumes nothing.
 use borrow.Author.Needs.{needs}
-use Rattle.inner_words.proofs.InnerPass.{wrong-residues, right-restored}
+use Rattle.inner_words.proofs.Passes.InnerPass.{wrong-residues, right-restored}
 use Rattle.inner_words.proofs.one_by_one.correct_wrong.Statement.{statement}
 use Rattle.inner_words.proofs.one_by_one.correct_wrong.Tie as tie
 

@@ -6,7 +6,7 @@ use lib.Dec.{lit<}
 use Rattle.lanes.specs.LaneSteps.{cells}
 use Rattle.words.specs.InnerCode.{factors}
 use Rattle.inner_words.specs.InnerResidues.{residueOf}
-use Rattle.inner_words.proofs.ResidueSteps.{place-first, place-inside, place-fits, block-within, block-fits, block-less, eleven-places, residue-start, residue-turn, residue-end}
+use Rattle.inner_words.proofs.Remainders.ResidueSteps.{place-first, place-inside, place-fits, block-within, block-fits, block-less, eleven-places, residue-start, residue-turn, residue-end}
 use Rattle.inner_words.proofs.residues.residue_6.Statement.{statement}
 use Rattle.inner_words.proofs.residues.residue_6.Tie as tie
 

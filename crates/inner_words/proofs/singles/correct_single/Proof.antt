@@ -1,11 +1,11 @@
 -- `inner_words::singles::correct_single` meets its contract. Assumes nothing.
 use borrow.Author.Needs.{needs}
-use Rattle.inner_words.proofs.SingleErrors.{untrue, unfalse, powers-are, value-given, single-restored}
+use Rattle.inner_words.proofs.Passes.SingleErrors.{untrue, unfalse, powers-are, value-given, single-restored}
 use Rattle.inner_words.proofs.singles.correct_single.Statement.{statement}
 use Rattle.inner_words.proofs.singles.correct_single.Tie as tie
 
-odd-value-requires : tie.Need-odd-value-requires
-odd-value-requires c κs = search needs
+odd-syndrome-requires : tie.Need-odd-syndrome-requires
+odd-syndrome-requires c κs = search needs
 
 cast-symbol : tie.Need-cast-symbol
 cast-symbol c = search needs
@@ -56,7 +56,7 @@ pub correct-single-spec : {M : Type 1} → statement M
 correct-single-spec =
     tie.close
     (tie.spec
-    odd-value-requires
+    odd-syndrome-requires
     cast-symbol
     symbol-requires
     cast-e

@@ -1,7 +1,7 @@
 -- `inner_words::singles::correct_singles` meets its contract. Assumes nothing.
 use borrow.Author.Needs.{needs}
 use Rattle.inner_words.specs.Passes.{WordNearer}
-use Rattle.inner_words.proofs.InnerPass.{Going, going-start, going-wrong, going-residues, going-twice, going-fits, going-next, going-left, going-end}
+use Rattle.inner_words.proofs.Passes.InnerPass.{Going, going-start, going-wrong, going-residues, going-twice, going-fits, going-next, going-left, going-end}
 use Prim.Native.Nat.{_-_}
 use Rattle.inner_words.proofs.singles.correct_singles.Statement.{statement}
 use Rattle.inner_words.proofs.singles.correct_singles.Tie as tie

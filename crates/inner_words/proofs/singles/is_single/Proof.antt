@@ -1,6 +1,6 @@
 -- `inner_words::singles::is_single` meets its contract. Assumes nothing.
 use borrow.Author.Needs.{needs}
-use Rattle.inner_words.proofs.SingleErrors.{singleUpTo, single-first, single-exponent, single-not, single-next, single-end}
+use Rattle.inner_words.proofs.Passes.SingleErrors.{singleUpTo, single-first, single-exponent, single-not, single-next, single-end}
 use mathlib.Core.Path.{_≡_}
 use mathlib.Core.Bool.{true}
 use Prim.Native.Nat.{_-_, _≤_}
@@ -16,8 +16,8 @@ abbrev μ-loop : tie.MeasureT-loop
 loop-holds : tie.Need-loop-holds Inv-loop μ-loop
 loop-holds c = search (needs, single-first)
 
-odd-value-requires : tie.Need-odd-value-requires Inv-loop μ-loop
-odd-value-requires c κs = search needs
+odd-syndrome-requires : tie.Need-odd-syndrome-requires Inv-loop μ-loop
+odd-syndrome-requires c κs = search needs
 
 mul-power : tie.Need-mul-power Inv-loop μ-loop
 mul-power c = search needs
@@ -53,7 +53,7 @@ is-single-spec =
     Inv-loop
     μ-loop
     loop-holds
-    odd-value-requires
+    odd-syndrome-requires
     mul-power
     add-power
     mul-power-2

@@ -1,6 +1,6 @@
 -- `inner_words::singles::try_single` meets its contract. Assumes nothing.
 use borrow.Author.Needs.{needs}
-use Rattle.inner_words.proofs.InnerPass.{wrong-residues, wrong-stays, right-nearer, restored-nearer}
+use Rattle.inner_words.proofs.Passes.InnerPass.{wrong-residues, wrong-stays, right-nearer, restored-nearer}
 use Rattle.inner_words.proofs.singles.try_single.Statement.{statement}
 use Rattle.inner_words.proofs.singles.try_single.Tie as tie
 

@@ -10,8 +10,8 @@ divisor-requires c κs = search needs
 remainder-requires : tie.Need-remainder-requires
 remainder-requires c κs = search needs
 
-odd-values-requires : tie.Need-odd-values-requires
-odd-values-requires c κs = search needs
+odd-syndromes-requires : tie.Need-odd-syndromes-requires
+odd-syndromes-requires c κs = search needs
 
 errors-of-requires : tie.Need-errors-of-requires
 errors-of-requires c κs = search needs
@@ -22,4 +22,4 @@ returns c = search (needs, word-errors)
 pub errors-spec : {M : Type 1} → statement M
 errors-spec =
     tie.close
-    (tie.spec divisor-requires remainder-requires odd-values-requires errors-of-requires returns)
+    (tie.spec divisor-requires remainder-requires odd-syndromes-requires errors-of-requires returns)

@@ -3,13 +3,15 @@ use mathlib.Core.Path.{_≡_}
 use mathlib.Core.Bool.{cond}
 use mathlib.Core.List.{List}
 use Prim.Native.Nat.{ℕ, _/_, _%_, _<_}
-use lib.Bits.{bitAnd}
+use lib.Bits.{bitAnd, bitOr}
 use lib.Dec.{ltb}
 use lib.ListN.{length}
 use Rattle.fields.specs.Lists.{tabulate}
 use Rattle.fields.specs.Elements.{xor}
 use Rattle.fields.specs.Places.{at, sumTo}
-use Rattle.words.specs.Bits.{bitOf, numberOf, bitAt}
+use Rattle.lanes.specs.LaneSteps.{orTo}
+use Rattle.words.specs.Bits.{bitOf, numberOf, bitAt, bytesOf}
+use Rattle.inner_words.specs.InnerResidues.{residuesOf, sumAt}
 
 -- the places of the candidates are inverted in the inner words that the mask has a 1 for
 pub record Flipped (flips : List ℕ) (mask : ℕ) (before after : List ℕ) : Type 0 where
@@ -26,6 +28,18 @@ overRadius count = cond (ltb 8 count) 1 0
 
 unfoldable pub tooMany : List ℕ → ℕ
 tooMany counts = numberOf 64 (λ k. overRadius (at counts k))
+
+-- the candidates as a block: a 1 in each place that is to be inverted
+unfoldable pub flipBit : List ℕ → ℕ → ℕ
+flipBit flips i = bitOf 64 (at flips (i / 64)) (i % 64)
+
+pub record AsBlock (flips block : List ℕ) : Type 0 where
+  pub long : length block ≡ 16320
+  pub bits : (i : ℕ) → i < 130560 → bitAt block i ≡ flipBit flips i
+
+-- 1 where a residue of the inner word plus that of its places is not zero, or more than eight places are to be inverted
+unfoldable pub failing : List ℕ → List ℕ → ℕ
+failing residues flips = bitOr (orTo 88 (sumAt residues (residuesOf (bytesOf 16320 (flipBit flips)) 2040))) (tooMany (flipCounts flips))
 
 -- how many of 64 bits are 1
 unfoldable pub ones : ℕ → ℕ

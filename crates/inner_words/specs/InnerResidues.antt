@@ -51,6 +51,10 @@ residueOf j bytes n = bitSliced 11 (λ k. wordResidue j bytes n (turned k))
 pub record WordResidues (residues : List ℕ) (k : ℕ) (block : List ℕ) : Type 0 where
   pub each : (c : ℕ) → c < 88 → bitOf 64 (at residues c) k ≡ coefficient (c % 11) (wordResidue (c / 11) block 2040 k)
 
+-- number c of two lists of residues, added
+unfoldable pub sumAt : List ℕ → List ℕ → ℕ → ℕ
+sumAt xs ys c = xor (at xs c) (at ys c)
+
 -- odd syndrome j of inner word k, its value at a^(2j+1), from its residue modulo factor j: the sum of a^((2j+1) i) over its coefficients i that are 1
 unfoldable pub oddSyndrome : List ℕ → List ℕ → ℕ → ℕ → ℕ
 oddSyndrome es residues k j = xorTo 11 (λ i. bitOf 64 (at residues (11 * j + i)) k * tablePower es ((2 * j + 1) * i))

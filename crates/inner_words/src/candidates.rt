@@ -6,11 +6,12 @@ use crate::residues;
 use lanes::side_by_side;
 use words::Inner;
 ghost use mathlib.Core.Path.{_≡_};
-ghost use Prim.Native.Nat.{_+_, _*_, _<_};
+ghost use Prim.Native.Nat.{ℕ, _+_, _*_, _<_};
 ghost use lib.ListN.{length};
-ghost use Rattle.words.specs.Bits.{bitAt};
+ghost use Rattle.words.specs.Bits.{bitOf, bitAt};
 ghost use Rattle.inner_words.specs.Passes.{wrongWords, WordNearer, EachWord};
-ghost use Rattle.inner_words.specs.Candidates.{Flipped, flipCounts, overRadius, tooMany, ones};
+ghost use Rattle.inner_words.specs.InnerResidues.{WordResidues};
+ghost use Rattle.inner_words.specs.Candidates.{Flipped, AsBlock, flipCounts, overRadius, tooMany, failing, ones};
 
 // Inverts the places that `flips` has a 1 for, in the inner words that the mask has a 1 for.
 fn flip_places(flips: &[u64], mask: u64, block: &mut [u8])
@@ -60,21 +61,41 @@ fn flip_counts(flips: &[u64]) -> [u16; Interleaved::WORDS]
     counts
 }
 
+// Writes the candidates as a block: a 1 in each place that is to be inverted.
+fn write_flips(flips: &[u64], out: &mut [u8])
+    requires { ⌜ (length (now flips) ≡ 2040) × (length (now out) ≡ 16320) ⌝ }
+    ensures { λ _. ⌜ AsBlock (now (flips .entry)) (now (out .exit)) ⌝ }
+{
+    let mut p: usize = 0;
+    while p < Inner::PLACES {
+        places::put_place(out, p, flips[p]);
+        p += 1;
+    }
+}
+
+// The inner words whose candidate fails, by their residues. Residues are linear: those of a word with places inverted are its own plus those of the word that
+// has a 1 in these places alone.
+fn failing(residues: &[u64], flips: &[u64]) -> u64
+    requires { ⌜ (length (now residues) ≡ 88) × (length (now flips) ≡ 2040) ⌝ }
+    ensures { λ r. ⌜ r ≡ failing (now (residues .entry)) (now (flips .entry)) ⌝ }
+{
+    let mut inverted = crate::blank();
+    write_flips(flips, &mut inverted);
+    let added = residues::residues(&inverted, lanes::WORD_BLOCKS);
+    let counts = flip_counts(flips);
+    residues::wrong_sums(residues, &added) | too_many(&counts)
+}
+
 // Takes the candidates in the block, where they hold; what is left as it was and is no code word is the answer, bit k, the highest first, for word k.
-fn take(wrong: u64, flips: &[u64], block: &mut [u8]) -> u64
-    requires { ⌜ (length (now block) ≡ 16320) × (length (now flips) ≡ 2040) ⌝ }
+fn take(residues: &[u64], wrong: u64, flips: &[u64], block: &mut [u8]) -> u64
+    requires { ⌜ (length (now residues) ≡ 88) × (length (now flips) ≡ 2040) × (length (now block) ≡ 16320) ⌝ }
     requires { ⌜ wrong ≡ wrongWords (bitAt (now block)) ⌝ }
+    requires { ⌜ ((k : ℕ) → k < 64 → bitOf 64 wrong k ≡ 1 → WordResidues (now residues) k (now block)) ⌝ }
     ensures { λ r. ⌜ (r ≡ wrongWords (bitAt (now (block .exit)))) × EachWord WordNearer (now (block .entry)) (now (block .exit)) ⌝ }
 {
-    flip_places(flips, side_by_side::ALL, block);
-    let wrong_now = residues::wrong_words(block);
-    let counts = flip_counts(flips);
-    let back = wrong_now | too_many(&counts);
-    if back == 0 {
-        return 0;
-    }
-    flip_places(flips, back, block);
-    wrong & back
+    let left = wrong & failing(residues, flips);
+    flip_places(flips, wrong ^ left, block);
+    left
 }
 
 // More wrong inner words than this are worth the search for candidates: for one it takes as long as for all.
@@ -104,6 +125,7 @@ fn blank() -> [u64; Inner::PLACES]
 // left are the answer.
 pub(crate) fn correct(residues: &[u64; Inner::PARITY], wrong: u64, block: &mut [u8]) -> u64
     requires { ⌜ (length (now block) ≡ 16320) × (wrong ≡ wrongWords (bitAt (now block))) ⌝ }
+    requires { ⌜ ((k : ℕ) → k < 64 → bitOf 64 wrong k ≡ 1 → WordResidues (now residues) k (now block)) ⌝ }
     ensures { λ r. ⌜ (r ≡ wrongWords (bitAt (now (block .exit)))) × EachWord WordNearer (now (block .entry)) (now (block .exit)) ⌝ }
 {
     if ones(wrong) <= FEW {
@@ -111,5 +133,5 @@ pub(crate) fn correct(residues: &[u64; Inner::PARITY], wrong: u64, block: &mut [
     }
     let mut flips = blank();
     side_by_side::propose(residues, wrong, &mut flips);
-    take(wrong, &flips, block)
+    take(residues, wrong, &flips, block)
 }

@@ -15,7 +15,7 @@ ghost use Rattle.fields.specs.Buffers.{Placed};
 ghost use Rattle.lanes.specs.LaneSteps.{orTo, cells};
 ghost use Rattle.words.specs.Bits.{bitAt};
 ghost use Rattle.inner_words.specs.Passes.{wrongWords};
-ghost use Rattle.inner_words.specs.InnerResidues.{swapped, allSwapped, loadedAt, advanced, begun, residueOf, residuesOf};
+ghost use Rattle.inner_words.specs.InnerResidues.{swapped, allSwapped, loadedAt, advanced, begun, residueOf, residuesOf, sumAt};
 
 // Blocks of eleven places that come after the first five in the data of an inner word.
 pub const DATA_BLOCKS: usize = WORD_BLOCKS - FACTORS;
@@ -517,6 +517,20 @@ pub(crate) fn wrong(residues: &[u64]) -> u64
     let mut i: usize = 0;
     while i < Inner::PARITY {
         x = x | residues[i];
+        i += 1;
+    }
+    x
+}
+
+// The bits that are 1 in some sum of two residues.
+pub(crate) fn wrong_sums(residues: &[u64], added: &[u64]) -> u64
+    requires { ⌜ (length (now residues) ≡ 88) × (length (now added) ≡ 88) ⌝ }
+    ensures { λ r. ⌜ r ≡ orTo 88 (sumAt (now (residues .entry)) (now (added .entry))) ⌝ }
+{
+    let mut x: u64 = 0;
+    let mut i: usize = 0;
+    while i < Inner::PARITY {
+        x = x | (residues[i] ^ added[i]);
         i += 1;
     }
     x

@@ -1,4 +1,4 @@
--- Candidates for all inner words at once: their places inverted, tested, and inverted back where the test fails. Assumes nothing.
+-- Candidates for all inner words at once: tested by their residues, and taken where the test holds. Assumes nothing.
 use mathlib.Core.Path.{_≡_, refl, sym, ap, ap₂, _∙_}
 use mathlib.Core.Bool.{Bool, true, false, cond}
 use mathlib.Core.List.{List}
@@ -8,36 +8,43 @@ use native.Mathlib.Nat.{not-suc-le-zero}
 use native.Mathlib.Numerals.{add-one}
 use native.Mathlib.Omega.{arith}
 use borrow.Author.Tests.{lt-ltb, le-ltb}
-use lib.Bits.{bitAnd, bitOr, bitXor, and-le-l, and-zero-r}
-use lib.Dec.{ltb, lit<}
+use lib.Bits.{bitAnd, bitOr, bitXor, and-le-l}
+use lib.Dec.{eqb, ltb, lit<}
 use lib.ListN.{length, set}
 use lib.Pow.{pow-mono}
 use mir.Syntax.{w64}
 use mir.Val.{Fits}
 use Rattle.fields.specs.Lists.{tabulate}
-use Rattle.fields.specs.Elements.{xor, scale}
-use Rattle.fields.specs.Places.{at, sumTo, differs, apart}
+use Rattle.fields.specs.Elements.{xor, scale, doubled}
+use Rattle.fields.specs.Places.{at, every, sumTo, differs, apart}
 use Rattle.fields.specs.Buffers.{Placed}
 use Rattle.fields.proofs.Lists.{tabulate-at, tabulate-length, tabulate-same}
-use Rattle.fields.proofs.Xor.{xor-assoc, xor-cancel, xor-self, xor-zero-r}
+use Rattle.fields.proofs.Xor.{xor-cancel, xor-self, xor-zero-r}
+use Rattle.fields.proofs.Doubling.{doubled-sum}
 use Rattle.fields.proofs.Places.Counting.{sum-same}
 use Rattle.fields.proofs.Places.Placing.{Placing, placing-next, placing-end}
 use Rattle.fields.proofs.Places.Differences.{apart-tables}
 use Rattle.decoding.proofs.Decoding.Changes.{differs-sum}
-use Rattle.words.specs.Bits.{bitOf, numberOf, bitAt}
-use Rattle.words.specs.InnerCode.{isInner}
-use Rattle.words.specs.InnerWords.{innerWord, innerRestored, innerPass}
+use Rattle.lanes.specs.LaneSteps.{orTo}
+use Rattle.words.specs.Bits.{bitOf, numberOf, bitAt, bytesOf}
+use Rattle.words.specs.InnerCode.{factors, remainder, isInner}
+use Rattle.words.specs.InnerWords.{innerWord, innerRestored}
+use Rattle.words.proofs.Bits.Bytes.{bytes-bit}
 use Rattle.words.proofs.Bits.Numbers.{bitOf-lt, bitOf-zero, bitOf-number, numberOf-lt, numberOf-same, numberOf-bits, masked-bit}
+use Rattle.words.proofs.Codes.Horner.{horner-same, horner-sum}
 use Rattle.words.proofs.Codes.ShiftedBits.{bitOf-sum}
 use Rattle.words.proofs.Codes.InnerWords.{inner-is}
 use Rattle.words.proofs.Codes.Proved.{codes}
 use Rattle.inner_words.specs.BitSliced.{placeAt, byteOf64}
+use Rattle.inner_words.specs.InnerResidues.{coefficient, wordResidue, residuesOf, WordResidues, sumAt}
 use Rattle.inner_words.specs.Passes.{wrongWords, WordNearer, EachWord}
-use Rattle.inner_words.specs.Candidates.{Flipped, flipCounts, overRadius, tooMany, ones}
-use Rattle.inner_words.proofs.Interleaving.InterleavedBits.{inner-word-length}
-use Rattle.inner_words.proofs.Interleaving.BitSliced.{place-bit, bit-product, bit-or, all-ones}
+use Rattle.inner_words.specs.Candidates.{Flipped, flipBit, AsBlock, flipCounts, overRadius, tooMany, failing, ones}
+use Rattle.inner_words.proofs.Interleaving.InterleavedBits.{inner-word-length, place-to-bit}
+use Rattle.inner_words.proofs.Interleaving.BitSliced.{place-bit, bit-product, bit-or, orTo-bit}
+use Rattle.inner_words.proofs.Remainders.InnerResidues.{coefficient-sum}
+use Rattle.inner_words.proofs.Remainders.ResidueCodes.{code-by, residue-bit, word-below, residues-same}
 use Rattle.inner_words.proofs.Passes.WrongWords.{wrong-lt, wrong-not, wrong-bit}
-use Rattle.inner_words.proofs.Passes.InnerPass.{restored-some, restored-code}
+use Rattle.inner_words.proofs.Passes.InnerPass.{restored-some, restored-code, nearer-self, wrongAt}
 use Rattle.inner_words.proofs.Passes.Counts.{onesUpTo, Counting, bit-is}
 
 -- ---- one place of every inner word, written
@@ -112,6 +119,32 @@ flipping-next {flips} {before} {after} {next} {mask} {p} {y} s h ey put =
 
 pub flipping-end : {flips before after : List ℕ} {mask p : ℕ} → Flipping flips mask before p after → 2040 ≤ p → Flipped flips mask before after
 flipping-end s h = record { long = s .long; bits = λ i b. s .done i (omega arith) }
+
+-- ---- the candidates as a block
+
+-- the invariant: the first p places are written
+pub record Writing (flips : List ℕ) (p : ℕ) (after : List ℕ) : Type 0 where
+  pub within : p ≤ 2040
+  pub long : length after ≡ 16320
+  pub done : (i : ℕ) → i / 64 < p → bitAt after i ≡ flipBit flips i
+
+pub writing-start : {flips after : List ℕ} → length after ≡ 16320 → Writing flips 0 after
+writing-start long = record { within = zero-le; long = long; done = λ i h. absurd (not-suc-le-zero h) }
+
+pub writing-next : {flips after next : List ℕ} {p : ℕ} → Writing flips p after → p < 2040 → Placed (8 * p) (tabulate 8 (byteOf64 (at flips p))) after next →
+    Writing flips (p + 1) next
+unfolding flipBit
+writing-next {flips} {after} {next} {p} s h put =
+    record { within = omega arith; long = put .long ∙ s .long; done = λ i l. here i l (ℕ-discrete (i / 64) p) }
+  where
+    here : (i : ℕ) → i / 64 < p + 1 → Dec (i / 64 ≡ p) → bitAt next i ≡ bitOf 64 (at flips (i / 64)) (i % 64)
+    here i l (yes e) =
+        let q : i ≡ 64 * p + i % 64 = omega arith in
+        ap (bitAt next) q ∙ place-inside p (at flips p) after next put (i % 64) (omega arith) ∙ rw e
+    here i l (no e) = place-outside p (at flips p) after next put i e ∙ s .done i (omega arith)
+
+pub writing-end : {flips after : List ℕ} {p : ℕ} → Writing flips p after → 2040 ≤ p → AsBlock flips after
+writing-end s h = record { long = s .long; bits = λ i b. s .done i (omega arith) }
 
 -- ---- the count of an inner word
 
@@ -198,11 +231,6 @@ scale-one zero h = refl
 scale-one (suc zero) h = refl
 scale-one (suc (suc c)) h = absurd (omega arith)
 
-scaled-one : (c x : ℕ) → x < 2 → scale c x ≡ 1 → x ≡ 1
-unfolding scale
-scaled-one zero x h e = absurd (omega arith)
-scaled-one (suc c) x h e = e
-
 scale-none : (c : ℕ) → scale c 0 ≡ 0
 unfolding scale
 scale-none zero = refl
@@ -216,42 +244,75 @@ module _ (flips : List ℕ) (mask : ℕ) (before after : List ℕ) (f : Flipped 
       rw (q, r) at (f .bits (64 * p + k) (omega arith)) ∙ ap (xor (bitAt before (64 * p + k))) (bit-product 64 k (at flips p) mask)
 
   -- an inner word outside the mask stays
-  word-stays : bitOf 64 mask k ≡ 0 → innerWord (bitAt after) k ≡ innerWord (bitAt before) k
+  outside-mask : bitOf 64 mask k ≡ 0 → innerWord (bitAt after) k ≡ innerWord (bitAt before) k
   unfolding innerWord
-  word-stays e =
+  outside-mask e =
       tabulate-same 2040 _ _ (λ p h.
       flipped-place p h ∙ ap (xor (bitAt before (64 * p + k))) (rw e (scale-none (bitOf 64 (at flips p) k))) ∙ xor-zero-r (bitAt before (64 * p + k)))
 
-all-bit : (k : ℕ) → k < 64 → bitOf 64 18446744073709551615 k ≡ 1
-all-bit k l = ap (λ (x : ℕ). bitOf 64 x k) all-ones ∙ bitOf-number (λ i. 1) (λ i. lit< tt) 64 k l
+  module _ (e : bitOf 64 mask k ≡ 1) where
+    abbrev bit : ℕ → ℕ
+    bit p = bitAt before (64 * p + k)
 
-module _ (flips before mid : List ℕ) (f : Flipped flips 18446744073709551615 before mid) (k : ℕ) (l : k < 64) where
-  abbrev bit : ℕ → ℕ
-  bit p = bitAt before (64 * p + k)
+    abbrev flip : ℕ → ℕ
+    flip p = bitOf 64 (at flips p) k
 
-  abbrev flip : ℕ → ℕ
-  flip p = bitOf 64 (at flips p) k
+    flipped-once : (p : ℕ) → p < 2040 → bitAt after (64 * p + k) ≡ xor (bit p) (flip p)
+    flipped-once p h = flipped-place p h ∙ ap (xor (bit p)) (rw e (scale-one (flip p) (bitOf-lt 64 (at flips p) k)))
 
-  flipped-once : (p : ℕ) → p < 2040 → bitAt mid (64 * p + k) ≡ xor (bit p) (flip p)
-  flipped-once p h =
-      flipped-place flips 18446744073709551615 before mid f k l p h ∙ ap (xor (bit p)) (rw (all-bit k l) (scale-one (flip p) (bitOf-lt 64 (at flips p) k)))
+    -- an inner word is as far from what it was as it has places inverted
+    flips-apart : apart (innerWord (bitAt before) k) (innerWord (bitAt after) k) ≡ at (flipCounts flips) k
+    unfolding innerWord flipCounts
+    flips-apart =
+        apart-tables 2040 bit (λ p. bitAt after (64 * p + k)) ∙ sum-same 2040 _ flip (λ p h.
+        ap (differs (bit p)) (flipped-once p h) ∙ sym (differs-sum (bit p) (xor (bit p) (flip p)))
+        ∙ ap (λ (x : ℕ). differs x 0) (xor-cancel (bit p) (flip p)) ∙ sym (bit-is (flip p) (bitOf-lt 64 (at flips p) k)))
+        ∙ sym (tabulate-at 64 _ k 0 l)
 
-  -- an inner word is as far from what it was as it has places inverted
-  flips-apart : apart (innerWord (bitAt before) k) (innerWord (bitAt mid) k) ≡ at (flipCounts flips) k
-  unfolding innerWord flipCounts
-  flips-apart =
-      apart-tables 2040 bit (λ p. bitAt mid (64 * p + k)) ∙ sum-same 2040 _ flip (λ p h.
-      ap (differs (bit p)) (flipped-once p h) ∙ sym (differs-sum (bit p) (xor (bit p) (flip p)))
-      ∙ ap (λ (x : ℕ). differs x 0) (xor-cancel (bit p) (flip p)) ∙ sym (bit-is (flip p) (bitOf-lt 64 (at flips p) k)))
-      ∙ sym (tabulate-at 64 _ k 0 l)
+-- ---- the residues of what is inverted
 
-  -- an inner word that is inverted twice is as it was
-  word-back : (last : List ℕ) (back : ℕ) → Flipped flips back mid last → bitOf 64 back k ≡ 1 → innerWord (bitAt last) k ≡ innerWord (bitAt before) k
-  unfolding innerWord
-  word-back last back g e =
-      tabulate-same 2040 _ _ (λ p h.
-      flipped-place flips back mid last g k l p h ∙ ap₂ xor (flipped-once p h) (rw e (scale-one (flip p) (bitOf-lt 64 (at flips p) k)))
-      ∙ xor-assoc (bit p) (flip p) (flip p) ∙ ap (xor (bit p)) (xor-self (flip p)) ∙ xor-zero-r (bit p))
+abbrev flipBlock : List ℕ → List ℕ
+flipBlock flips = bytesOf 16320 (flipBit flips)
+
+flip-block : (flips : List ℕ) (i : ℕ) → i < 130560 → bitAt (flipBlock flips) i ≡ flipBit flips i
+unfolding flipBit
+flip-block flips i l = bytes-bit 16320 (λ i. bitOf 64 (at flips (i / 64)) (i % 64)) (λ i. bitOf-lt 64 _ _) i l
+
+flip-place : (flips : List ℕ) (k p : ℕ) → k < 64 → p < 2040 → bitAt (flipBlock flips) (64 * p + k) ≡ bitOf 64 (at flips p) k
+unfolding flipBit
+flip-place flips k p l h =
+    let q : (64 * p + k) / 64 ≡ p = omega arith in
+    let r : (64 * p + k) % 64 ≡ k = omega arith in
+    rw (q, r) at (flip-block flips (64 * p + k) (omega arith))
+
+pub failing-is : (residues flips block added counts : List ℕ) (x m : ℕ) → AsBlock flips block → added ≡ residuesOf block (5 + 11 * 185) → counts ≡ flipCounts flips →
+    x ≡ orTo 88 (sumAt residues added) → m ≡ tooMany counts → bitOr x m ≡ failing residues flips
+unfolding failing
+failing-is residues flips block added counts x m f ea ec ex em =
+    ap₂ bitOr (ex ∙ ap (λ (y : List ℕ). orTo 88 (sumAt residues y))
+    (ea ∙ residues-same block (flipBlock flips) (λ i l. f .bits i l ∙ sym (flip-block flips i l)))) (em ∙ ap tooMany ec)
+
+-- linearity: an inner word with places inverted has its residues plus those of the places
+module _ (residues flips before after : List ℕ) (mask : ℕ) (g : Flipped flips mask before after) (k : ℕ) (l : k < 64) (em : bitOf 64 mask k ≡ 1)
+    (R : WordResidues residues k before) where
+  abbrev places : List ℕ
+  places = flipBlock flips
+
+  word-sum : (j : ℕ) → remainder 11 (at factors j) (at (innerWord (bitAt after) k)) 2040 ≡ xor (wordResidue j before 2040 k) (wordResidue j places 2040 k)
+  unfolding wordResidue
+  word-sum j =
+      horner-same _ (at (innerWord (bitAt after) k)) (λ p. xor (bitAt before (64 * p + k)) (bitAt places (64 * p + k))) 2040 (λ p h.
+      place-to-bit (bitAt after) k p h ∙ flipped-once flips mask before after g k l em p h ∙ ap (xor (bitAt before (64 * p + k))) (sym (flip-place flips k p l h)))
+      ∙ horner-sum (doubled 11 (at factors j)) (doubled-sum 11 (at factors j)) (λ p. bitAt before (64 * p + k)) (λ p. bitAt places (64 * p + k)) 2040
+
+  sum-code : every 88 (λ c. eqb (bitOf 64 (sumAt residues (residuesOf places 2040) c) k) 0) ≡ isInner (innerWord (bitAt after) k)
+  unfolding sumAt
+  sum-code =
+      code-by (innerWord (bitAt after) k) _ (inner-word-length (bitAt after) k) (word-below after k) (λ c h.
+      bitOf-sum 64 k (at residues c) (at (residuesOf places 2040) c) ∙ ap₂ xor (R .each c h) (residue-bit places 2040 k c l h)
+      ∙ sym (coefficient-sum (c % 11) _ _) ∙ ap (coefficient (c % 11)) (sym (word-sum (c / 11))))
+
+-- ---- the test
 
 bits-or-zero : (x y : ℕ) → x < 2 → y < 2 → bitOr x y ≡ 0 → (x ≡ 0) × (y ≡ 0)
 bits-or-zero zero zero hx hy e = (refl, refl)
@@ -274,92 +335,85 @@ not-over n e = go (decLe n 8)
     go (yes h) = h
     go (no g) = absurd (omega (arith, rw (lt-ltb 8 n (omega arith)) at e))
 
-module _ (before mid last flips counts : List ℕ) (wrong now m : ℕ) (told : wrong ≡ wrongWords (bitAt before))
-    (f : Flipped flips 18446744073709551615 before mid) (en : now ≡ wrongWords (bitAt mid)) (ec : counts ≡ flipCounts flips) (em : m ≡ tooMany counts)
-    (g : Flipped flips (bitOr now m) mid last) where
-  abbrev back : ℕ
-  back = bitOr now m
+module _ (residues flips before after : List ℕ) (wrong x : ℕ) (told : wrong ≡ wrongWords (bitAt before))
+    (R : (k : ℕ) → k < 64 → bitOf 64 wrong k ≡ 1 → WordResidues residues k before) (ex : x ≡ failing residues flips)
+    (g : Flipped flips (bitXor wrong (bitAnd wrong x)) before after) where
+  abbrev mask : ℕ
+  mask = bitXor wrong (bitAnd wrong x)
 
   module _ (k : ℕ) (l : k < 64) where
     abbrev w : List ℕ
     w = innerWord (bitAt before) k
 
-    abbrev c : List ℕ
-    c = innerWord (bitAt mid) k
+    abbrev v : List ℕ
+    v = innerWord (bitAt after) k
 
-    back-bit : bitOf 64 back k ≡ bitOr (bitOf 64 now k) (bitOf 64 m k)
-    back-bit = bit-or 64 k now m
+    left-bit : bitOf 64 (bitAnd wrong x) k ≡ scale (bitOf 64 wrong k) (bitOf 64 x k)
+    left-bit = bit-product 64 k wrong x
 
-    too-many-bit : bitOf 64 m k ≡ overRadius (apart w c)
-    unfolding tooMany
-    too-many-bit =
-        ap (λ (x : ℕ). bitOf 64 x k) em ∙ bitOf-number (λ k. overRadius (at counts k)) (λ k. over-lt (at counts k)) 64 k l
-        ∙ ap overRadius (ap (λ (x : List ℕ). at x k) ec ∙ sym (flips-apart flips before mid f k l))
+    mask-bit : bitOf 64 mask k ≡ xor (bitOf 64 wrong k) (scale (bitOf 64 wrong k) (bitOf 64 x k))
+    unfolding xor
+    mask-bit = bitOf-sum 64 k wrong (bitAnd wrong x) ∙ ap (bitXor (bitOf 64 wrong k)) left-bit
 
-    -- what is not inverted back is the code word within eight places
-    module _ (e : bitOf 64 back k ≡ 0) where
-      none : (bitOf 64 now k ≡ 0) × (bitOf 64 m k ≡ 0)
-      none = bits-or-zero (bitOf 64 now k) (bitOf 64 m k) (bitOf-lt 64 now k) (bitOf-lt 64 m k) (sym back-bit ∙ e)
+    -- what is known of inner word k
+    abbrev Known : Type 0
+    Known = (bitOf 64 (bitAnd wrong x) k ≡ wrongAt after k) × WordNearer w v
 
-      code : isInner c ≡ true
-      code = wrong-not (isInner c) (sym (ap (λ (x : ℕ). bitOf 64 x k) en ∙ wrong-bit (bitAt mid) k l) ∙ none .0)
+    -- a code word stays, and so does a word whose candidate fails
+    stays : bitOf 64 mask k ≡ 0 → bitOf 64 (bitAnd wrong x) k ≡ bitOf 64 wrong k → Known
+    stays e q =
+        let same = outside-mask flips mask before after g k l e in
+        (q ∙ rw told (wrong-bit (bitAt before) k l) ∙ ap (λ (u : List ℕ). cond (isInner u) 0 1) (sym same), rw same (nearer-self w))
 
-      taken : innerWord (bitAt last) k ≡ c
-      taken = word-stays flips back mid last g k l e
+    -- one whose candidate holds is the code word within eight places
+    module _ (ew : bitOf 64 wrong k ≡ 1) (e : bitOf 64 x k ≡ 0) (em : bitOf 64 mask k ≡ 1) where
+      sums : ℕ
+      sums = orTo 88 (sumAt residues (residuesOf (flipBlock flips) 2040))
 
-      found : innerRestored w ≡ c
+      none : (bitOf 64 sums k ≡ 0) × (bitOf 64 (tooMany (flipCounts flips)) k ≡ 0)
+      unfolding failing sums
+      none =
+          bits-or-zero (bitOf 64 sums k) (bitOf 64 (tooMany (flipCounts flips)) k) (bitOf-lt 64 sums k) (bitOf-lt 64 (tooMany (flipCounts flips)) k)
+          (sym (bit-or 64 k sums (tooMany (flipCounts flips))) ∙ ap (λ (y : ℕ). bitOf 64 y k) (sym ex) ∙ e)
+
+      code : isInner v ≡ true
+      unfolding sums
+      code = sym (sum-code residues flips before after mask g k l em (R k l ew)) ∙ wrong-not _ (sym (orTo-bit 64 k 88 _) ∙ none .0)
+
+      near : overRadius (apart w v) ≡ 0
+      unfolding tooMany
+      near =
+          ap overRadius (flips-apart flips mask before after g k l em)
+          ∙ sym (bitOf-number (λ k. overRadius (at (flipCounts flips) k)) (λ k. over-lt (at (flipCounts flips) k)) 64 k l) ∙ none .1
+
+      found : innerRestored w ≡ v
       found =
-          restored-some w c (codes .inner-nearest .complete w c (inner-word-length (bitAt before) k) (inner-is c code .long) code
-          (not-over (apart w c) (sym too-many-bit ∙ none .1)))
+          restored-some w v (codes .inner-nearest .complete w v (inner-word-length (bitAt before) k) (inner-is v code .long) code (not-over (apart w v) near))
 
-    kept : bitOf 64 back k ≡ 1 → innerWord (bitAt last) k ≡ w
-    kept e = word-back flips before mid f k l last back g e
+      taken : bitOf 64 (bitAnd wrong x) k ≡ 0 → Known
+      taken q = (
+        q ∙ rw code,
+        record {
+          same = restored-code v code ∙ sym found;
+          kept = λ n. absurd (omega (arith, ap {B = ℕ} (λ (t : Bool). cond t 0 1) (sym code ∙ n)));
+        },
+      )
 
-    restored : (x : ℕ) → bitOf 64 back k ≡ x → x < 2 → innerRestored (innerWord (bitAt last) k) ≡ innerRestored w
-    restored zero e h = ap innerRestored (taken e) ∙ restored-code c (code e) ∙ sym (found e)
-    restored (suc zero) e h = ap innerRestored (kept e)
-    restored (suc (suc x)) e h = absurd (omega arith)
+    known : (a b : ℕ) → bitOf 64 wrong k ≡ a → bitOf 64 x k ≡ b → a < 2 → b < 2 → Known
+    unfolding scale
+    known zero b ea eb ha hb = stays (rw (ea) at mask-bit ∙ xor-self 0) (rw (ea) at left-bit ∙ sym ea)
+    known (suc zero) zero ea eb ha hb = taken ea eb (rw (ea, eb) at mask-bit ∙ xor-zero-r 1) (rw (ea, eb) at left-bit)
+    known (suc zero) (suc zero) ea eb ha hb = stays (rw (ea, eb) at mask-bit ∙ xor-self 1) (rw (ea, eb) at left-bit ∙ sym ea)
+    known (suc zero) (suc (suc b)) ea eb ha hb = absurd (omega arith)
+    known (suc (suc a)) b ea eb ha hb = absurd (omega arith)
 
-    left : (x : ℕ) → bitOf 64 back k ≡ x → x < 2 → bitOf 64 (bitAnd wrong back) k ≡ cond (isInner (innerWord (bitAt last) k)) 0 1
-    left zero e h = bit-product 64 k wrong back ∙ ap (scale (bitOf 64 wrong k)) e ∙ scale-none (bitOf 64 wrong k) ∙ rw (taken e, code e)
-    left (suc zero) e h =
-        bit-product 64 k wrong back ∙ ap (scale (bitOf 64 wrong k)) e ∙ scale-one (bitOf 64 wrong k) (bitOf-lt 64 wrong k)
-        ∙ ap (λ (x : ℕ). bitOf 64 x k) told ∙ wrong-bit (bitAt before) k l ∙ ap (λ (x : List ℕ). cond (isInner x) 0 1) (sym (kept e))
-    left (suc (suc x)) e h = absurd (omega arith)
+    is-known : Known
+    is-known = known (bitOf 64 wrong k) (bitOf 64 x k) refl refl (bitOf-lt 64 wrong k) (bitOf-lt 64 x k)
 
-    wrong-kept : isInner (innerWord (bitAt last) k) ≡ false → (x : ℕ) → bitOf 64 back k ≡ x → x < 2 → innerWord (bitAt last) k ≡ w
-    wrong-kept q zero e h = absurd (omega (arith, ap {B = ℕ} (λ (t : Bool). cond t 0 1) (sym (ap isInner (taken e) ∙ code e) ∙ q)))
-    wrong-kept q (suc zero) e h = kept e
-    wrong-kept q (suc (suc x)) e h = absurd (omega arith)
-
-  pub taken-left : bitAnd wrong back ≡ wrongWords (bitAt last)
+  pub taken-left : bitAnd wrong x ≡ wrongWords (bitAt after)
   unfolding wrongWords
   taken-left =
-      sym (numberOf-bits 64 (bitAnd wrong back) (omega (arith, and-le-l wrong back, told, wrong-below (bitAt before))))
-      ∙ numberOf-same 64 _ _ (λ k l. left k l (bitOf 64 back k) refl (bitOf-lt 64 back k))
+      sym (numberOf-bits 64 (bitAnd wrong x) (omega (arith, and-le-l wrong x, told, wrong-below (bitAt before)))) ∙ numberOf-same 64 _ _ (λ k l. is-known k l .0)
 
-  pub taken-nearer : EachWord WordNearer before last
-  taken-nearer =
-      record {
-        long = g .long ∙ f .long;
-        word = λ k l. record {
-          same = restored k l (bitOf 64 back k) refl (bitOf-lt 64 back k);
-          kept = λ e. wrong-kept k l e (bitOf 64 back k) refl (bitOf-lt 64 back k);
-        };
-      }
-
--- the same where nothing is to be inverted back
-module _ (before mid flips counts : List ℕ) (wrong now m : ℕ) (told : wrong ≡ wrongWords (bitAt before)) (f : Flipped flips 18446744073709551615 before mid)
-    (en : now ≡ wrongWords (bitAt mid)) (ec : counts ≡ flipCounts flips) (em : m ≡ tooMany counts) (none : bitOr now m ≡ 0) where
-  none-flipped : Flipped flips (bitOr now m) mid mid
-  none-flipped =
-      record { long = refl; bits = λ i b. rw (none, and-zero-r, bitOf-zero 64 (i % 64)) (sym (xor-zero-r (bitAt mid i))) }
-
-  none-left : 0 ≡ bitAnd wrong (bitOr now m)
-  none-left = rw (none, and-zero-r)
-
-  pub all-left : 0 ≡ wrongWords (bitAt mid)
-  all-left = none-left ∙ taken-left before mid mid flips counts wrong now m told f en ec em none-flipped
-
-  pub all-nearer : EachWord WordNearer before mid
-  all-nearer = taken-nearer before mid mid flips counts wrong now m told f en ec em none-flipped
+  pub taken-nearer : EachWord WordNearer before after
+  taken-nearer = record { long = g .long; word = λ k l. is-known k l .1 }

@@ -10,7 +10,7 @@ use lib.Dec.{eqb, lit<}
 use lib.ListN.{length}
 use lib.Pow.{pow-pos}
 use Rattle.fields.specs.Places.{at, every, allBelow, value}
-use Rattle.fields.proofs.Lists.{tabulate-at}
+use Rattle.fields.proofs.Lists.{tabulate-at, tabulate-same}
 use Rattle.fields.proofs.Places.Tests.{tests-agree, every-at, every-true, below-all, below-at}
 use Rattle.lanes.specs.LaneSteps.{orTo}
 use Rattle.words.specs.Bits.{bitOf, numberOf, bitAt}
@@ -53,13 +53,28 @@ code-residues w t j h =
     let c = inner-is w t in
     none-lower j _ h (residue-lt (at w) (c .bits) 2040 j h) (residue-value (at w) (c .bits) 2040 j h ∙ inner-roots w c (2 * j + 1) (omega arith) (omega arith))
 
--- ---- the words of a block
-
 -- a polynomial of degree below n without coefficients
 no-coefficients : (n r : ℕ) → r < 2 ^ n → ((i : ℕ) → i < n → coefficient i r ≡ 0) → r ≡ 0
 unfolding bitOf
 no-coefficients n r small none =
     sym (numberOf-bits n r small) ∙ numberOf-same n (bitOf n r) (bitOf n 0) (λ i l. none (n - suc i) (omega arith) ∙ sym (bitOf-zero n i)) ∙ numberOf-bits n 0 (pow-pos n)
+
+-- it is, by the coefficients of its residues one after the other
+pub code-by : (w : List ℕ) (f : ℕ → ℕ) → length w ≡ 2040 → allBelow 2 w ≡ true →
+    ((c : ℕ) → c < 88 → f c ≡ coefficient (c % 11) (remainder 11 (at factors (c / 11)) (at w) 2040)) → every 88 (λ c. eqb (f c) 0) ≡ isInner w
+code-by w f long below e =
+    tests-agree _ _
+    (λ t. residues-code w long below (λ j h. no-coefficients 11 _ (residue-lt (at w) (below-at 2 w (lit< tt) below) 2040 j h) (no-coefficient t j h)))
+    (λ t. every-true 88 _ (λ c l. eq-eqb _ 0 (e c l ∙ ap (coefficient (c % 11)) (code-residues w t (c / 11) (omega arith)) ∙ ap (λ (x : ℕ). x % 2) (div-eq-of-lt (pow-pos (c % 11))))))
+  where
+    no-coefficient : every 88 (λ c. eqb (f c) 0) ≡ true → (j : ℕ) → j < 8 → (i : ℕ) → i < 11 → coefficient i (remainder 11 (at factors j) (at w) 2040) ≡ 0
+    no-coefficient t j hj i hi =
+        let c = 11 * j + i in
+        let q : c / 11 ≡ j = omega arith in
+        let r : c % 11 ≡ i = omega arith in
+        rw (q, r) at (sym (e c (omega arith))) ∙ eqb-true _ 0 (every-at 88 (λ c. eqb (f c) 0) t c (omega arith))
+
+-- ---- the words of a block
 
 module _ (block : List ℕ) where
   abbrev b : ℕ → ℕ
@@ -78,28 +93,12 @@ module _ (block : List ℕ) where
   unfolding wordResidue
   word-residue j k = horner-same _ _ _ 2040 (λ p l. sym (place-to-bit b k p l))
 
-  word-below : (k : ℕ) → allBelow 2 (innerWord b k) ≡ true
+  pub word-below : (k : ℕ) → allBelow 2 (innerWord b k) ≡ true
   word-below k = below-all 2 (innerWord b k) (λ p l. rw (place-to-bit b k p (rw (inner-word-length b k) at l)) (bitAt-lt block _))
-
-  -- no residue has a coefficient in bit k
-  module _ (k : ℕ) (k-lt : k < 64) (none : every 88 (λ c. eqb (bitOf 64 (at whole c) k) 0) ≡ true) where
-    no-coefficient : (j : ℕ) → j < 8 → (i : ℕ) → i < 11 → coefficient i (wordResidue j block 2040 k) ≡ 0
-    no-coefficient j hj i hi =
-        let c = 11 * j + i in
-        let q : c / 11 ≡ j = omega arith in
-        let r : c % 11 ≡ i = omega arith in
-        rw (q, r) at (sym (residue-bit 2040 k c k-lt (omega arith))) ∙ eqb-true _ 0 (every-at 88 (λ c. eqb (bitOf 64 (at whole c) k) 0) none c (omega arith))
-
-    no-residue : (j : ℕ) → j < 8 → wordResidue j block 2040 k ≡ 0
-    unfolding wordResidue
-    no-residue j h = no-coefficients 11 (wordResidue j block 2040 k) (residue-lt _ (λ p. bitAt-lt block _) 2040 j h) (no-coefficient j h)
 
   same-code : (k : ℕ) → k < 64 → every 88 (λ c. eqb (bitOf 64 (at whole c) k) 0) ≡ isInner (innerWord b k)
   same-code k h =
-      tests-agree _ _
-      (λ t. residues-code (innerWord b k) (inner-word-length b k) (word-below k) (λ j l. sym (word-residue j k) ∙ no-residue k h t j l))
-      (λ t. every-true 88 _ (λ c l. eq-eqb _ 0 (residue-bit 2040 k c h l
-      ∙ ap (coefficient (c % 11)) (word-residue (c / 11) k ∙ code-residues (innerWord b k) t (c / 11) (omega arith)) ∙ ap (λ (x : ℕ). x % 2) (div-eq-of-lt (pow-pos (c % 11))))))
+      code-by (innerWord b k) _ (inner-word-length b k) (word-below k) (λ c l. residue-bit 2040 k c h l ∙ ap (coefficient (c % 11)) (word-residue (c / 11) k))
 
   pub residues-lt : (n c : ℕ) → c < 88 → at (residuesOf block n) c < 2 ^ 64
   unfolding residuesOf
@@ -123,6 +122,12 @@ residue-same : (b c : List ℕ) (j k : ℕ) → innerWord (bitAt b) k ≡ innerW
 unfolding wordResidue
 residue-same b c j k e =
     horner-same _ _ _ 2040 (λ p l. sym (place-to-bit (bitAt b) k p l) ∙ ap (λ (w : List ℕ). at w p) e ∙ place-to-bit (bitAt c) k p l)
+
+-- blocks of the same bits have the same residues
+pub residues-same : (b c : List ℕ) → ((i : ℕ) → i < 130560 → bitAt b i ≡ bitAt c i) → residuesOf b 2040 ≡ residuesOf c 2040
+unfolding residuesOf wordResidue
+residues-same b c same =
+    tabulate-same 88 _ _ (λ n h. numberOf-same 64 _ _ (λ k l. ap (coefficient (n % 11)) (horner-same _ _ _ 2040 (λ p m. same (64 * p + k) (omega arith)))))
 
 pub whole-residues : (residues block : List ℕ) → residues ≡ residuesOf block (5 + 11 * 185) → (k : ℕ) → k < 64 → WordResidues residues k block
 whole-residues residues block e k l = record { each = λ c h. ap (λ (r : List ℕ). bitOf 64 (at r c) k) e ∙ residue-bit block 2040 k c l h }

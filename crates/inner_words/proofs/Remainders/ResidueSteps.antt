@@ -4,17 +4,21 @@ use mathlib.Core.List.{List, [], _∷_}
 use Prim.Native.Nat.{ℕ, _+_, _-_, _*_, _/_, _%_, _≤_, _<_}
 use native.Mathlib.Decide.{decLt}
 use native.Mathlib.Nat.{add-zero, le-refl}
+use native.Mathlib.Numerals.{add-one}
 use native.Mathlib.Omega.{arith}
+use lib.Bits.{bitOr, bitXor}
 use lib.ListN.{length, getD, set, replicate, length-replicate}
 use mir.Syntax.{w64}
 use mir.Val.{Fits}
+use Rattle.fields.specs.Elements.{xor}
 use Rattle.fields.specs.Lists.{tabulate}
 use Rattle.fields.specs.Places.{at}
 use Rattle.fields.specs.Buffers.{Placed}
 use Rattle.fields.proofs.Lists.{tabulate-same}
 use Rattle.fields.proofs.Places.Filling.{Filled, filled-start, filled-end, FilledOver, over-next}
+use Rattle.lanes.specs.LaneSteps.{orTo}
 use Rattle.words.specs.InnerCode.{factors}
-use Rattle.inner_words.specs.InnerResidues.{swapped, allSwapped, loadedAt, residueOf, residuesOf, advanced, begun}
+use Rattle.inner_words.specs.InnerResidues.{swapped, allSwapped, loadedAt, residueOf, residuesOf, sumAt, advanced, begun}
 use Rattle.inner_words.proofs.Remainders.InnerResidues.{advancedBy, residue-more, begun-residue, turned-cell}
 
 -- ---- places
@@ -135,3 +139,9 @@ turn-next before cells c x f h e = over-next f h (e ∙ ap swapped (f .ahead c (
 pub turn-end : (before cells : List ℕ) (c : ℕ) → FilledOver 88 (swappedAt before) before c cells → 88 ≤ c → cells ≡ allSwapped before
 unfolding swappedAt allSwapped
 turn-end before cells c f h = filled-end (f .filled) h
+
+-- ---- sums of residues
+
+pub sums-next : (xs ys : List ℕ) (i x : ℕ) → x ≡ orTo i (sumAt xs ys) → bitOr x (bitXor (getD xs i 0) (getD ys i 0)) ≡ orTo (i + 1) (sumAt xs ys)
+unfolding orTo sumAt xor
+sums-next xs ys i x so-far = rw (add-one, so-far)

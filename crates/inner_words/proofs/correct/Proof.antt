@@ -39,7 +39,7 @@ correct-singles-requires : tie.Need-correct-singles-requires
 correct-singles-requires c κs = (search needs, (search (needs, words-wrong), λ k l q. search (needs, whole-residues)))
 
 correct-requires : tie.Need-correct-requires
-correct-requires c κs = search needs
+correct-requires c κs = (search needs, λ k l q. left-residues _ _ _ _ (c .before .before .before .before .correct-singles .ensures .1) (search needs) (search needs) k l q)
 
 slice-aggregate-correct-each : tie.Need-slice-aggregate-correct-each
 slice-aggregate-correct-each c = search needs

@@ -12,6 +12,7 @@ ghost use Rattle.inner_words.specs.BitSliced.{parityPlaces, parityBytes}
 ghost use Rattle.inner_words.specs.Passes.{wrongWords, InnerPassed, innerCodes};
 
 mod candidates;
+mod factor_residues;
 mod odd_syndromes;
 mod one_by_one;
 mod parity;

@@ -14,7 +14,7 @@ use Rattle.fields.proofs.Places.Differences.{apart-tables}
 use Rattle.words.specs.Bits.{bitAt}
 use Rattle.words.specs.InnerWords.{innerWord}
 use Rattle.words.proofs.Bits.Numbers.{number-differs}
-use Rattle.inner_words.proofs.InterleavedBits.{word-to-bit}
+use Rattle.inner_words.proofs.Interleaving.InterleavedBits.{word-to-bit}
 use Rattle.frames.specs.Frames.{isPayload, dataIn, outerWord, outerWords, symbolAt, frameOf, wrongBits}
 use Rattle.frames.specs.Correction.{receivedBit, receivedSymbol, receivedWord, reportOf, total}
 use Rattle.frames.specs.Answers.{frameCorrected}

@@ -3,7 +3,7 @@ use mathlib.Core.Path.{_≡_, ap}
 use mathlib.Core.Bool.{true}
 use mathlib.Core.List.{List}
 use Prim.Native.Nat.{ℕ}
-use Rattle.inner_words.proofs.InterleavedBits.{place-to-bit, bit-to-place}
+use Rattle.inner_words.proofs.Interleaving.InterleavedBits.{place-to-bit, bit-to-place}
 use Rattle.frames.specs.Frames.{isPayload, outerWords, frameOf, payloadOf}
 use Rattle.frames.specs.FrameLaws.{FrameLaws}
 use Rattle.frames.proofs.Frames.FrameBits.{payload-is, payloadOf-length, payloadOf-below, frame-block, frame-parity, frame-inner, outer-code, payload-bits, payload-back}

@@ -174,7 +174,7 @@ pub fn correct_frame(block: &[u8], out: &mut [u8]) -> Report
     }
     let mut passed = inner_words::blank();
     symbols::copy_bytes(block, &mut passed);
-    let inner = inner_words::correct(&mut passed);
+    let inner = inner_words::correct(&mut passed) == 0;
     if !outer_pass(&passed, inner, out) {
         return refused(5);
     }

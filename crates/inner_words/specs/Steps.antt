@@ -1,6 +1,6 @@
 -- What the functions on the 64 inner words of a frame give.
-pub mod SideBySide
+pub mod BitSliced
 pub mod InnerResidues
 pub mod ParityMatrix
 pub mod Passes
-pub mod Proposals
+pub mod Candidates

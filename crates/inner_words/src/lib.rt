@@ -1,26 +1,23 @@
-// The 64 inner words of a frame, side by side: eight bytes are one place of them all, the bits of one number (module places). Their residues modulo the eight
+// The 64 inner words of a frame, bit-sliced: eight bytes are one place of them all, the bits of one number (module places). Their residues modulo the eight
 // factors of the divisor (module residues) give the parity bits (module parity), and tell which inner words of a block are no code words; of those the ones with
-// a single wrong place are corrected at sight (module singles), many others at once, as candidates that are tested (module proposals, over crate lanes), few
+// a single wrong place are corrected at sight (module singles), many others at once, as candidates that are tested (module candidates, over crate lanes), few
 // others one by one (module one_by_one).
 use words::Inner;
 ghost use mathlib.Core.Path.{_≡_};
-ghost use mathlib.Core.Bool.{true};
-ghost use Prim.Native.Nat.{ℕ, _<_};
 ghost use lib.ListN.{length};
-ghost use Rattle.fields.specs.Elements.{powersB, exponentsB};
 ghost use Rattle.fields.specs.Steps.Buffers.{Placed};
-ghost use Rattle.words.specs.Bits.{bitOf, bitAt, bytesOf};
+ghost use Rattle.words.specs.Bits.{bitAt, bytesOf};
 ghost use Rattle.words.specs.InnerWords.{withParity};
-ghost use Rattle.inner_words.specs.Steps.SideBySide.{parities, parityBytes};
-ghost use Rattle.inner_words.specs.Steps.InnerResidues.{WordResidues};
+ghost use Rattle.inner_words.specs.Steps.BitSliced.{parityPlaces, parityBytes};
 ghost use Rattle.inner_words.specs.Steps.Passes.{wrongWords, InnerPassed, innerCodes};
 
+mod candidates;
+mod factor_residues;
 mod odd_syndromes;
 mod one_by_one;
 mod parity;
-mod parity_rows;
+mod parity_matrix;
 pub mod places;
-mod proposals;
 mod residues;
 mod singles;
 
@@ -44,12 +41,12 @@ impl Interleaved {
 const PARITY_BYTES: usize = Interleaved::BYTES - Interleaved::DATA_BYTES;
 
 // What the parity places are to be, from the data places.
-fn parities(bytes: &[u8]) -> [u64; Inner::PARITY]
+fn parity_places(bytes: &[u8]) -> [u64; Inner::PARITY]
     requires { ⌜ length (now bytes) ≡ 16320 ⌝ }
-    ensures { λ r. ⌜ r ≡ parities (now (bytes .entry)) ⌝ }
+    ensures { λ r. ⌜ r ≡ parityPlaces (now (bytes .entry)) ⌝ }
 {
     let residues = residues::residues(bytes, residues::DATA_BLOCKS);
-    parity::parities(&residues)
+    parity::from_residues(&residues)
 }
 
 // Writes the parity places.
@@ -72,7 +69,7 @@ pub fn encode(out: &mut [u8])
     requires { ⌜ length (now out) ≡ 16320 ⌝ }
     ensures { λ _. ⌜ now (out .exit) ≡ bytesOf 16320 (withParity (bitAt (now (out .entry)))) ⌝ }
 {
-    let cells = parities(out);
+    let cells = parity_places(out);
     store(&cells, out);
 }
 
@@ -91,45 +88,21 @@ pub fn blank() -> [u8; Interleaved::BYTES]
     [0; Interleaved::BYTES]
 }
 
-// The inner words of the block that are no code words, by their residues: many at once, and what is left one by one. True only if all inner words are code
-// words then.
-fn correct_rest(
-    exp: &[u16],
-    log: &[u16],
-    residues: &[u64; Inner::PARITY],
-    wrong: u64,
-    block: &mut [u8],
-) -> bool
-    requires { ⌜ (now exp ≡ powersB) × (now log ≡ exponentsB) ⌝ }
-    requires { ⌜ (length (now block) ≡ 16320) × (wrong ≡ wrongWords (bitAt (now block))) ⌝ }
-    requires { ⌜ ((k : ℕ) → k < 64 → bitOf 64 wrong k ≡ 1 → WordResidues (now residues) k (now block)) ⌝ }
-    ensures passed { λ _. ⌜ InnerPassed (now (block .entry)) (now (block .exit)) ⌝ }
-    ensures codes { λ r. ⌜ (r ≡ true → innerCodes (bitAt (now (block .exit))) ≡ true) ⌝ }
-{
-    let left = proposals::correct(residues, wrong, block);
-    if left == 0 {
-        return true;
-    }
-    one_by_one::correct_each(exp, log, residues, left, block)
-}
-
 // The inner pass over a copy of the received block: each inner word becomes the code word within eight places; where there is none it is left as received.
-// True only if all inner words are code words then.
-pub fn correct(block: &mut [u8]) -> bool
+// The answer is what is left wrong: bit k, the highest first, is 1 where word k is no code word.
+pub fn correct(block: &mut [u8]) -> u64
     requires { ⌜ length (now block) ≡ 16320 ⌝ }
     ensures passed { λ _. ⌜ InnerPassed (now (block .entry)) (now (block .exit)) ⌝ }
-    ensures codes { λ r. ⌜ (r ≡ true → innerCodes (bitAt (now (block .exit))) ≡ true) ⌝ }
+    ensures left { λ r. ⌜ r ≡ wrongWords (bitAt (now (block .exit))) ⌝ }
 {
     let residues = residues::residues(block, lanes::WORD_BLOCKS);
     let wrong = residues::wrong(&residues);
     if wrong == 0 {
-        return true;
+        return 0;
     }
     let exp = fields::exp_b();
     let log = fields::log_b();
-    let left = singles::correct_singles(&exp, &log, &residues, wrong, block);
-    if left == 0 {
-        return true;
-    }
-    correct_rest(&exp, &log, &residues, left, block)
+    let many = singles::correct_singles(&exp, &log, &residues, wrong, block);
+    let left = candidates::correct(&residues, many, block);
+    one_by_one::correct_each(&exp, &log, &residues, left, block)
 }

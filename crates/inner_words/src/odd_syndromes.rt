@@ -1,4 +1,4 @@
-// The values of an inner word at a, a^3, .. a^15, from its residues.
+// The odd syndromes of an inner word, its values at a, a^3, .. a^15, from its residues.
 use crate::Interleaved;
 use words::wrong_places::OddSyndromes;
 ghost use mathlib.Core.Path.{_≡_};
@@ -18,7 +18,7 @@ fn term(exp: &[u16], x: u64, k: usize, n: u16) -> u16
     c * fields::power(exp, n)
 }
 
-// The value of inner word k at a^(2 j + 1), from its residue modulo factor j: the sum of the terms.
+// Odd syndrome j of inner word k, its value at a^(2 j + 1), from its residue modulo factor j: the sum of the terms.
 pub(crate) fn odd_syndrome(exp: &[u16], residues: &[u64], k: usize, j: usize) -> u16
     requires { ⌜ (length (now residues) ≡ 88) × (k < 64) × (j < 8) ⌝ }
     ensures { λ r. ⌜ r ≡ oddSyndrome (now (exp .entry)) (now (residues .entry)) k j ⌝ }
@@ -38,7 +38,7 @@ pub(crate) fn odd_syndrome(exp: &[u16], residues: &[u64], k: usize, j: usize) ->
     v
 }
 
-// Its values at a, a^3, .. a^15.
+// All eight of inner word k.
 pub(crate) fn odd_syndromes(exp: &[u16], residues: &[u64], k: usize) -> OddSyndromes
     requires { ⌜ (length (now residues) ≡ 88) × (k < 64) ⌝ }
     ensures { λ r. ⌜ r .at ≡ tabulate 8 (oddSyndrome (now (exp .entry)) (now (residues .entry)) k) ⌝ }

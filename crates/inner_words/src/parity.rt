@@ -1,6 +1,6 @@
-// The parity places of the inner words from their residues: row q of a matrix of bits picks the numbers whose sum is parity place q. The sums of each four
-// numbers are made first, so that four bits of a row cost one read.
-use crate::parity_rows;
+// The parity places of the inner words from their residues: for each parity place the matrix has 88 bits, which pick the numbers whose sum it is. The sums of
+// each four numbers are made first, so that four bits cost one read.
+use crate::parity_matrix;
 use crate::residues::put;
 use words::Inner;
 ghost use mathlib.Core.Path.{_≡_};
@@ -8,19 +8,20 @@ ghost use mathlib.Core.List.{[], _∷_};
 ghost use Prim.Native.Nat.{_<_, _/_, _%_};
 ghost use lib.ListN.{length};
 ghost use Rattle.fields.specs.Lists.{tabulate};
-ghost use Rattle.inner_words.specs.Steps.ParityMatrix.{parityRows, fourSum, fourSums, rowSum, rowSums};
+ghost use Rattle.inner_words.specs.Steps.ParityMatrix.{parityMatrix, fourSum, fourSums, paritySum, paritySums};
 
 // Groups of four numbers, and the sums of one group.
 const FOURS: usize = Inner::PARITY / 4;
 
 const SUMS: usize = 16;
 
-const ROW_BYTES: usize = Inner::PARITY / 8;
+// Bytes of the bits that pick the numbers of one parity place.
+const PICK_BYTES: usize = Inner::PARITY / 8;
 
-fn rows() -> [u8; Inner::PARITY * ROW_BYTES]
-    ensures { λ r. ⌜ r ≡ parityRows ⌝ }
+fn matrix() -> [u8; Inner::PARITY * PICK_BYTES]
+    ensures { λ r. ⌜ r ≡ parityMatrix ⌝ }
 {
-    parity_rows::PARITY_ROWS
+    parity_matrix::PARITY_MATRIX
 }
 
 // The sum of no number, of the last, of the last but one, and so on: the bits of the place in the list say which.
@@ -76,15 +77,15 @@ fn last_four(byte: u8) -> usize
     (byte % 16) as usize
 }
 
-// The sum of the numbers that row q picks.
-fn row_sum(sums: &[u64], rows: &[u8], q: usize) -> u64
-    requires { ⌜ (length (now sums) ≡ 352) × (length (now rows) ≡ 968) × (q < 88) ⌝ }
-    ensures { λ r. ⌜ r ≡ rowSum (now (sums .entry)) (now (rows .entry)) q ⌝ }
+// Parity place q: the sum of the numbers that its bits pick.
+fn parity_sum(sums: &[u64], matrix: &[u8], q: usize) -> u64
+    requires { ⌜ (length (now sums) ≡ 352) × (length (now matrix) ≡ 968) × (q < 88) ⌝ }
+    ensures { λ r. ⌜ r ≡ paritySum (now (sums .entry)) (now (matrix .entry)) q ⌝ }
 {
     let mut x: u64 = 0;
     let mut m: usize = 0;
-    while m < ROW_BYTES {
-        let byte = rows[ROW_BYTES * q + m];
+    while m < PICK_BYTES {
+        let byte = matrix[PICK_BYTES * q + m];
         let i = 2 * SUMS * m + first_four(byte);
         let k = 2 * SUMS * m + SUMS + last_four(byte);
         x = x ^ sums[i] ^ sums[k];
@@ -94,16 +95,16 @@ fn row_sum(sums: &[u64], rows: &[u8], q: usize) -> u64
 }
 
 // The parity places, from the residues of the data places.
-pub(crate) fn parities(residues: &[u64]) -> [u64; Inner::PARITY]
+pub(crate) fn from_residues(residues: &[u64]) -> [u64; Inner::PARITY]
     requires { ⌜ length (now residues) ≡ 88 ⌝ }
-    ensures { λ r. ⌜ r ≡ rowSums (now (residues .entry)) ⌝ }
+    ensures { λ r. ⌜ r ≡ paritySums (now (residues .entry)) ⌝ }
 {
     let sums = four_sums(residues);
-    let rows = rows();
+    let matrix = matrix();
     let mut out = [0u64; Inner::PARITY];
     let mut q: usize = 0;
     while q < Inner::PARITY {
-        out[q] = row_sum(&sums, &rows, q);
+        out[q] = parity_sum(&sums, &matrix, q);
         q += 1;
     }
     out

@@ -6,7 +6,7 @@ ghost use lib.ListN.{length};
 ghost use Rattle.fields.specs.Lists.{tabulate};
 ghost use Rattle.fields.specs.Places.{at};
 ghost use Rattle.fields.specs.Steps.Buffers.{Placed};
-ghost use Rattle.inner_words.specs.Steps.SideBySide.{placeAt, byteOf64};
+ghost use Rattle.inner_words.specs.Steps.BitSliced.{placeAt, byteOf64};
 ghost use Rattle.inner_words.specs.Steps.Passes.{placeCounted};
 
 // Place p of every inner word: bit k, the highest first, is that of word k.

@@ -1,6 +1,7 @@
-// The residues of the 64 inner words of a frame modulo the eight factors of the divisor, side by side: a number holds one coefficient of 64 residues. An
+// The residues of the 64 inner words of a frame modulo the eight factors of the divisor, bit-sliced: a number holds one coefficient of 64 residues. An
 // inner word is a code word just where all eight of its residues are zero, and the residues give its parity bits.
 use crate::Interleaved;
+use crate::factor_residues;
 use crate::places::byte;
 use lanes::DEGREE;
 use lanes::FACTORS;
@@ -12,16 +13,16 @@ ghost use Prim.Native.Nat.{_+_, _*_, _≤_, _<_};
 ghost use lib.ListN.{length};
 ghost use Rattle.fields.specs.Places.{at};
 ghost use Rattle.fields.specs.Steps.Buffers.{Placed};
-ghost use Rattle.lanes.specs.Steps.LaneSteps.{orTo, cells};
+ghost use Rattle.lanes.specs.Steps.Sliced.{orTo, cells};
 ghost use Rattle.words.specs.Bits.{bitAt};
 ghost use Rattle.inner_words.specs.Steps.Passes.{wrongWords};
-ghost use Rattle.inner_words.specs.Steps.InnerResidues.{swapped, allSwapped, loadedAt, advanced, begun, residueOf, residuesOf};
+ghost use Rattle.inner_words.specs.Steps.InnerResidues.{swapped, allSwapped, loadedAt, begun, residueOf, residuesOf, sumAt};
 
 // Blocks of eleven places that come after the first five in the data of an inner word.
 pub const DATA_BLOCKS: usize = WORD_BLOCKS - FACTORS;
 
 // Place p of every inner word, the first of eight bytes the lowest: no byte has to move.
-fn load(bytes: &[u8], p: usize) -> u64
+pub(crate) fn load(bytes: &[u8], p: usize) -> u64
     requires { ⌜ (p < 2040) × (8 * p + 8 ≤ length (now bytes)) ⌝ }
     ensures { λ r. ⌜ r ≡ loadedAt (now (bytes .entry)) p ⌝ }
 {
@@ -51,7 +52,7 @@ fn swapped(x: u64) -> u64
 }
 
 // The first five places of every inner word: no residue is reduced yet.
-fn first_five(bytes: &[u8]) -> Lanes
+pub(crate) fn first_five(bytes: &[u8]) -> Lanes
     requires { ⌜ 40 ≤ length (now bytes) ⌝ }
     ensures { λ r. ⌜ cells r ≡ begun (now (bytes .entry)) ⌝ }
 {
@@ -70,383 +71,20 @@ fn first_five(bytes: &[u8]) -> Lanes
     }
 }
 
-// One place more, modulo each of the eight factors: z times the residue, plus the place.
-fn step_0(bytes: &[u8], p: usize, s: Lanes) -> Lanes
-    requires { ⌜ (p < 2040) × (8 * p + 8 ≤ length (now bytes)) ⌝ }
-    ensures { λ r. ⌜ cells r ≡ advanced 2053 (cells s) (loadedAt (now (bytes .entry)) p) ⌝ }
-{
-    let x = load(bytes, p);
-    let f = s.r10;
-    Lanes {
-        r0: f ^ x,
-        r1: s.r0,
-        r2: f ^ s.r1,
-        r3: s.r2,
-        r4: s.r3,
-        r5: s.r4,
-        r6: s.r5,
-        r7: s.r6,
-        r8: s.r7,
-        r9: s.r8,
-        r10: s.r9,
-    }
-}
-
-fn step_1(bytes: &[u8], p: usize, s: Lanes) -> Lanes
-    requires { ⌜ (p < 2040) × (8 * p + 8 ≤ length (now bytes)) ⌝ }
-    ensures { λ r. ⌜ cells r ≡ advanced 2341 (cells s) (loadedAt (now (bytes .entry)) p) ⌝ }
-{
-    let x = load(bytes, p);
-    let f = s.r10;
-    Lanes {
-        r0: f ^ x,
-        r1: s.r0,
-        r2: f ^ s.r1,
-        r3: s.r2,
-        r4: s.r3,
-        r5: f ^ s.r4,
-        r6: s.r5,
-        r7: s.r6,
-        r8: f ^ s.r7,
-        r9: s.r8,
-        r10: s.r9,
-    }
-}
-
-fn step_2(bytes: &[u8], p: usize, s: Lanes) -> Lanes
-    requires { ⌜ (p < 2040) × (8 * p + 8 ≤ length (now bytes)) ⌝ }
-    ensures { λ r. ⌜ cells r ≡ advanced 2189 (cells s) (loadedAt (now (bytes .entry)) p) ⌝ }
-{
-    let x = load(bytes, p);
-    let f = s.r10;
-    Lanes {
-        r0: f ^ x,
-        r1: s.r0,
-        r2: f ^ s.r1,
-        r3: f ^ s.r2,
-        r4: s.r3,
-        r5: s.r4,
-        r6: s.r5,
-        r7: f ^ s.r6,
-        r8: s.r7,
-        r9: s.r8,
-        r10: s.r9,
-    }
-}
-
-fn step_3(bytes: &[u8], p: usize, s: Lanes) -> Lanes
-    requires { ⌜ (p < 2040) × (8 * p + 8 ≤ length (now bytes)) ⌝ }
-    ensures { λ r. ⌜ cells r ≡ advanced 2093 (cells s) (loadedAt (now (bytes .entry)) p) ⌝ }
-{
-    let x = load(bytes, p);
-    let f = s.r10;
-    Lanes {
-        r0: f ^ x,
-        r1: s.r0,
-        r2: f ^ s.r1,
-        r3: f ^ s.r2,
-        r4: s.r3,
-        r5: f ^ s.r4,
-        r6: s.r5,
-        r7: s.r6,
-        r8: s.r7,
-        r9: s.r8,
-        r10: s.r9,
-    }
-}
-
-fn step_4(bytes: &[u8], p: usize, s: Lanes) -> Lanes
-    requires { ⌜ (p < 2040) × (8 * p + 8 ≤ length (now bytes)) ⌝ }
-    ensures { λ r. ⌜ cells r ≡ advanced 3085 (cells s) (loadedAt (now (bytes .entry)) p) ⌝ }
-{
-    let x = load(bytes, p);
-    let f = s.r10;
-    Lanes {
-        r0: f ^ x,
-        r1: s.r0,
-        r2: f ^ s.r1,
-        r3: f ^ s.r2,
-        r4: s.r3,
-        r5: s.r4,
-        r6: s.r5,
-        r7: s.r6,
-        r8: s.r7,
-        r9: s.r8,
-        r10: f ^ s.r9,
-    }
-}
-
-fn step_5(bytes: &[u8], p: usize, s: Lanes) -> Lanes
-    requires { ⌜ (p < 2040) × (8 * p + 8 ≤ length (now bytes)) ⌝ }
-    ensures { λ r. ⌜ cells r ≡ advanced 3851 (cells s) (loadedAt (now (bytes .entry)) p) ⌝ }
-{
-    let x = load(bytes, p);
-    let f = s.r10;
-    Lanes {
-        r0: f ^ x,
-        r1: f ^ s.r0,
-        r2: s.r1,
-        r3: f ^ s.r2,
-        r4: s.r3,
-        r5: s.r4,
-        r6: s.r5,
-        r7: s.r6,
-        r8: f ^ s.r7,
-        r9: f ^ s.r8,
-        r10: f ^ s.r9,
-    }
-}
-
-fn step_6(bytes: &[u8], p: usize, s: Lanes) -> Lanes
-    requires { ⌜ (p < 2040) × (8 * p + 8 ≤ length (now bytes)) ⌝ }
-    ensures { λ r. ⌜ cells r ≡ advanced 2147 (cells s) (loadedAt (now (bytes .entry)) p) ⌝ }
-{
-    let x = load(bytes, p);
-    let f = s.r10;
-    Lanes {
-        r0: f ^ x,
-        r1: f ^ s.r0,
-        r2: s.r1,
-        r3: s.r2,
-        r4: s.r3,
-        r5: f ^ s.r4,
-        r6: f ^ s.r5,
-        r7: s.r6,
-        r8: s.r7,
-        r9: s.r8,
-        r10: s.r9,
-    }
-}
-
-fn step_7(bytes: &[u8], p: usize, s: Lanes) -> Lanes
-    requires { ⌜ (p < 2040) × (8 * p + 8 ≤ length (now bytes)) ⌝ }
-    ensures { λ r. ⌜ cells r ≡ advanced 2419 (cells s) (loadedAt (now (bytes .entry)) p) ⌝ }
-{
-    let x = load(bytes, p);
-    let f = s.r10;
-    Lanes {
-        r0: f ^ x,
-        r1: f ^ s.r0,
-        r2: s.r1,
-        r3: s.r2,
-        r4: f ^ s.r3,
-        r5: f ^ s.r4,
-        r6: f ^ s.r5,
-        r7: s.r6,
-        r8: f ^ s.r7,
-        r9: s.r8,
-        r10: s.r9,
-    }
-}
-
-// The residues modulo each of the eight factors of the first 5 + 11 * blocks places of the inner words. After eleven places each coefficient is back where
-// it stood, so that none has to move.
-fn residue_0(bytes: &[u8], blocks: usize) -> Lanes
-    requires { ⌜ (blocks ≤ 185) × (40 + 88 * blocks ≤ length (now bytes)) ⌝ }
-    ensures { λ r. ⌜ cells r ≡ residueOf 0 (now (bytes .entry)) (5 + 11 * blocks) ⌝ }
-{
-    let mut s = first_five(bytes);
-    let mut i: usize = 0;
-    while i < blocks {
-        let p = 5 + DEGREE * i;
-        let s1 = step_0(bytes, p, s);
-        let s2 = step_0(bytes, p + 1, s1);
-        let s3 = step_0(bytes, p + 2, s2);
-        let s4 = step_0(bytes, p + 3, s3);
-        let s5 = step_0(bytes, p + 4, s4);
-        let s6 = step_0(bytes, p + 5, s5);
-        let s7 = step_0(bytes, p + 6, s6);
-        let s8 = step_0(bytes, p + 7, s7);
-        let s9 = step_0(bytes, p + 8, s8);
-        let s10 = step_0(bytes, p + 9, s9);
-        s = step_0(bytes, p + 10, s10);
-        i += 1;
-    }
-    s
-}
-
-fn residue_1(bytes: &[u8], blocks: usize) -> Lanes
-    requires { ⌜ (blocks ≤ 185) × (40 + 88 * blocks ≤ length (now bytes)) ⌝ }
-    ensures { λ r. ⌜ cells r ≡ residueOf 1 (now (bytes .entry)) (5 + 11 * blocks) ⌝ }
-{
-    let mut s = first_five(bytes);
-    let mut i: usize = 0;
-    while i < blocks {
-        let p = 5 + DEGREE * i;
-        let s1 = step_1(bytes, p, s);
-        let s2 = step_1(bytes, p + 1, s1);
-        let s3 = step_1(bytes, p + 2, s2);
-        let s4 = step_1(bytes, p + 3, s3);
-        let s5 = step_1(bytes, p + 4, s4);
-        let s6 = step_1(bytes, p + 5, s5);
-        let s7 = step_1(bytes, p + 6, s6);
-        let s8 = step_1(bytes, p + 7, s7);
-        let s9 = step_1(bytes, p + 8, s8);
-        let s10 = step_1(bytes, p + 9, s9);
-        s = step_1(bytes, p + 10, s10);
-        i += 1;
-    }
-    s
-}
-
-fn residue_2(bytes: &[u8], blocks: usize) -> Lanes
-    requires { ⌜ (blocks ≤ 185) × (40 + 88 * blocks ≤ length (now bytes)) ⌝ }
-    ensures { λ r. ⌜ cells r ≡ residueOf 2 (now (bytes .entry)) (5 + 11 * blocks) ⌝ }
-{
-    let mut s = first_five(bytes);
-    let mut i: usize = 0;
-    while i < blocks {
-        let p = 5 + DEGREE * i;
-        let s1 = step_2(bytes, p, s);
-        let s2 = step_2(bytes, p + 1, s1);
-        let s3 = step_2(bytes, p + 2, s2);
-        let s4 = step_2(bytes, p + 3, s3);
-        let s5 = step_2(bytes, p + 4, s4);
-        let s6 = step_2(bytes, p + 5, s5);
-        let s7 = step_2(bytes, p + 6, s6);
-        let s8 = step_2(bytes, p + 7, s7);
-        let s9 = step_2(bytes, p + 8, s8);
-        let s10 = step_2(bytes, p + 9, s9);
-        s = step_2(bytes, p + 10, s10);
-        i += 1;
-    }
-    s
-}
-
-fn residue_3(bytes: &[u8], blocks: usize) -> Lanes
-    requires { ⌜ (blocks ≤ 185) × (40 + 88 * blocks ≤ length (now bytes)) ⌝ }
-    ensures { λ r. ⌜ cells r ≡ residueOf 3 (now (bytes .entry)) (5 + 11 * blocks) ⌝ }
-{
-    let mut s = first_five(bytes);
-    let mut i: usize = 0;
-    while i < blocks {
-        let p = 5 + DEGREE * i;
-        let s1 = step_3(bytes, p, s);
-        let s2 = step_3(bytes, p + 1, s1);
-        let s3 = step_3(bytes, p + 2, s2);
-        let s4 = step_3(bytes, p + 3, s3);
-        let s5 = step_3(bytes, p + 4, s4);
-        let s6 = step_3(bytes, p + 5, s5);
-        let s7 = step_3(bytes, p + 6, s6);
-        let s8 = step_3(bytes, p + 7, s7);
-        let s9 = step_3(bytes, p + 8, s8);
-        let s10 = step_3(bytes, p + 9, s9);
-        s = step_3(bytes, p + 10, s10);
-        i += 1;
-    }
-    s
-}
-
-fn residue_4(bytes: &[u8], blocks: usize) -> Lanes
-    requires { ⌜ (blocks ≤ 185) × (40 + 88 * blocks ≤ length (now bytes)) ⌝ }
-    ensures { λ r. ⌜ cells r ≡ residueOf 4 (now (bytes .entry)) (5 + 11 * blocks) ⌝ }
-{
-    let mut s = first_five(bytes);
-    let mut i: usize = 0;
-    while i < blocks {
-        let p = 5 + DEGREE * i;
-        let s1 = step_4(bytes, p, s);
-        let s2 = step_4(bytes, p + 1, s1);
-        let s3 = step_4(bytes, p + 2, s2);
-        let s4 = step_4(bytes, p + 3, s3);
-        let s5 = step_4(bytes, p + 4, s4);
-        let s6 = step_4(bytes, p + 5, s5);
-        let s7 = step_4(bytes, p + 6, s6);
-        let s8 = step_4(bytes, p + 7, s7);
-        let s9 = step_4(bytes, p + 8, s8);
-        let s10 = step_4(bytes, p + 9, s9);
-        s = step_4(bytes, p + 10, s10);
-        i += 1;
-    }
-    s
-}
-
-fn residue_5(bytes: &[u8], blocks: usize) -> Lanes
-    requires { ⌜ (blocks ≤ 185) × (40 + 88 * blocks ≤ length (now bytes)) ⌝ }
-    ensures { λ r. ⌜ cells r ≡ residueOf 5 (now (bytes .entry)) (5 + 11 * blocks) ⌝ }
-{
-    let mut s = first_five(bytes);
-    let mut i: usize = 0;
-    while i < blocks {
-        let p = 5 + DEGREE * i;
-        let s1 = step_5(bytes, p, s);
-        let s2 = step_5(bytes, p + 1, s1);
-        let s3 = step_5(bytes, p + 2, s2);
-        let s4 = step_5(bytes, p + 3, s3);
-        let s5 = step_5(bytes, p + 4, s4);
-        let s6 = step_5(bytes, p + 5, s5);
-        let s7 = step_5(bytes, p + 6, s6);
-        let s8 = step_5(bytes, p + 7, s7);
-        let s9 = step_5(bytes, p + 8, s8);
-        let s10 = step_5(bytes, p + 9, s9);
-        s = step_5(bytes, p + 10, s10);
-        i += 1;
-    }
-    s
-}
-
-fn residue_6(bytes: &[u8], blocks: usize) -> Lanes
-    requires { ⌜ (blocks ≤ 185) × (40 + 88 * blocks ≤ length (now bytes)) ⌝ }
-    ensures { λ r. ⌜ cells r ≡ residueOf 6 (now (bytes .entry)) (5 + 11 * blocks) ⌝ }
-{
-    let mut s = first_five(bytes);
-    let mut i: usize = 0;
-    while i < blocks {
-        let p = 5 + DEGREE * i;
-        let s1 = step_6(bytes, p, s);
-        let s2 = step_6(bytes, p + 1, s1);
-        let s3 = step_6(bytes, p + 2, s2);
-        let s4 = step_6(bytes, p + 3, s3);
-        let s5 = step_6(bytes, p + 4, s4);
-        let s6 = step_6(bytes, p + 5, s5);
-        let s7 = step_6(bytes, p + 6, s6);
-        let s8 = step_6(bytes, p + 7, s7);
-        let s9 = step_6(bytes, p + 8, s8);
-        let s10 = step_6(bytes, p + 9, s9);
-        s = step_6(bytes, p + 10, s10);
-        i += 1;
-    }
-    s
-}
-
-fn residue_7(bytes: &[u8], blocks: usize) -> Lanes
-    requires { ⌜ (blocks ≤ 185) × (40 + 88 * blocks ≤ length (now bytes)) ⌝ }
-    ensures { λ r. ⌜ cells r ≡ residueOf 7 (now (bytes .entry)) (5 + 11 * blocks) ⌝ }
-{
-    let mut s = first_five(bytes);
-    let mut i: usize = 0;
-    while i < blocks {
-        let p = 5 + DEGREE * i;
-        let s1 = step_7(bytes, p, s);
-        let s2 = step_7(bytes, p + 1, s1);
-        let s3 = step_7(bytes, p + 2, s2);
-        let s4 = step_7(bytes, p + 3, s3);
-        let s5 = step_7(bytes, p + 4, s4);
-        let s6 = step_7(bytes, p + 5, s5);
-        let s7 = step_7(bytes, p + 6, s6);
-        let s8 = step_7(bytes, p + 7, s7);
-        let s9 = step_7(bytes, p + 8, s8);
-        let s10 = step_7(bytes, p + 9, s9);
-        s = step_7(bytes, p + 10, s10);
-        i += 1;
-    }
-    s
-}
-
 // The residues modulo factor j, in the order of `load`.
 fn residue(j: usize, bytes: &[u8], blocks: usize) -> Lanes
     requires { ⌜ (j < 8) × (blocks ≤ 185) × (40 + 88 * blocks ≤ length (now bytes)) ⌝ }
     ensures { λ r. ⌜ cells r ≡ residueOf j (now (bytes .entry)) (5 + 11 * blocks) ⌝ }
 {
     match j {
-        0 => return residue_0(bytes, blocks),
-        1 => return residue_1(bytes, blocks),
-        2 => return residue_2(bytes, blocks),
-        3 => return residue_3(bytes, blocks),
-        4 => return residue_4(bytes, blocks),
-        5 => return residue_5(bytes, blocks),
-        6 => return residue_6(bytes, blocks),
-        _ => return residue_7(bytes, blocks),
+        0 => return factor_residues::residue_0(bytes, blocks),
+        1 => return factor_residues::residue_1(bytes, blocks),
+        2 => return factor_residues::residue_2(bytes, blocks),
+        3 => return factor_residues::residue_3(bytes, blocks),
+        4 => return factor_residues::residue_4(bytes, blocks),
+        5 => return factor_residues::residue_5(bytes, blocks),
+        6 => return factor_residues::residue_6(bytes, blocks),
+        _ => return factor_residues::residue_7(bytes, blocks),
     }
 }
 
@@ -517,6 +155,20 @@ pub(crate) fn wrong(residues: &[u64]) -> u64
     let mut i: usize = 0;
     while i < Inner::PARITY {
         x = x | residues[i];
+        i += 1;
+    }
+    x
+}
+
+// The bits that are 1 in some sum of two residues.
+pub(crate) fn wrong_sums(residues: &[u64], added: &[u64]) -> u64
+    requires { ⌜ (length (now residues) ≡ 88) × (length (now added) ≡ 88) ⌝ }
+    ensures { λ r. ⌜ r ≡ orTo 88 (sumAt (now (residues .entry)) (now (added .entry))) ⌝ }
+{
+    let mut x: u64 = 0;
+    let mut i: usize = 0;
+    while i < Inner::PARITY {
+        x = x | (residues[i] ^ added[i]);
         i += 1;
     }
     x

@@ -14,8 +14,7 @@ ghost use Rattle.words.specs.Bits.{bitOf, bitAt};
 ghost use Rattle.words.specs.InnerCode.{isInner};
 ghost use Rattle.words.specs.InnerWords.{innerWord};
 ghost use Rattle.inner_words.specs.Steps.InnerResidues.{WordResidues, oddSyndrome, isSingle};
-ghost use Rattle.inner_words.specs.Steps.Passes.{wrongWords, WordCorrected, WordTried};
-ghost use Rattle.inner_words.specs.Steps.Proposals.{Nearer};
+ghost use Rattle.inner_words.specs.Steps.Passes.{wrongWords, WordRestored, WordNearer, OneWord, EachWord};
 
 // The order of a.
 const ORDER: usize = (1 << lanes::DEGREE) - 1;
@@ -28,7 +27,7 @@ fn power(exp: &[u16], n: usize) -> u16
     exp[n % ORDER]
 }
 
-// Inner word k has the values of a single wrong place, whose locator is a^e, at a^3, .. a^15 too.
+// Inner word k has the odd syndromes of a single wrong place, whose locator is a^e, at a^3, .. a^15 too.
 fn is_single(exp: &[u16], residues: &[u64], k: usize, e: usize) -> bool
     requires { ⌜ (length (now exp) ≡ 2047) × (length (now residues) ≡ 88) × (k < 64) × (e < 2040) ⌝ }
     requires { ⌜ oddSyndrome (now exp) (now residues) k 0 ≡ tablePower (now exp) e ⌝ }
@@ -48,7 +47,7 @@ fn is_single(exp: &[u16], residues: &[u64], k: usize, e: usize) -> bool
 fn correct_single(exp: &[u16], log: &[u16], residues: &[u64], k: usize, block: &mut [u8]) -> bool
     requires { ⌜ (now exp ≡ powersB) × (length (now residues) ≡ 88) × (length (now block) ≡ 16320) × (k < 64) ⌝ }
     requires { ⌜ WordResidues (now residues) k (now block) ⌝ }
-    ensures corrected { λ r. ⌜ (r ≡ true → WordCorrected k (now (block .entry)) (now (block .exit)) true) ⌝ }
+    ensures corrected { λ r. ⌜ (r ≡ true → OneWord WordRestored k (now (block .entry)) (now (block .exit)) 0) ⌝ }
     ensures left { λ r. ⌜ (r ≡ false → now (block .exit) ≡ now (block .entry)) ⌝ }
 {
     let x = odd_syndrome(exp, residues, k, 0);
@@ -66,7 +65,7 @@ fn correct_single(exp: &[u16], log: &[u16], residues: &[u64], k: usize, block: &
     true
 }
 
-// The same where the word's bit of those that are wrong is 1. The answer is 1 for a word that is left wrong.
+// Inner word k is tried where its bit of those that are wrong is 1. The answer is 1 for a word that is left wrong.
 fn try_single(
     exp: &[u16],
     log: &[u16],
@@ -78,7 +77,7 @@ fn try_single(
     requires { ⌜ (now exp ≡ powersB) × (length (now residues) ≡ 88) × (length (now block) ≡ 16320) × (k < 64) ⌝ }
     requires { ⌜ bitOf 64 wrong k ≡ cond (isInner (innerWord (bitAt (now block)) k)) 0 1 ⌝ }
     requires { ⌜ (bitOf 64 wrong k ≡ 1 → WordResidues (now residues) k (now block)) ⌝ }
-    ensures { λ r. ⌜ WordTried k (now (block .entry)) (now (block .exit)) r ⌝ }
+    ensures { λ r. ⌜ OneWord WordNearer k (now (block .entry)) (now (block .exit)) r ⌝ }
 {
     if (wrong >> (Interleaved::WORDS - 1 - k)) & 1 == 1 {
         if correct_single(exp, log, residues, k, block) {
@@ -101,7 +100,7 @@ pub(crate) fn correct_singles(
     requires { ⌜ now exp ≡ powersB ⌝ }
     requires { ⌜ (length (now residues) ≡ 88) × (length (now block) ≡ 16320) × (wrong ≡ wrongWords (bitAt (now block))) ⌝ }
     requires { ⌜ ((k : ℕ) → k < 64 → bitOf 64 wrong k ≡ 1 → WordResidues (now residues) k (now block)) ⌝ }
-    ensures { λ r. ⌜ (r ≡ wrongWords (bitAt (now (block .exit)))) × Nearer r (now (block .entry)) (now (block .exit)) ⌝ }
+    ensures { λ r. ⌜ (r ≡ wrongWords (bitAt (now (block .exit)))) × EachWord WordNearer (now (block .entry)) (now (block .exit)) ⌝ }
 {
     let mut left: u64 = 0;
     let mut k: usize = 0;

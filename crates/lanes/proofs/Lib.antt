@@ -1,4 +1,2 @@
--- Laws of this crate that belong to no one function, in the order in which they rest on each other.
-pub mod LaneSteps
-pub mod LocatorSteps
-pub mod SearchSteps
+-- Laws of this crate that belong to no one function.
+pub mod Sliced

@@ -1,2 +1,2 @@
 -- Elements for 64 inner words at once, bit-sliced.
-pub mod LaneSteps
+pub mod Sliced

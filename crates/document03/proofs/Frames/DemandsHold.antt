@@ -13,7 +13,7 @@ use Rattle.words.specs.InnerCode as Inner
 use Rattle.words.specs.InnerWords as InnerWords
 use Rattle.words.specs.InnerWords.{innerPass}
 use Rattle.words.proofs.Bits.Bytes.{bits-at, bytes-length}
-use Rattle.inner_words.proofs.InterleavedBits.{inner-word-length}
+use Rattle.inner_words.proofs.Interleaving.InterleavedBits.{inner-word-length}
 use Rattle.frames.specs.Frames.{wrongBits}
 use Rattle.frames.specs.Frames as Frames
 use Rattle.frames.specs.Answers.{Corrected, refused, frameCorrected}

@@ -13,7 +13,7 @@ use Rattle.fields.proofs.Places.Placing.{append-at}
 use Rattle.words.specs.InnerCode.{innerParity}
 use Rattle.words.specs.InnerWords.{withParity}
 use Rattle.words.specs.InnerWords as InnerWords
-use Rattle.inner_words.proofs.InterleavedBits.{data-length, data-below, parity-before, parity-after}
+use Rattle.inner_words.proofs.Interleaving.InterleavedBits.{data-length, data-below, parity-before, parity-after}
 use Rattle.document03.proofs.Words.Statements.{innerChecks}
 use Rattle.document03.proofs.Words.WordsAgree.{dropped-at}
 use Rattle.document03.proofs.Words.InnerAgrees.{parity-agrees}

@@ -19,7 +19,7 @@ use Rattle.words.specs.Nearest.{nearest}
 use Rattle.words.specs.InnerWords as InnerWords
 use Rattle.words.specs.InnerWords.{innerPass}
 use Rattle.words.proofs.Codes.Proved.{codes}
-use Rattle.inner_words.proofs.InterleavedBits.{word-to-bit, inner-word-length}
+use Rattle.inner_words.proofs.Interleaving.InterleavedBits.{word-to-bit, inner-word-length}
 use Rattle.frames.specs.Frames.{dataIn}
 use Rattle.frames.specs.Correction.{receivedWord, isPadded}
 use Rattle.frames.specs.Correction as Correction

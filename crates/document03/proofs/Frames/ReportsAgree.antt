@@ -7,7 +7,7 @@ use Rattle.fields.specs.Places.{at, sumTo}
 use Rattle.fields.specs.Places as Places
 use Rattle.words.specs.Bits.{bitAt}
 use Rattle.words.specs.InnerWords as InnerWords
-use Rattle.inner_words.proofs.InterleavedBits.{inner-word-length}
+use Rattle.inner_words.proofs.Interleaving.InterleavedBits.{inner-word-length}
 use Rattle.frames.specs.Correction as Correction
 use Rattle.document03.proofs.Words.Statements.{apart}
 use Rattle.document03.proofs.Words.WordsAgree.{sum-first, apart-agrees}

@@ -6,6 +6,7 @@ use mathlib.Core.Option.{Option, none, some, Option·map}
 use Prim.Native.Nat.{ℕ, _+_, _-_, _*_, _<_}
 use native.Mathlib.Omega.{arith}
 use borrow.Author.Tests.{eq-eqb, ne-eqb, not-true, not-false}
+use lib.Dec.{eqb}
 use lib.ListN.{length, getD, replicate}
 use mir.Syntax.{w8}
 use mir.Val.{Fits}
@@ -18,7 +19,8 @@ use Rattle.words.specs.Bits.{bitAt, bytesOf}
 use Rattle.words.specs.Nearest.{nearest}
 use Rattle.words.specs.InnerWords.{withParity, innerPass}
 use Rattle.words.proofs.Bits.Numbers.{numberOf-same}
-use Rattle.inner_words.specs.Steps.Passes.{innerCodes, InnerPassed}
+use Rattle.inner_words.specs.Steps.Passes.{innerCodes, wrongWords, InnerPassed}
+use Rattle.inner_words.proofs.Passes.WrongWords.{none-wrong}
 use Rattle.frames.specs.Frames.{symbolAt, dataIn, frameOfWords}
 use Rattle.frames.specs.Correction.{receivedBit, receivedSymbol, receivedWord, isPermitted, outerRestored, everyOf, outerPass, restoredFrame, reportOf, total}
 use Rattle.frames.specs.Answers.{Corrected, noCounts, refused, reported, frameCorrected, withoutReport}
@@ -50,6 +52,10 @@ unfolding outerPass outerRestored
 passes-done block copy passed e p =
     ap everyOf (tabulate-same 16 _ _ (λ w k. ap (nearest (isPermitted w) 1024 8) (received-same (bitAt passed) (innerPass (bitAt copy)) (p .bits) w k)))
     ∙ ap (λ (b : List ℕ). everyOf (tabulate 16 (outerRestored (innerPass (bitAt b))))) e
+
+-- no inner word is left wrong
+pub none-left : (passed : List ℕ) (x : ℕ) → x ≡ wrongWords (bitAt passed) → eqb x 0 ≡ true → innerCodes (bitAt passed) ≡ true
+none-left passed x e t = sym (none-wrong (bitAt passed) x e) ∙ t
 
 -- ---- the outer pass
 

@@ -16,7 +16,7 @@ use Rattle.words.specs.Answers.{answered}
 use Rattle.words.specs.InnerWords.{withParity}
 use Rattle.words.proofs.Bits.Bytes.{bits-same}
 use Rattle.inner_words.specs.Steps.Passes.{innerCodes}
-use Rattle.inner_words.proofs.InterleavedBits.{data-same, parity-before, parity-after, parity-cases}
+use Rattle.inner_words.proofs.Interleaving.InterleavedBits.{data-same, parity-before, parity-after, parity-cases}
 use Rattle.frames.specs.Frames.{isBlock, outerWords, sentBit, frameOfWords, frameOf}
 use Rattle.frames.specs.Answers.{isFrame, frameEncoded, frameChecked, payloadExtracted}
 use Rattle.frames.specs.Steps.Received.{receivedSymbols, outerCodes}

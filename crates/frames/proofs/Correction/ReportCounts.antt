@@ -18,10 +18,10 @@ use Rattle.words.specs.Bits.{bitOf, bitAt}
 use Rattle.words.specs.InnerWords.{innerWord}
 use Rattle.words.proofs.Bits.Numbers.{bitOf-lt}
 use Rattle.words.proofs.Codes.ShiftedBits.{bitOf-sum}
-use Rattle.inner_words.specs.Steps.SideBySide.{placeAt}
+use Rattle.inner_words.specs.Steps.BitSliced.{placeAt}
 use Rattle.inner_words.specs.Steps.Passes.{placeCounted}
-use Rattle.inner_words.proofs.SideBySide.{place-bit}
-use Rattle.inner_words.proofs.Counts.{onesUpTo, Counting, counting-next, bit-is}
+use Rattle.inner_words.proofs.Interleaving.BitSliced.{place-bit}
+use Rattle.inner_words.proofs.Passes.Counts.{onesUpTo, Counting, counting-next, bit-is}
 use Rattle.frames.specs.Correction.{reportOf, total}
 use Rattle.frames.specs.Demands.{wrongAt, wrongIn, wrongCounts}
 

@@ -24,8 +24,8 @@ use Rattle.words.proofs.Codes.InnerWords.{inner-is}
 use Rattle.words.proofs.Codes.Nearest.{nearest-lost}
 use Rattle.words.proofs.Codes.Proved.{codes}
 use Rattle.inner_words.specs.Steps.Passes.{innerCodes}
-use Rattle.inner_words.proofs.InterleavedBits.{inner-word-length}
-use Rattle.inner_words.proofs.InnerPass.{restored-none, restored-some, restored-length}
+use Rattle.inner_words.proofs.Interleaving.InterleavedBits.{inner-word-length}
+use Rattle.inner_words.proofs.Passes.InnerPass.{restored-none, restored-some, restored-length}
 use Rattle.frames.specs.Frames.{isBlock, dataIn, outerWord, outerWords, frameOfWords, frameOf, payloadOf}
 use Rattle.frames.specs.Correction.{receivedWord, isPermitted, outerRestored, outerPass, restoredFrame, reportOf, total}
 use Rattle.frames.specs.Answers.{isFrame, Corrected, refused, reported, frameCorrected}

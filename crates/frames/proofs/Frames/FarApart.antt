@@ -12,7 +12,7 @@ use Rattle.words.specs.Bits.{bitAt}
 use Rattle.words.specs.InnerWords.{innerWord}
 use Rattle.words.proofs.Codes.Proved.{codes}
 use Rattle.words.proofs.Bits.Bytes.{bytes-same}
-use Rattle.inner_words.proofs.InterleavedBits.{word-to-bit}
+use Rattle.inner_words.proofs.Interleaving.InterleavedBits.{word-to-bit}
 use Rattle.frames.specs.Frames.{isPayload, outerWords, frameOf, payloadPlace, payloadOf, wrongBits}
 use Rattle.frames.proofs.Frames.FrameBits.{payload-is, frame-inner, payload-bits, payload-back}
 

@@ -19,7 +19,7 @@ use Rattle.words.specs.InnerWords.{innerData, innerWord, parityPlace, withParit
 use Rattle.words.proofs.Bits.Numbers.{bitOf-lt, bitOf-number, numberOf-lt}
 use Rattle.words.proofs.Bits.Bytes.{bitAt-lt, place-past, bytes-length, bytes-below, bytes-bit, bytes-same}
 use Rattle.words.proofs.Codes.Proved.{codes}
-use Rattle.inner_words.proofs.InterleavedBits.{data-same, places-code, parity-before, parity-after, withParity-lt}
+use Rattle.inner_words.proofs.Interleaving.InterleavedBits.{data-same, places-code, parity-before, parity-after, withParity-lt}
 use Rattle.frames.specs.Frames.{symbolAt, isPayload, isBlock, dataIn, outerData, outerWord, outerWords, outerBit, outerPlace, sentBit, frameOfWords, frameOf, payloadPlace, payloadOf}
 
 pub payload-is : (p : List ℕ) → isPayload p ≡ true → (length p ≡ 15296) × (allBelow 256 p ≡ true)

@@ -22,7 +22,7 @@ use Rattle.words.proofs.Bits.Bytes.{bitAt-lt, bytes-same}
 use Rattle.words.proofs.Codes.OuterWords.{outer-is}
 use Rattle.words.proofs.Codes.Proved.{codes}
 use Rattle.inner_words.specs.Steps.Passes.{innerCodes}
-use Rattle.inner_words.proofs.InterleavedBits.{data-same, code-places, parity-cases}
+use Rattle.inner_words.proofs.Interleaving.InterleavedBits.{data-same, code-places, parity-cases}
 use Rattle.frames.specs.Frames.{symbolAt, isBlock, dataIn, outerData, outerWord, outerWords, outerBit, outerPlace, sentBit, frameOfWords, frameOf, payloadPlace, payloadOf}
 use Rattle.frames.specs.Answers.{isFrame}
 use Rattle.frames.specs.Correction.{receivedBit, receivedSymbol, receivedWord}

@@ -1,6 +1,6 @@
 -- `frames::correct_frame` meets its contract. Assumes nothing.
 use borrow.Author.Needs.{needs}
-use Rattle.frames.proofs.Answers.CorrectionAnswers.{correct-length, correct-space, correct-none, correct-written}
+use Rattle.frames.proofs.Answers.CorrectionAnswers.{none-left, correct-length, correct-space, correct-none, correct-written}
 use Rattle.frames.proofs.correct_frame.Statement.{statement}
 use Rattle.frames.proofs.correct_frame.Tie as tie
 
@@ -35,7 +35,7 @@ slice-aggregate-outer-pass : tie.Need-slice-aggregate-outer-pass
 slice-aggregate-outer-pass c = search needs
 
 outer-pass-requires : tie.Need-outer-pass-requires
-outer-pass-requires c κs = search needs
+outer-pass-requires c κs = (search needs, λ t. search (needs, none-left))
 
 refused-requires-3 : tie.Need-refused-requires-3
 refused-requires-3 c κs = search needs

@@ -1,6 +1,6 @@
 -- `inner_words::are_code_words` meets its contract. Assumes nothing.
 use borrow.Author.Needs.{needs}
-use Rattle.inner_words.proofs.InnerSteps.{none-wrong}
+use Rattle.inner_words.proofs.Passes.WrongWords.{none-wrong}
 use Rattle.inner_words.proofs.are_code_words.Statement.{statement}
 use Rattle.inner_words.proofs.are_code_words.Tie as tie
 

@@ -1,9 +1,7 @@
 -- `inner_words::correct` meets its contract. Assumes nothing.
 use borrow.Author.Needs.{needs}
-use Rattle.inner_words.proofs.WordErrors.{whole-residues, left-residues}
-use Rattle.inner_words.proofs.ResidueCodes.{words-wrong}
-use Rattle.inner_words.proofs.InnerPass.{none-codes, none-passed}
-use Rattle.inner_words.proofs.TakenProposals.{nearer-passed, nearer-done}
+use Rattle.inner_words.proofs.Remainders.ResidueCodes.{words-wrong, words-right, whole-residues}
+use Rattle.inner_words.proofs.Passes.InnerPass.{nearer-twice, left-residues, none-restored, nearer-restored, pass-restored}
 use Rattle.inner_words.proofs.correct.Statement.{statement}
 use Rattle.inner_words.proofs.correct.Tie as tie
 
@@ -20,7 +18,7 @@ same-length : tie.Need-same-length
 same-length c = search needs
 
 returns : tie.Need-returns
-returns c = (search (needs, words-wrong, none-passed), λ t. search (needs, words-wrong, none-codes))
+returns c = (search (needs, words-wrong, none-restored, pass-restored), search (needs, words-right))
 
 exp-b-requires : tie.Need-exp-b-requires
 exp-b-requires c κs = search needs
@@ -40,26 +38,26 @@ slice-aggregate-correct-singles-3 c = search needs
 correct-singles-requires : tie.Need-correct-singles-requires
 correct-singles-requires c κs = (search needs, (search (needs, words-wrong), λ k l q. search (needs, whole-residues)))
 
+correct-requires : tie.Need-correct-requires
+correct-requires c κs = (search needs, λ k l q. left-residues _ _ _ _ (c .before .before .before .before .correct-singles .ensures .1) (search needs) (search needs) k l q)
+
+slice-aggregate-correct-each : tie.Need-slice-aggregate-correct-each
+slice-aggregate-correct-each c = search needs
+
+slice-aggregate-correct-each-2 : tie.Need-slice-aggregate-correct-each-2
+slice-aggregate-correct-each-2 c = search needs
+
+slice-aggregate-correct-each-3 : tie.Need-slice-aggregate-correct-each-3
+slice-aggregate-correct-each-3 c = search needs
+
+correct-each-requires : tie.Need-correct-each-requires
+correct-each-requires c κs = (search needs, (search needs, λ k l q. left-residues _ _ _ _ (nearer-twice _ _ _ (c .before .before .before .before .before .before .before .before .before .before .before .correct-singles .ensures .1) (c .before .before .before .before .before .before .correct .ensures .1)) (search needs) (search needs) k l q))
+
 same-length-2 : tie.Need-same-length-2
 same-length-2 c = search needs
 
 returns-2 : tie.Need-returns-2
-returns-2 c = (search (needs, nearer-done), λ t. search (needs, none-codes))
-
-slice-aggregate-correct-rest : tie.Need-slice-aggregate-correct-rest
-slice-aggregate-correct-rest c = search needs
-
-slice-aggregate-correct-rest-2 : tie.Need-slice-aggregate-correct-rest-2
-slice-aggregate-correct-rest-2 c = search needs
-
-correct-rest-requires : tie.Need-correct-rest-requires
-correct-rest-requires c κs = (search needs, (search needs, λ k l q. search (needs, left-residues)))
-
-same-length-3 : tie.Need-same-length-3
-same-length-3 c = search needs
-
-returns-3 : tie.Need-returns-3
-returns-3 c = (search (needs, nearer-passed), search needs)
+returns-2 c = (search (needs, nearer-restored, pass-restored), search needs)
 
 pub correct-spec : {M : Type 1} → statement M
 correct-spec =
@@ -76,10 +74,10 @@ correct-spec =
     slice-aggregate-correct-singles-2
     slice-aggregate-correct-singles-3
     correct-singles-requires
+    correct-requires
+    slice-aggregate-correct-each
+    slice-aggregate-correct-each-2
+    slice-aggregate-correct-each-3
+    correct-each-requires
     same-length-2
-    returns-2
-    slice-aggregate-correct-rest
-    slice-aggregate-correct-rest-2
-    correct-rest-requires
-    same-length-3
-    returns-3)
+    returns-2)

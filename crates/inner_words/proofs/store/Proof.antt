@@ -2,8 +2,8 @@
 use Prim.Native.Nat.{_-_}
 use borrow.Author.Needs.{needs}
 use Rattle.fields.proofs.Places.Placing.{Placing, placing-start}
-use Rattle.inner_words.specs.Steps.SideBySide.{parityBytes}
-use Rattle.inner_words.proofs.InnerSteps.{storing-next, storing-end}
+use Rattle.inner_words.specs.Steps.BitSliced.{parityBytes}
+use Rattle.inner_words.proofs.ParityPlaces.Stored.{storing-next, storing-end}
 use Rattle.inner_words.proofs.store.Statement.{statement}
 use Rattle.inner_words.proofs.store.Tie as tie
 

@@ -1,4 +1,4 @@
--- The residues of the 64 inner words modulo the eight factors of the divisor, side by side: bit k of a number, the highest of 64 first, belongs to inner
+-- The residues of the 64 inner words modulo the eight factors of the divisor, bit-sliced: bit k of a number, the highest of 64 first, belongs to inner
 -- word k.
 use mathlib.Core.Path.{_≡_}
 use mathlib.Core.Bool.{Bool, cond}
@@ -17,9 +17,9 @@ use Rattle.words.specs.InnerCode.{factors, remainder}
 abbrev pub coefficient : ℕ → ℕ → ℕ
 coefficient i r = r / 2 ^ i % 2
 
--- the polynomials r 0, .. r 63 of degree below m, side by side: their coefficients, the lowest power first
-unfoldable pub sideBySide : ℕ → (ℕ → ℕ) → List ℕ
-sideBySide m r = tabulate m (λ i. numberOf 64 (λ k. coefficient i (r k)))
+-- the polynomials r 0, .. r 63 of degree below m, bit-sliced: their coefficients, the lowest power first
+unfoldable pub bitSliced : ℕ → (ℕ → ℕ) → List ℕ
+bitSliced m r = tabulate m (λ i. numberOf 64 (λ k. coefficient i (r k)))
 
 -- the residue of the first n places of inner word k modulo factor j; and those of all inner words modulo all eight factors, eleven numbers each
 unfoldable pub wordResidue : ℕ → List ℕ → ℕ → ℕ → ℕ
@@ -45,17 +45,21 @@ unfoldable pub loadedAt : List ℕ → ℕ → ℕ
 loadedAt bytes p = numberOf 64 (λ k. bitAt bytes (64 * p + turned k))
 
 unfoldable pub residueOf : ℕ → List ℕ → ℕ → List ℕ
-residueOf j bytes n = sideBySide 11 (λ k. wordResidue j bytes n (turned k))
+residueOf j bytes n = bitSliced 11 (λ k. wordResidue j bytes n (turned k))
 
 -- the residues of inner word k of a block stand among those of all
 pub record WordResidues (residues : List ℕ) (k : ℕ) (block : List ℕ) : Type 0 where
   pub each : (c : ℕ) → c < 88 → bitOf 64 (at residues c) k ≡ coefficient (c % 11) (wordResidue (c / 11) block 2040 k)
 
--- the value at a^(2j+1) of inner word k, from its residue modulo factor j: the sum of a^((2j+1) i) over its coefficients i that are 1
+-- number c of two lists of residues, added
+unfoldable pub sumAt : List ℕ → List ℕ → ℕ → ℕ
+sumAt xs ys c = xor (at xs c) (at ys c)
+
+-- odd syndrome j of inner word k, its value at a^(2j+1), from its residue modulo factor j: the sum of a^((2j+1) i) over its coefficients i that are 1
 unfoldable pub oddSyndrome : List ℕ → List ℕ → ℕ → ℕ → ℕ
 oddSyndrome es residues k j = xorTo 11 (λ i. bitOf 64 (at residues (11 * j + i)) k * tablePower es ((2 * j + 1) * i))
 
--- inner word k has the values of a single wrong place, whose locator is a^e: a^e, a^(3 e), .. a^(15 e)
+-- inner word k has the odd syndromes of a single wrong place, whose locator is a^e: a^e, a^(3 e), .. a^(15 e)
 unfoldable pub isSingle : List ℕ → List ℕ → ℕ → ℕ → Bool
 isSingle es residues k e = every 8 (λ j. eqb (oddSyndrome es residues k j) (tablePower es ((2 * j + 1) * e)))
 

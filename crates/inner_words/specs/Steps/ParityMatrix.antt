@@ -1,4 +1,4 @@
--- The parity bits of inner words from their residues: bit q is the sum of the coefficients that row q of a matrix of bits picks.
+-- The parity bits of inner words from their residues: bit q is the sum of the coefficients that the matrix has a 1 for.
 use mathlib.Core.List.{List, [], _∷_}
 use Prim.Native.Nat.{ℕ, _+_, _*_, _/_, _%_, _^_}
 use Rattle.fields.specs.Lists.{tabulate}
@@ -17,9 +17,9 @@ shares =
 unfoldable pub column : ℕ → ℕ
 column c = valueOf (doubled 88 divisor) (at shares (c / 11)) 12 (2 ^ (c % 11))
 
--- the bits of the rows, one row after the other
-unfoldable pub parityRows : List ℕ
-parityRows = bytesOf 968 (λ i. bitOf 88 (column (i % 88)) (i / 88))
+-- for each parity bit q the 88 bits that pick the coefficients whose sum it is, one after the other
+unfoldable pub parityMatrix : List ℕ
+parityMatrix = bytesOf 968 (λ i. bitOf 88 (column (i % 88)) (i / 88))
 
 -- of the four numbers from 4 g on, the sum of those at which v has a 1, the highest of four bits first; these sums for all g and v
 unfoldable pub fourSum : List ℕ → ℕ → ℕ → ℕ
@@ -28,9 +28,9 @@ fourSum xs g v = xorTo 4 (λ t. scale (bitOf 4 v t) (at xs (4 * g + t)))
 unfoldable pub fourSums : List ℕ → List ℕ
 fourSums xs = tabulate 352 (λ i. fourSum xs (i / 16) (i % 16))
 
--- what row q picks, four columns at a time; and the numbers that all rows pick
-unfoldable pub rowSum : List ℕ → List ℕ → ℕ → ℕ
-rowSum sums rows q = xorTo 22 (λ g. at sums (16 * g + numberOf 4 (λ t. bitAt rows (88 * q + 4 * g + t))))
+-- parity place q, four numbers at a time; and all parity places
+unfoldable pub paritySum : List ℕ → List ℕ → ℕ → ℕ
+paritySum sums matrix q = xorTo 22 (λ g. at sums (16 * g + numberOf 4 (λ t. bitAt matrix (88 * q + 4 * g + t))))
 
-unfoldable pub rowSums : List ℕ → List ℕ
-rowSums xs = tabulate 88 (rowSum (fourSums xs) parityRows)
+unfoldable pub paritySums : List ℕ → List ℕ
+paritySums xs = tabulate 88 (paritySum (fourSums xs) parityMatrix)

@@ -1,6 +1,6 @@
 -- What the functions give that test and correct the 64 inner words of a block. b is the block's bits.
 use mathlib.Core.Path.{_≡_}
-use mathlib.Core.Bool.{Bool, true, cond}
+use mathlib.Core.Bool.{Bool, false, cond}
 use mathlib.Core.List.{List}
 use Prim.Native.Nat.{ℕ, _+_, _*_, _%_, _<_}
 use lib.ListN.{length}
@@ -18,24 +18,26 @@ innerCodes b = every 64 (λ k. isInner (innerWord b k))
 unfoldable pub wrongWords : (ℕ → ℕ) → ℕ
 wrongWords b = numberOf 64 (λ k. cond (isInner (innerWord b k)) 0 1)
 
--- inner word k has the places c 0, c 1, .., and the other inner words are as they were
-pub record WordPut (k : ℕ) (c : ℕ → ℕ) (before after : List ℕ) : Type 0 where
-  pub long : length after ≡ length before
-  pub inside : (p : ℕ) → p < 2040 → bitAt after (64 * p + k) ≡ c p
-  pub others : (i : ℕ) → i < 130560 → (i % 64 ≡ k → ⊥) → bitAt after i ≡ bitAt before i
+-- the inner word v is what w is restored to
+pub record WordRestored (w v : List ℕ) : Type 0 where
+  pub is : v ≡ innerRestored w
 
--- inner word k is restored, the others are as they were; true only if it is a code word then
-pub record WordCorrected (k : ℕ) (before after : List ℕ) (r : Bool) : Type 0 where
-  pub put : WordPut k (at (innerRestored (innerWord (bitAt before) k))) before after
-  pub code : r ≡ true → isInner (innerWord (bitAt after) k) ≡ true
+-- what v is restored to is what w is restored to; and v is w unless it is a code word
+pub record WordNearer (w v : List ℕ) : Type 0 where
+  pub same : innerRestored v ≡ innerRestored w
+  pub kept : isInner v ≡ false → v ≡ w
 
--- inner word k is restored or as it was; the bit is 1 if it is no code word, and then it is as it was. The others are as they were
-pub record WordTried (k : ℕ) (before after : List ℕ) (bit : ℕ) : Type 0 where
+-- inner word k stands to what it was as P says, and the others are as they were; the bit is 1 if it is no code word then
+pub record OneWord (P : List ℕ → List ℕ → Type 0) (k : ℕ) (before after : List ℕ) (bit : ℕ) : Type 0 where
   pub long : length after ≡ length before
   pub told : bit ≡ cond (isInner (innerWord (bitAt after) k)) 0 1
-  pub word : innerRestored (innerWord (bitAt after) k) ≡ innerRestored (innerWord (bitAt before) k)
-  pub kept : bit ≡ 1 → innerWord (bitAt after) k ≡ innerWord (bitAt before) k
+  pub word : P (innerWord (bitAt before) k) (innerWord (bitAt after) k)
   pub others : (j : ℕ) → j < 64 → (j ≡ k → ⊥) → innerWord (bitAt after) j ≡ innerWord (bitAt before) j
+
+-- each inner word stands to what it was as P says
+pub record EachWord (P : List ℕ → List ℕ → Type 0) (before after : List ℕ) : Type 0 where
+  pub long : length after ≡ length before
+  pub word : (k : ℕ) → k < 64 → P (innerWord (bitAt before) k) (innerWord (bitAt after) k)
 
 -- the inner pass over a block
 pub record InnerPassed (before after : List ℕ) : Type 0 where

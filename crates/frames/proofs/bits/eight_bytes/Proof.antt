@@ -1,6 +1,6 @@
 -- `frames::bits::eight_bytes` meets its contract. Assumes nothing.
 use borrow.Author.Needs.{needs}
-use Rattle.inner_words.proofs.InnerSteps.{byte-fits}
+use Rattle.inner_words.proofs.Interleaving.EightBytes.{byte-fits}
 use Rattle.frames.proofs.Numbers.Groups.{eight-made}
 use Rattle.frames.proofs.bits.eight_bytes.Statement.{statement}
 use Rattle.frames.proofs.bits.eight_bytes.Tie as tie

@@ -1,6 +1,6 @@
 -- `frames::bits::symbols` meets its contract. Assumes nothing.
 use borrow.Author.Needs.{needs}
-use Rattle.inner_words.proofs.InnerSteps.{byte-fits}
+use Rattle.inner_words.proofs.Interleaving.EightBytes.{byte-fits}
 use Rattle.frames.proofs.OuterSymbols.Tested.{symbols-read}
 use Rattle.frames.proofs.bits.symbols.Statement.{statement}
 use Rattle.frames.proofs.bits.symbols.Tie as tie

@@ -1,7 +1,7 @@
 -- `frames::comparison::counts` meets its contract. Assumes nothing.
 use Prim.Native.Nat.{_-_, _≤_}
 use borrow.Author.Needs.{needs}
-use Rattle.inner_words.proofs.Counts.{Counting, counting-start, counting-few}
+use Rattle.inner_words.proofs.Passes.Counts.{Counting, counting-start, counting-few}
 use Rattle.frames.proofs.Correction.ReportCounts.{differences, report-next, report-end}
 use Rattle.frames.proofs.comparison.counts.Statement.{statement}
 use Rattle.frames.proofs.comparison.counts.Tie as tie

@@ -1,6 +1,6 @@
 -- `inner_words::odd_syndromes::odd_syndrome` meets its contract. Assumes nothing.
 use borrow.Author.Needs.{needs}
-use Rattle.inner_words.proofs.WordErrors.{Adding, adding-start, adding-next, adding-end, exponent-fits, exponent-small}
+use Rattle.inner_words.proofs.Passes.WordErrors.{Adding, adding-start, adding-next, adding-end, exponent-fits, exponent-small}
 use Prim.Native.Nat.{_-_}
 use Rattle.inner_words.proofs.odd_syndromes.odd_syndrome.Statement.{statement}
 use Rattle.inner_words.proofs.odd_syndromes.odd_syndrome.Tie as tie

@@ -1,6 +1,6 @@
 -- `inner_words::odd_syndromes::term` meets its contract. Assumes nothing.
 use borrow.Author.Needs.{needs}
-use Rattle.inner_words.proofs.WordErrors.{bit-fits, term-fits, term-is}
+use Rattle.inner_words.proofs.Passes.WordErrors.{bit-fits, term-fits, term-is}
 use Rattle.inner_words.proofs.odd_syndromes.term.Statement.{statement}
 use Rattle.inner_words.proofs.odd_syndromes.term.Tie as tie
 

@@ -1,6 +1,6 @@
 -- `inner_words::one_by_one::correct_word` meets its contract. Assumes nothing.
 use borrow.Author.Needs.{needs}
-use Rattle.inner_words.proofs.WordErrors.{not-explained, word-explained}
+use Rattle.inner_words.proofs.Passes.WordErrors.{not-explained, word-explained}
 use Rattle.inner_words.proofs.one_by_one.correct_word.Statement.{statement}
 use Rattle.inner_words.proofs.one_by_one.correct_word.Tie as tie
 

@@ -1,7 +1,6 @@
 -- `inner_words::one_by_one::correct_wrong` meets its contract. Assumes nothing.
 use borrow.Author.Needs.{needs}
-use Rattle.inner_words.proofs.WordErrors.{wrong-residues}
-use Rattle.inner_words.proofs.InnerPass.{right-stays}
+use Rattle.inner_words.proofs.Passes.InnerPass.{wrong-residues, right-restored}
 use Rattle.inner_words.proofs.one_by_one.correct_wrong.Statement.{statement}
 use Rattle.inner_words.proofs.one_by_one.correct_wrong.Tie as tie
 
@@ -27,7 +26,7 @@ returns : tie.Need-returns
 returns c = search needs
 
 returns-2 : tie.Need-returns-2
-returns-2 c = (search (needs, right-stays), search needs)
+returns-2 c = (search (needs, right-restored), search needs)
 
 pub correct-wrong-spec : {M : Type 1} → statement M
 correct-wrong-spec =

@@ -2,7 +2,7 @@
 use Prim.Native.Nat.{_-_, _*_}
 use borrow.Author.Needs.{needs}
 use Rattle.fields.proofs.Places.Filling.{Filled}
-use Rattle.inner_words.proofs.ParitySteps.{sumAt, sums-start, sums-next, sums-end}
+use Rattle.inner_words.proofs.ParityPlaces.ParitySteps.{sumAt, sums-start, sums-next, sums-end}
 use Rattle.inner_words.proofs.parity.four_sums.Statement.{statement}
 use Rattle.inner_words.proofs.parity.four_sums.Tie as tie
 

@@ -1,6 +1,6 @@
 -- `inner_words::parity::sums_of` meets its contract. Assumes nothing.
 use Rattle.fields.specs.Elements.{xor}
-use Rattle.inner_words.proofs.ParitySteps.{sixteen-sums}
+use Rattle.inner_words.proofs.ParityPlaces.ParitySteps.{sixteen-sums}
 use Rattle.inner_words.proofs.parity.sums_of.Statement.{statement}
 use Rattle.inner_words.proofs.parity.sums_of.Tie as tie
 

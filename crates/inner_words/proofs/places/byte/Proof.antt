@@ -1,7 +1,7 @@
 -- `inner_words::places::byte` meets its contract. Assumes nothing.
 use borrow.Author.Needs.{needs}
 use Rattle.words.proofs.Bits.Numbers.{eight-fit}
-use Rattle.inner_words.proofs.InnerSteps.{byte-made}
+use Rattle.inner_words.proofs.Interleaving.EightBytes.{byte-made}
 use Rattle.inner_words.proofs.places.byte.Statement.{statement}
 use Rattle.inner_words.proofs.places.byte.Tie as tie
 

@@ -4,7 +4,7 @@ use borrow.Author.Needs.{needs}
 use mir.Facts.{fits-8-16}
 use Rattle.fields.proofs.Places.Filling.{FilledOver, over-start}
 use Rattle.words.proofs.Bits.Numbers.{one-fit}
-use Rattle.inner_words.proofs.Counts.{countedAt, count-none, count-fits, count-next, count-end}
+use Rattle.inner_words.proofs.Passes.Counts.{countedAt, count-none, count-fits, count-next, count-end}
 use Rattle.inner_words.proofs.places.count.Statement.{statement}
 use Rattle.inner_words.proofs.places.count.Tie as tie
 

@@ -1,6 +1,6 @@
 -- `inner_words::places::place` meets its contract. Assumes nothing.
 use borrow.Author.Needs.{needs}
-use Rattle.inner_words.proofs.InnerSteps.{byte-fits, place-made}
+use Rattle.inner_words.proofs.Interleaving.EightBytes.{byte-fits, place-made}
 use Rattle.inner_words.proofs.places.place.Statement.{statement}
 use Rattle.inner_words.proofs.places.place.Tie as tie
 

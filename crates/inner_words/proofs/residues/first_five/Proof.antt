@@ -1,6 +1,6 @@
 -- `inner_words::residues::first_five` meets its contract. Assumes nothing.
 use borrow.Author.Needs.{needs}
-use Rattle.inner_words.proofs.ResidueSteps.{five-places}
+use Rattle.inner_words.proofs.Remainders.ResidueSteps.{five-places}
 use Rattle.inner_words.proofs.residues.first_five.Statement.{statement}
 use Rattle.inner_words.proofs.residues.first_five.Tie as tie
 

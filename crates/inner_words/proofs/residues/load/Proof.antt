@@ -1,6 +1,6 @@
 -- `inner_words::residues::load` meets its contract. Assumes nothing.
 use borrow.Author.Needs.{needs}
-use Rattle.inner_words.proofs.InnerSteps.{byte-fits, load-made}
+use Rattle.inner_words.proofs.Interleaving.EightBytes.{byte-fits, load-made}
 use Rattle.inner_words.proofs.residues.load.Statement.{statement}
 use Rattle.inner_words.proofs.residues.load.Tie as tie
 

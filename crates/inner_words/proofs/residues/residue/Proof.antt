@@ -1,6 +1,6 @@
 -- `inner_words::residues::residue` meets its contract. Assumes nothing.
 use borrow.Author.Needs.{needs}
-use Rattle.inner_words.proofs.ResidueSteps.{by-factor, last-factor}
+use Rattle.inner_words.proofs.Remainders.ResidueSteps.{by-factor, last-factor}
 use Rattle.inner_words.proofs.residues.residue.Statement.{statement}
 use Rattle.inner_words.proofs.residues.residue.Tie as tie
 

@@ -2,7 +2,7 @@
 use Prim.Native.Nat.{_+_, _-_, _*_}
 use borrow.Author.Needs.{needs}
 use Rattle.fields.proofs.Places.Filling.{Filled}
-use Rattle.inner_words.proofs.ResidueSteps.{residueAt, residues-start, residues-next, residues-end}
+use Rattle.inner_words.proofs.Remainders.ResidueSteps.{residueAt, residues-start, residues-next, residues-end}
 use Rattle.inner_words.proofs.residues.residues.Statement.{statement}
 use Rattle.inner_words.proofs.residues.residues.Tie as tie
 

@@ -1,6 +1,6 @@
 -- `inner_words::residues::swapped` meets its contract. Assumes nothing.
 use borrow.Author.Needs.{needs}
-use Rattle.inner_words.proofs.InnerSteps.{swapped-made}
+use Rattle.inner_words.proofs.Interleaving.EightBytes.{swapped-made}
 use Rattle.inner_words.proofs.residues.swapped.Statement.{statement}
 use Rattle.inner_words.proofs.residues.swapped.Tie as tie
 

@@ -2,7 +2,7 @@
 use Prim.Native.Nat.{_-_}
 use borrow.Author.Needs.{needs}
 use Rattle.fields.proofs.Places.Filling.{FilledOver, over-start}
-use Rattle.inner_words.proofs.ResidueSteps.{swappedAt, turn-next, turn-end}
+use Rattle.inner_words.proofs.Remainders.ResidueSteps.{swappedAt, turn-next, turn-end}
 use Rattle.inner_words.proofs.residues.turn.Statement.{statement}
 use Rattle.inner_words.proofs.residues.turn.Tie as tie
 

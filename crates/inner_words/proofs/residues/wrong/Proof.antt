@@ -3,8 +3,8 @@ use mathlib.Core.Path.{_≡_}
 use Prim.Native.Nat.{_-_, _≤_}
 use borrow.Author.Needs.{needs}
 use Rattle.fields.specs.Places.{at}
-use Rattle.lanes.specs.Steps.LaneSteps.{orTo}
-use Rattle.lanes.proofs.LaneSteps.{some-none, some-next, some-end}
+use Rattle.lanes.specs.Steps.Sliced.{orTo}
+use Rattle.lanes.proofs.Sliced.{some-none, some-next, some-end}
 use Rattle.inner_words.proofs.residues.wrong.Statement.{statement}
 use Rattle.inner_words.proofs.residues.wrong.Tie as tie
 

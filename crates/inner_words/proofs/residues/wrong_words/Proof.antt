@@ -1,6 +1,6 @@
 -- `inner_words::residues::wrong_words` meets its contract. Assumes nothing.
 use borrow.Author.Needs.{needs}
-use Rattle.inner_words.proofs.ResidueCodes.{words-wrong}
+use Rattle.inner_words.proofs.Remainders.ResidueCodes.{words-wrong}
 use Rattle.inner_words.proofs.residues.wrong_words.Statement.{statement}
 use Rattle.inner_words.proofs.residues.wrong_words.Tie as tie
 

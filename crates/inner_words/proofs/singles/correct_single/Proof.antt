@@ -1,6 +1,6 @@
 -- `inner_words::singles::correct_single` meets its contract. Assumes nothing.
 use borrow.Author.Needs.{needs}
-use Rattle.inner_words.proofs.SingleErrors.{untrue, unfalse, powers-are, value-given, single-corrected}
+use Rattle.inner_words.proofs.Passes.SingleErrors.{untrue, unfalse, powers-are, value-given, single-restored}
 use Rattle.inner_words.proofs.singles.correct_single.Statement.{statement}
 use Rattle.inner_words.proofs.singles.correct_single.Tie as tie
 
@@ -50,7 +50,7 @@ same-length : tie.Need-same-length
 same-length c = search needs
 
 returns-4 : tie.Need-returns-4
-returns-4 c = (λ q. search (needs, single-corrected), λ q. unfalse q)
+returns-4 c = (λ q. search (needs, single-restored), λ q. unfalse q)
 
 pub correct-single-spec : {M : Type 1} → statement M
 correct-single-spec =

@@ -1,6 +1,6 @@
 -- `inner_words::singles::is_single` meets its contract. Assumes nothing.
 use borrow.Author.Needs.{needs}
-use Rattle.inner_words.proofs.SingleErrors.{singleUpTo, single-first, single-exponent, single-not, single-next, single-end}
+use Rattle.inner_words.proofs.Passes.SingleErrors.{singleUpTo, single-first, single-exponent, single-not, single-next, single-end}
 use mathlib.Core.Path.{_≡_}
 use mathlib.Core.Bool.{true}
 use Prim.Native.Nat.{_-_, _≤_}

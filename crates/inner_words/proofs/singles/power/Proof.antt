@@ -1,6 +1,6 @@
 -- `inner_words::singles::power` meets its contract. Assumes nothing.
 use borrow.Author.Needs.{needs}
-use Rattle.inner_words.proofs.SingleErrors.{power-is}
+use Rattle.inner_words.proofs.Passes.SingleErrors.{power-is}
 use Rattle.inner_words.proofs.singles.power.Statement.{statement}
 use Rattle.inner_words.proofs.singles.power.Tie as tie
 

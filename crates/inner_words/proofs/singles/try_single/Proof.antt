@@ -1,7 +1,6 @@
 -- `inner_words::singles::try_single` meets its contract. Assumes nothing.
 use borrow.Author.Needs.{needs}
-use Rattle.inner_words.proofs.WordErrors.{wrong-residues}
-use Rattle.inner_words.proofs.SingleErrors.{tried-corrected, tried-left, tried-right}
+use Rattle.inner_words.proofs.Passes.InnerPass.{wrong-residues, wrong-stays, right-nearer, restored-nearer}
 use Rattle.inner_words.proofs.singles.try_single.Statement.{statement}
 use Rattle.inner_words.proofs.singles.try_single.Tie as tie
 
@@ -21,16 +20,16 @@ same-length : tie.Need-same-length
 same-length c = search needs
 
 returns : tie.Need-returns
-returns c = search (needs, tried-corrected)
+returns c = search (needs, restored-nearer)
 
 same-length-2 : tie.Need-same-length-2
 same-length-2 c = search needs
 
 returns-2 : tie.Need-returns-2
-returns-2 c = search (needs, tried-left)
+returns-2 c = search (needs, wrong-stays)
 
 returns-3 : tie.Need-returns-3
-returns-3 c = search (needs, tried-right)
+returns-3 c = search (needs, right-nearer)
 
 pub try-single-spec : {M : Type 1} → statement M
 try-single-spec =

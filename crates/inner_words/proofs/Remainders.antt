@@ -1,0 +1,4 @@
+-- The residues of inner words modulo the factors of the divisor.
+pub mod InnerResidues
+pub mod ResidueSteps
+pub mod ResidueCodes

@@ -1,0 +1,137 @@
+// Candidates for all inner words at once (crate lanes): in each place the words to be inverted there. A candidate is taken after a test: only if the word with
+// its places inverted is a code word, and at most eight places are inverted. So nothing is asked of the candidates themselves.
+use crate::Interleaved;
+use crate::places;
+use crate::residues;
+use lanes::candidates;
+use words::Inner;
+ghost use mathlib.Core.Path.{_≡_};
+ghost use Prim.Native.Nat.{ℕ, _+_, _*_, _<_};
+ghost use lib.ListN.{length};
+ghost use Rattle.words.specs.Bits.{bitOf, bitAt};
+ghost use Rattle.inner_words.specs.Steps.Passes.{wrongWords, WordNearer, EachWord};
+ghost use Rattle.inner_words.specs.Steps.InnerResidues.{WordResidues};
+ghost use Rattle.inner_words.specs.Steps.Candidates.{Flipped, AsBlock, flipCounts, overRadius, tooMany, failing, ones};
+
+// Inverts the places that `flips` has a 1 for, in the inner words that the mask has a 1 for.
+fn flip_places(flips: &[u64], mask: u64, block: &mut [u8])
+    requires { ⌜ (length (now flips) ≡ 2040) × (length (now block) ≡ 16320) ⌝ }
+    ensures { λ _. ⌜ Flipped (now (flips .entry)) mask (now (block .entry)) (now (block .exit)) ⌝ }
+{
+    let mut p: usize = 0;
+    while p < Inner::PLACES {
+        let x = places::place(block, p) ^ (flips[p] & mask);
+        places::put_place(block, p, x);
+        p += 1;
+    }
+}
+
+// 1 for a count over the radius.
+fn over_radius(count: u16) -> u64
+    ensures { λ r. ⌜ (r ≡ overRadius count) × (r < 2) ⌝ }
+{
+    if Inner::RADIUS < count as usize { 1 } else { 0 }
+}
+
+// The inner words with a count over the radius.
+fn too_many(counts: &[u16]) -> u64
+    requires { ⌜ length (now counts) ≡ 64 ⌝ }
+    ensures { λ r. ⌜ r ≡ tooMany (now (counts .entry)) ⌝ }
+{
+    let mut m: u64 = 0;
+    let mut k: usize = 0;
+    while k < Interleaved::WORDS {
+        m = 2 * m + over_radius(counts[k]);
+        k += 1;
+    }
+    m
+}
+
+// In how many places each inner word is to be inverted.
+fn flip_counts(flips: &[u64]) -> [u16; Interleaved::WORDS]
+    requires { ⌜ length (now flips) ≡ 2040 ⌝ }
+    ensures { λ r. ⌜ r ≡ flipCounts (now (flips .entry)) ⌝ }
+{
+    let mut counts = [0u16; Interleaved::WORDS];
+    let mut p: usize = 0;
+    while p < Inner::PLACES {
+        places::count(&mut counts, flips[p]);
+        p += 1;
+    }
+    counts
+}
+
+// Writes the candidates as a block: a 1 in each place that is to be inverted.
+fn write_flips(flips: &[u64], out: &mut [u8])
+    requires { ⌜ (length (now flips) ≡ 2040) × (length (now out) ≡ 16320) ⌝ }
+    ensures { λ _. ⌜ AsBlock (now (flips .entry)) (now (out .exit)) ⌝ }
+{
+    let mut p: usize = 0;
+    while p < Inner::PLACES {
+        places::put_place(out, p, flips[p]);
+        p += 1;
+    }
+}
+
+// The inner words whose candidate fails, by their residues. Residues are linear: those of a word with places inverted are its own plus those of the word that
+// has a 1 in these places alone.
+fn failing(residues: &[u64], flips: &[u64]) -> u64
+    requires { ⌜ (length (now residues) ≡ 88) × (length (now flips) ≡ 2040) ⌝ }
+    ensures { λ r. ⌜ r ≡ failing (now (residues .entry)) (now (flips .entry)) ⌝ }
+{
+    let mut inverted = crate::blank();
+    write_flips(flips, &mut inverted);
+    let added = residues::residues(&inverted, lanes::WORD_BLOCKS);
+    let counts = flip_counts(flips);
+    residues::wrong_sums(residues, &added) | too_many(&counts)
+}
+
+// Takes the candidates in the block, where they hold; what is left as it was and is no code word is the answer, bit k, the highest first, for word k.
+fn take(residues: &[u64], wrong: u64, flips: &[u64], block: &mut [u8]) -> u64
+    requires { ⌜ (length (now residues) ≡ 88) × (length (now flips) ≡ 2040) × (length (now block) ≡ 16320) ⌝ }
+    requires { ⌜ wrong ≡ wrongWords (bitAt (now block)) ⌝ }
+    requires { ⌜ ((k : ℕ) → k < 64 → bitOf 64 wrong k ≡ 1 → WordResidues (now residues) k (now block)) ⌝ }
+    ensures { λ r. ⌜ (r ≡ wrongWords (bitAt (now (block .exit)))) × EachWord WordNearer (now (block .entry)) (now (block .exit)) ⌝ }
+{
+    let left = wrong & failing(residues, flips);
+    flip_places(flips, wrong ^ left, block);
+    left
+}
+
+// More wrong inner words than this are worth the search for candidates: for one it takes as long as for all.
+const FEW: usize = 16;
+
+// How many bits of the number are 1.
+fn ones(x: u64) -> usize
+    ensures { λ r. ⌜ r ≡ ones x ⌝ }
+{
+    let mut n: usize = 0;
+    let mut k: usize = 0;
+    while k < Interleaved::WORDS {
+        n += ((x >> (Interleaved::WORDS - 1 - k)) & 1) as usize;
+        k += 1;
+    }
+    n
+}
+
+// Candidates to write into: their length is all that is promised.
+fn blank() -> [u64; Inner::PLACES]
+    ensures { λ r. ⌜ length r ≡ 2040 ⌝ }
+{
+    [0; Inner::PLACES]
+}
+
+// Where many inner words of the block are wrong, candidates are found by the residues of the wrong ones, and taken where they hold; the wrong words that are
+// left are the answer.
+pub(crate) fn correct(residues: &[u64; Inner::PARITY], wrong: u64, block: &mut [u8]) -> u64
+    requires { ⌜ (length (now block) ≡ 16320) × (wrong ≡ wrongWords (bitAt (now block))) ⌝ }
+    requires { ⌜ ((k : ℕ) → k < 64 → bitOf 64 wrong k ≡ 1 → WordResidues (now residues) k (now block)) ⌝ }
+    ensures { λ r. ⌜ (r ≡ wrongWords (bitAt (now (block .exit)))) × EachWord WordNearer (now (block .entry)) (now (block .exit)) ⌝ }
+{
+    if ones(wrong) <= FEW {
+        return wrong;
+    }
+    let mut flips = blank();
+    candidates::find(residues, wrong, &mut flips);
+    take(residues, wrong, &flips, block)
+}

@@ -1,0 +1,14 @@
+-- Bit-sliced elements: bit k of a number, the highest of 64 first, is that of inner word k, and eleven numbers (`Lanes`) are an element of each.
+use mathlib.Core.List.{List, [], _∷_}
+use Prim.Native.Nat.{ℕ, zero, suc}
+use lib.Bits.{bitOr}
+use Rattle.lanes.specs.declared.Lanes.{Lanes}
+
+-- the numbers of a `Lanes`
+abbrev pub cells : Lanes → List ℕ
+cells s = s .r0 ∷ s .r1 ∷ s .r2 ∷ s .r3 ∷ s .r4 ∷ s .r5 ∷ s .r6 ∷ s .r7 ∷ s .r8 ∷ s .r9 ∷ s .r10 ∷ []
+
+-- a bit is 1 where it is 1 in some of f 0, .. f (n - 1)
+unfoldable pub orTo : ℕ → (ℕ → ℕ) → ℕ
+orTo zero f = 0
+orTo (suc n) f = bitOr (orTo n f) (f n)

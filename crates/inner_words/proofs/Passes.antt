@@ -2,6 +2,7 @@
 pub mod WrongWords
 pub mod InnerPass
 pub mod Counts
+pub mod FlippedPlaces
 pub mod TakenCandidates
 pub mod WordErrors
 pub mod SingleErrors

@@ -1,7 +1,7 @@
 // The 64 inner words of a frame, bit-sliced: eight bytes are one place of them all, the bits of one number (module places). Their residues modulo the eight
-// factors of the divisor (module residues) give the parity bits (module parity), and tell which inner words of a block are no code words; of those the ones with
-// a single wrong place are corrected at sight (module singles), many others at once, as candidates that are tested (module candidates, over crate lanes), few
-// others one by one (module one_by_one).
+// factors of the divisor (modules residues and factor_residues) give the parity bits (module parity), and tell which inner words of a block are no code words.
+// Those with a single wrong place are corrected at sight (module singles), many others at once, as candidates that are tested (module candidates, over crate
+// lanes), what is left one by one (module one_by_one); each way answers the words that it leaves wrong.
 use words::Inner;
 ghost use mathlib.Core.Path.{_≡_};
 ghost use lib.ListN.{length};

@@ -1,4 +1,4 @@
-// The matrix that makes the parity bits of inner words of their residues: for each parity place the 88 bits that pick the numbers whose sum it is, eleven bytes.
+// The matrix that makes the parity bits of inner words of their residues: for each parity place 88 bits, which pick the numbers whose sum it is.
 pub const PARITY_MATRIX: [u8; 968] = [
     144,
     123,

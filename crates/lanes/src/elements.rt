@@ -1,8 +1,14 @@
-// Elements of field B of all 64 inner words at once, and banks of sixteen: a sum or a product is made for all of them by the same few operations.
+// Elements of field B of all 64 inner words at once, and banks of sixteen: an operation on the numbers is, for each inner word k, the field's operation on its
+// elements.
 use crate::DEGREE;
 use crate::Lanes;
-ghost use Prim.Native.Nat.{_+_, _≤_, _<_};
+ghost use mathlib.Core.Path.{_≡_};
+ghost use mathlib.Core.Bool.{cond};
+ghost use Prim.Native.Nat.{ℕ, _+_, _≤_, _<_, min};
+ghost use lib.Dec.{eqb};
 ghost use lib.ListN.{length};
+ghost use Rattle.fields.specs.Elements.{xor, scale, doubled, timesB};
+ghost use Rattle.lanes.specs.Steps.Sliced.{laneBit, element};
 
 // Elements that a bank has place for, and its numbers.
 const ELEMENTS: usize = 16;
@@ -26,7 +32,10 @@ pub(crate) fn bit(x: u64) -> Lanes {
     }
 }
 
-pub(crate) fn sum(x: Lanes, y: Lanes) -> Lanes {
+// The sum of two elements.
+pub(crate) fn sum(x: Lanes, y: Lanes) -> Lanes
+    ensures { λ r. ⌜ ((k : ℕ) → element k r ≡ xor (element k x) (element k y)) ⌝ }
+{
     Lanes {
         r0: x.r0 ^ y.r0,
         r1: x.r1 ^ y.r1,
@@ -43,7 +52,9 @@ pub(crate) fn sum(x: Lanes, y: Lanes) -> Lanes {
 }
 
 // x in the inner words of the mask, 0 in the others.
-fn masked(x: Lanes, mask: u64) -> Lanes {
+fn masked(x: Lanes, mask: u64) -> Lanes
+    ensures { λ r. ⌜ ((k : ℕ) → element k r ≡ scale (laneBit k mask) (element k x)) ⌝ }
+{
     Lanes {
         r0: x.r0 & mask,
         r1: x.r1 & mask,
@@ -60,12 +71,16 @@ fn masked(x: Lanes, mask: u64) -> Lanes {
 }
 
 // The inner words in which x is not zero.
-pub(crate) fn nonzero(x: Lanes) -> u64 {
+pub(crate) fn nonzero(x: Lanes) -> u64
+    ensures { λ r. ⌜ ((k : ℕ) → laneBit k r ≡ min (element k x) 1) ⌝ }
+{
     x.r0 | x.r1 | x.r2 | x.r3 | x.r4 | x.r5 | x.r6 | x.r7 | x.r8 | x.r9 | x.r10
 }
 
 // a times x: z^11 is z^2 + 1.
-pub(crate) fn doubled(x: Lanes) -> Lanes {
+pub(crate) fn doubled(x: Lanes) -> Lanes
+    ensures { λ r. ⌜ ((k : ℕ) → element k r ≡ doubled 11 2053 (element k x)) ⌝ }
+{
     Lanes {
         r0: x.r10,
         r1: x.r0,
@@ -92,12 +107,17 @@ pub(crate) fn times_power(x: Lanes, n: usize) -> Lanes {
     y
 }
 
-// One more bit of y, the highest first, in the product of x and y.
-fn product_step(p: Lanes, x: Lanes, y: u64) -> Lanes {
+// The product of x and y with one bit of y more than p has.
+fn product_step(p: Lanes, x: Lanes, y: u64) -> Lanes
+    ensures { λ r. ⌜ ((k : ℕ) → element k r ≡ xor (doubled 11 2053 (element k p)) (scale (laneBit k y) (element k x))) ⌝ }
+{
     sum(doubled(p), masked(x, y))
 }
 
-fn product(x: Lanes, y: Lanes) -> Lanes {
+// The product of two elements, by the bits of the second, the highest first.
+fn product(x: Lanes, y: Lanes) -> Lanes
+    ensures { λ r. ⌜ ((k : ℕ) → element k r ≡ timesB (element k x) (element k y)) ⌝ }
+{
     let p9 = product_step(masked(x, y.r10), x, y.r9);
     let p8 = product_step(p9, x, y.r8);
     let p7 = product_step(p8, x, y.r7);
@@ -111,7 +131,9 @@ fn product(x: Lanes, y: Lanes) -> Lanes {
 }
 
 // The product with a coefficient x, which often is zero in every inner word: then nothing is multiplied.
-pub(crate) fn sparse_product(x: Lanes, y: Lanes) -> Lanes {
+pub(crate) fn sparse_product(x: Lanes, y: Lanes) -> Lanes
+    ensures { λ r. ⌜ ((k : ℕ) → element k r ≡ timesB (element k x) (element k y)) ⌝ }
+{
     if nonzero(x) == 0 {
         return x;
     }
@@ -119,7 +141,9 @@ pub(crate) fn sparse_product(x: Lanes, y: Lanes) -> Lanes {
 }
 
 // The square, which is additive: z^12, z^14, .. z^20 are z^3 + z, z^5 + z^3, z^7 + z^5, z^9 + z^7, z^9 + z^2 + 1.
-pub(crate) fn square(x: Lanes) -> Lanes {
+pub(crate) fn square(x: Lanes) -> Lanes
+    ensures { λ r. ⌜ ((k : ℕ) → element k r ≡ timesB (element k x) (element k x)) ⌝ }
+{
     Lanes {
         r0: x.r0 ^ x.r10,
         r1: x.r6,
@@ -136,7 +160,9 @@ pub(crate) fn square(x: Lanes) -> Lanes {
 }
 
 // x in the inner words of the mask, y in the others.
-pub(crate) fn chosen(mask: u64, x: Lanes, y: Lanes) -> Lanes {
+pub(crate) fn chosen(mask: u64, x: Lanes, y: Lanes) -> Lanes
+    ensures { λ r. ⌜ ((k : ℕ) → element k r ≡ cond (eqb (laneBit k mask) 1) (element k x) (element k y)) ⌝ }
+{
     sum(y, masked(sum(x, y), mask))
 }
 

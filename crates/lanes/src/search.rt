@@ -52,7 +52,7 @@ fn start_sequence(x: Lanes, m: usize, s: &mut [u64])
 {
     let mut y = x;
     let mut n: usize = 0;
-    while n < 2 * DEGREE {
+    while n < 22 {
         s[m + n] = y.r10;
         y = elements::doubled(y);
         n += 1;
@@ -202,7 +202,7 @@ fn blocks(locator: &[u64; BANK], terms: usize, s: &mut [u64], wrong: u64, flips:
     }
 }
 
-// The wrong places, by locator polynomials of the degree at most.
+// The wrong places, by locator polynomials of the degree at most: up to degree 2 no further term is needed, up to degree 4 the first.
 pub(crate) fn search(locator: &[u64; BANK], degree: usize, wrong: u64, flips: &mut [u64])
     requires { ⌜ length (now flips) ≡ 2040 ⌝ }
 {

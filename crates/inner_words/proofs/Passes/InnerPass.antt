@@ -78,8 +78,8 @@ pub word-other : (before after : List ℕ) (k : ℕ) → ((i : ℕ) → i < 1305
 unfolding innerWord
 word-other before after k others j h n = tabulate-same 2040 _ _ (λ p l. others (64 * p + j) (omega arith) (λ e. n (omega arith)))
 
-pub word-stays : {P : List ℕ → List ℕ → Type 0} {block : List ℕ} {k bit : ℕ} → bit ≡ wrongAt block k → P (innerWord (bitAt block) k) (innerWord (bitAt block) k) →
-    OneWord P k block block bit
+pub word-stays : {P : List ℕ → List ℕ → Type 0} {block : List ℕ} {k bit : ℕ} → bit ≡ wrongAt block k →
+    P (innerWord (bitAt block) k) (innerWord (bitAt block) k) → OneWord P k block block bit
 word-stays told p = record { long = refl; told = told; word = p; others = λ j h n. refl }
 
 -- the bit of inner word k among those that are wrong is set, or is not
@@ -93,7 +93,8 @@ module _ (block : List ℕ) (k x : ℕ) (told : bitOf 64 x k ≡ wrongAt block k
   abbrev w : List ℕ
   w = innerWord (bitAt block) k
 
-  pub wrong-residues : (residues : List ℕ) → (bitOf 64 x k ≡ 1 → WordResidues residues k block) → bitAnd (x / 2 ^ (63 - k)) 1 ≡ 1 → WordResidues residues k block
+  pub wrong-residues : (residues : List ℕ) → (bitOf 64 x k ≡ 1 → WordResidues residues k block) → bitAnd (x / 2 ^ (63 - k)) 1 ≡ 1 →
+      WordResidues residues k block
   wrong-residues residues R e = R (wrong-set k x e l)
 
   pub wrong-stays : bitAnd (x / 2 ^ (63 - k)) 1 ≡ 1 → (after : List ℕ) (r : Bool) → (r ≡ false → after ≡ block) → r ≡ false → OneWord WordNearer k block after 1
@@ -111,7 +112,8 @@ module _ (block : List ℕ) (k x : ℕ) (told : bitOf 64 x k ≡ wrongAt block k
     right-restored = word-stays right (record { is = sym (restored-code w (wrong-not (isInner w) (sym right))) })
 
 -- an inner word that is restored to a code word has come nearer
-pub restored-nearer : (k : ℕ) (before after : List ℕ) (r : Bool) → (r ≡ true → OneWord WordRestored k before after 0) → r ≡ true → OneWord WordNearer k before after 0
+pub restored-nearer : (k : ℕ) (before after : List ℕ) (r : Bool) → (r ≡ true → OneWord WordRestored k before after 0) → r ≡ true →
+    OneWord WordNearer k before after 0
 restored-nearer k before after r corrected t =
     let o = corrected t in
     let v = innerWord (bitAt after) k in
@@ -212,7 +214,8 @@ none-restored block x told e =
       long = refl;
       word = λ k l.
           let w = innerWord (bitAt block) k in
-          record { is = sym (restored-code w (wrong-not (isInner w) (sym (wrong-bit (bitAt block) k l) ∙ ap (λ (y : ℕ). bitOf 64 y k) (sym told ∙ e) ∙ bitOf-zero 64 k))) };
+          let right : wrongAt block k ≡ 0 = sym (wrong-bit (bitAt block) k l) ∙ ap (λ (y : ℕ). bitOf 64 y k) (sym told ∙ e) ∙ bitOf-zero 64 k in
+          record { is = sym (restored-code w (wrong-not (isInner w) right)) };
     }
 
 pub pass-restored : (before after : List ℕ) → EachWord WordRestored before after → InnerPassed before after

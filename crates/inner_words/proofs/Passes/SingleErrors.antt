@@ -2,16 +2,14 @@
 use mathlib.Core.Path.{_≡_, refl, sym, ap, ap₂, _∙_}
 use mathlib.Core.Bool.{Bool, true, false, not, cond}
 use mathlib.Core.List.{List, [], _∷_}
-use Prim.Native.Nat.{ℕ, zero, suc, _+_, _-_, _*_, _/_, _%_, _^_, _≤_, _<_, zero-le}
+use Prim.Native.Nat.{ℕ, zero, suc, _+_, _-_, _*_, _%_, _≤_, _<_}
 use native.Mathlib.Decide.{ℕ-discrete}
 use native.Mathlib.Nat.{le-refl, mul-le-mul-right, not-suc-le-zero, one-mul, zero-mul}
 use native.Mathlib.Numerals.{add-one}
 use native.Mathlib.Omega.{arith}
 use borrow.Author.Tests.{eq-eqb, eqb-true, ne-eqb, not-false}
-use lib.Bits.{bitAnd}
 use lib.Dec.{eqb, lit<}
 use lib.ListN.{length, getD}
-use lib.Pow.{pow-mono}
 use mir.Syntax.{w64}
 use mir.Val.{Fits}
 use Rattle.fields.specs.Elements.{xor, powersB}
@@ -25,11 +23,10 @@ use Rattle.fields.proofs.Places.Tests.{every-at, every-false, below-all}
 use Rattle.decoding.specs.Steps.Decoder.{xorTo, errorAt, withErrors}
 use Rattle.decoding.proofs.Algebra.Tables.{powers-length}
 use Rattle.decoding.proofs.Decoding.Changes.{error-lt, weight-most, errors-length, errors-at, apart-errors}
-use Rattle.words.specs.Bits.{bitOf, numberOf, bitAt}
+use Rattle.words.specs.Bits.{bitAt}
 use Rattle.words.specs.InnerCode.{powerB, isInner}
 use Rattle.words.specs.InnerWords.{innerWord, innerRestored}
 use Rattle.words.proofs.Bits.Bytes.{bitAt-lt}
-use Rattle.words.proofs.Bits.Numbers.{bitOf-lt, numberOf-lt, numberOf-same, masked-bit}
 use Rattle.words.proofs.Codes.Horner.{horner-same, horner-sum}
 use Rattle.words.proofs.Codes.InnerRoots.{inner-code}
 use Rattle.words.proofs.Codes.Proved.{codes}

@@ -38,9 +38,9 @@ use Rattle.words.proofs.Codes.InnerRoots.{valueOf-bits, remainder-bits}
 use Rattle.words.proofs.Codes.Proved.{codes}
 use Rattle.words.proofs.Decoding.InnerSyndromes.{value-powers, odd-syndrome-b}
 use Rattle.words.proofs.Decoding.Inner.{flip-at, inner-found, inner-lost}
-use Rattle.inner_words.specs.Steps.InnerResidues.{coefficient, wordResidue, residuesOf, WordResidues, oddSyndrome}
+use Rattle.inner_words.specs.Steps.InnerResidues.{wordResidue, WordResidues, oddSyndrome}
 use Rattle.inner_words.specs.Steps.Passes.{WordRestored, OneWord}
-use Rattle.inner_words.proofs.Interleaving.InterleavedBits.{inner-word-length, place-to-bit}
+use Rattle.inner_words.proofs.Interleaving.InterleavedBits.{inner-word-length}
 use Rattle.inner_words.proofs.Remainders.ResidueCodes.{residue-value, residue-lt}
 use Rattle.inner_words.proofs.Passes.InnerPass.{restored-none, restored-some, lost-wrong, word-stays, word-other}
 

@@ -1,7 +1,7 @@
 -- The inner words of a block that are no code words. Assumes nothing.
 use mathlib.Core.Path.{_≡_, refl, sym, ap, _∙_}
 use mathlib.Core.Bool.{Bool, true, false, cond}
-use Prim.Native.Nat.{ℕ, _-_, _<_}
+use Prim.Native.Nat.{ℕ, _-_, _^_, _<_}
 use native.Mathlib.Omega.{arith}
 use borrow.Author.Tests.{eq-eqb, eqb-true}
 use lib.Dec.{eqb, lit<}
@@ -10,7 +10,7 @@ use Rattle.fields.proofs.Places.Tests.{tests-agree, every-at, every-true}
 use Rattle.words.specs.Bits.{bitOf}
 use Rattle.words.specs.InnerCode.{isInner}
 use Rattle.words.specs.InnerWords.{innerWord}
-use Rattle.words.proofs.Bits.Numbers.{bitOf-zero, bitOf-number, numberOf-same, numberOf-bits}
+use Rattle.words.proofs.Bits.Numbers.{numberOf-lt, bitOf-zero, bitOf-number, numberOf-same, numberOf-bits}
 use Rattle.inner_words.specs.Steps.Passes.{innerCodes, wrongWords}
 
 -- 0 where a test holds, else 1
@@ -41,3 +41,7 @@ module _ (b : ℕ → ℕ) where
 
       none : ((k : ℕ) → k < 64 → isInner (innerWord b k) ≡ true) → wrongWords b ≡ 0
       none all = numberOf-same 64 _ (bitOf 64 0) (λ k l. ap (λ (t : Bool). cond t 0 1) (all k l) ∙ sym (bitOf-zero 64 k)) ∙ numberOf-bits 64 0 (pow-pos 64)
+
+pub wrong-below : (b : ℕ → ℕ) → wrongWords b < 2 ^ 64
+unfolding wrongWords
+wrong-below b = numberOf-lt (λ k. cond (isInner (innerWord b k)) 0 1) (λ k. wrong-lt (isInner (innerWord b k))) 64

@@ -19,6 +19,7 @@ use Rattle.words.specs.Bits.{bitOf, numberOf, bitAt}
 use Rattle.words.specs.InnerCode.{factors, remainder}
 use Rattle.words.proofs.Bits.Bytes.{bitAt-lt}
 use Rattle.words.proofs.Bits.Numbers.{bitOf-number, bitOf-zero, numberOf-bits, numberOf-lt, numberOf-same}
+use Rattle.words.proofs.Codes.Horner.{scale-one, scale-zero}
 use Rattle.words.proofs.Codes.InnerParity.{remainder-short}
 use Rattle.words.proofs.Codes.ShiftedBits.{bitOf-sum, twice-high}
 use Rattle.inner_words.specs.Steps.InnerResidues.{coefficient, bitSliced, wordResidue, turned, swapped, loadedAt, residueOf, advanced, begun}
@@ -47,17 +48,8 @@ coefficient-sum i x y = rw (xor-high, xor-bit)
 
 coefficient-scale : (i t x : ℕ) → t < 2 → coefficient i (scale t x) ≡ scale (coefficient i x) t
 unfolding scale
-coefficient-scale i zero x h = ap (λ (y : ℕ). y % 2) (div-eq-of-lt (pow-pos i)) ∙ sym (none (coefficient i x))
-  where
-    none : (c : ℕ) → scale c 0 ≡ 0
-    none zero = refl
-    none (suc c) = refl
-coefficient-scale i (suc zero) x h = sym (one (coefficient i x) (omega arith))
-  where
-    one : (c : ℕ) → c < 2 → scale c 1 ≡ c
-    one zero l = refl
-    one (suc zero) l = refl
-    one (suc (suc c)) l = absurd (omega arith)
+coefficient-scale i zero x h = ap (λ (y : ℕ). y % 2) (div-eq-of-lt (pow-pos i)) ∙ sym (scale-zero (coefficient i x))
+coefficient-scale i (suc zero) x h = sym (scale-one (coefficient i x) (omega arith))
 coefficient-scale i (suc (suc t)) x h = absurd (omega arith)
 
 -- one step of Horner's rule

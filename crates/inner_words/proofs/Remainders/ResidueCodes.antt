@@ -65,7 +65,8 @@ pub code-by : (w : List ℕ) (f : ℕ → ℕ) → length w ≡ 2040 → allBelo
 code-by w f long below e =
     tests-agree _ _
     (λ t. residues-code w long below (λ j h. no-coefficients 11 _ (residue-lt (at w) (below-at 2 w (lit< tt) below) 2040 j h) (no-coefficient t j h)))
-    (λ t. every-true 88 _ (λ c l. eq-eqb _ 0 (e c l ∙ ap (coefficient (c % 11)) (code-residues w t (c / 11) (omega arith)) ∙ ap (λ (x : ℕ). x % 2) (div-eq-of-lt (pow-pos (c % 11))))))
+    (λ t. every-true 88 _ (λ c l. eq-eqb _ 0 (e c l ∙ ap (coefficient (c % 11)) (code-residues w t (c / 11) (omega arith))
+    ∙ ap (λ (x : ℕ). x % 2) (div-eq-of-lt (pow-pos (c % 11))))))
   where
     no-coefficient : every 88 (λ c. eqb (f c) 0) ≡ true → (j : ℕ) → j < 8 → (i : ℕ) → i < 11 → coefficient i (remainder 11 (at factors j) (at w) 2040) ≡ 0
     no-coefficient t j hj i hi =

@@ -1,8 +1,7 @@
 -- `inner_words::candidates::flip_counts` meets its contract. Assumes nothing.
 use borrow.Author.Needs.{needs}
 use Rattle.fields.specs.Places.{at}
-use Rattle.inner_words.proofs.Passes.Counts.{Counting, counting-start, counting-few, counting-next}
-use Rattle.inner_words.proofs.Passes.TakenCandidates.{flips-end}
+use Rattle.inner_words.proofs.Passes.Counts.{Counting, counting-start, counting-few, counting-next, flips-end}
 use Prim.Native.Nat.{_-_, _≤_}
 use Rattle.inner_words.proofs.candidates.flip_counts.Statement.{statement}
 use Rattle.inner_words.proofs.candidates.flip_counts.Tie as tie

@@ -1,6 +1,6 @@
 -- `inner_words::candidates::flip_places` meets its contract. Assumes nothing.
 use borrow.Author.Needs.{needs}
-use Rattle.inner_words.proofs.Passes.TakenCandidates.{Flipping, flipping-start, flipping-next, flipping-end}
+use Rattle.inner_words.proofs.Passes.FlippedPlaces.{Flipping, flipping-start, flipping-next, flipping-end}
 use Prim.Native.Nat.{_-_}
 use Rattle.inner_words.proofs.candidates.flip_places.Statement.{statement}
 use Rattle.inner_words.proofs.candidates.flip_places.Tie as tie

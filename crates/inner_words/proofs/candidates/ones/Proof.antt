@@ -1,6 +1,6 @@
 -- `inner_words::candidates::ones` meets its contract. Assumes nothing.
 use borrow.Author.Needs.{needs}
-use Rattle.inner_words.proofs.Passes.TakenCandidates.{Ones, ones-start, ones-fits, ones-next, ones-end}
+use Rattle.inner_words.proofs.Passes.Counts.{Ones, ones-start, ones-fits, ones-next, ones-end}
 use Prim.Native.Nat.{_-_}
 use Rattle.inner_words.proofs.candidates.ones.Statement.{statement}
 use Rattle.inner_words.proofs.candidates.ones.Tie as tie

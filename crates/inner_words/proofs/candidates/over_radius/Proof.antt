@@ -1,6 +1,6 @@
 -- `inner_words::candidates::over_radius` meets its contract. Assumes nothing.
 use borrow.Author.Needs.{needs}
-use Rattle.inner_words.proofs.Passes.TakenCandidates.{over-is, over-not}
+use Rattle.inner_words.proofs.Passes.Counts.{over-is, over-not}
 use Rattle.inner_words.proofs.candidates.over_radius.Statement.{statement}
 use Rattle.inner_words.proofs.candidates.over_radius.Tie as tie
 

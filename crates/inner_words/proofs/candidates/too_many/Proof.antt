@@ -1,6 +1,6 @@
 -- `inner_words::candidates::too_many` meets its contract. Assumes nothing.
 use borrow.Author.Needs.{needs}
-use Rattle.inner_words.proofs.Passes.TakenCandidates.{Testing, testing-start, testing-twice, testing-fits, testing-next, testing-end}
+use Rattle.inner_words.proofs.Passes.Counts.{Testing, testing-start, testing-twice, testing-fits, testing-next, testing-end}
 use Prim.Native.Nat.{_-_}
 use Rattle.inner_words.proofs.candidates.too_many.Statement.{statement}
 use Rattle.inner_words.proofs.candidates.too_many.Tie as tie

@@ -1,6 +1,6 @@
 -- `inner_words::candidates::write_flips` meets its contract. Assumes nothing.
 use borrow.Author.Needs.{needs}
-use Rattle.inner_words.proofs.Passes.TakenCandidates.{Writing, writing-start, writing-next, writing-end}
+use Rattle.inner_words.proofs.Passes.FlippedPlaces.{Writing, writing-start, writing-next, writing-end}
 use Prim.Native.Nat.{_-_}
 use Rattle.inner_words.proofs.candidates.write_flips.Statement.{statement}
 use Rattle.inner_words.proofs.candidates.write_flips.Tie as tie

@@ -3,7 +3,7 @@ use borrow.Author.Needs.{needs}
 use Rattle.fields.specs.Lists.{tabulate}
 use Rattle.fields.proofs.Places.Placing.{Placing, placing-start}
 use Rattle.inner_words.specs.Steps.BitSliced.{byteOf64}
-use Rattle.inner_words.proofs.Passes.TakenCandidates.{putting-byte, putting-all}
+use Rattle.inner_words.proofs.Passes.FlippedPlaces.{putting-byte, putting-all}
 use Prim.Native.Nat.{_-_, _*_, _≤_}
 use Rattle.inner_words.proofs.places.put_place.Statement.{statement}
 use Rattle.inner_words.proofs.places.put_place.Tie as tie

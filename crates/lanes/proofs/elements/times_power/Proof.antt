@@ -10,9 +10,4 @@ times-power-spec =
     (tie.spec
     (λ n y₀ i₀ y i. i ≤ n)
     (λ n y₀ i₀ y i. n - i)
-    (λ c. search needs)
-    (λ c κs. search needs)
-    (λ c. search needs)
-    (λ c. search needs)
-    (λ c. search needs)
-    (λ c. search needs))
+    (λ c. search needs) (λ c κs. search needs) (λ c. search needs) (λ c. search needs) (λ c. search needs) (λ c. search needs))

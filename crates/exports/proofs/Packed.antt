@@ -8,7 +8,7 @@ use Rattle.fields.specs.Steps.Buffers.{copied}
 use Rattle.words.specs.declared.Correction.{Correction}
 use Rattle.words.specs.declared.Correction.the-variants as variants
 use Rattle.words.specs.Answers.{refusalOf, changedOf}
-use Rattle.frames.specs.Answers.{Corrected}
+use Rattle.frames.specs.Answers.{CorrectorAnswer}
 use Rattle.exports.specs.Packed.{packed, packedWord, packedFrame}
 
 pub changes-packed : (c : Correction) (k r : ℕ) → c ≡ variants.Corrected k → r ≡ 256 * k → r ≡ packed (refusalOf c) (changedOf c)
@@ -24,7 +24,7 @@ pub word-packed : (r : ℕ) (c : Correction) (out : List ℕ) (a : Correction ×
 unfolding packedWord
 word-packed r c out a e h = rw (← h, e)
 
-pub frame-packed : (r n sum : ℕ) (all out counts handed : List ℕ) (a : Corrected) → r ≡ 256 * sum + n → handed ≡ copied all counts →
-    _≡_ {A = Corrected} (n, all, sum, out) a → _≡_ {A = ℕ × List ℕ × List ℕ} (r, out, handed) (packedFrame a counts)
+pub frame-packed : (r n sum : ℕ) (all out counts handed : List ℕ) (a : CorrectorAnswer) → r ≡ 256 * sum + n → handed ≡ copied all counts →
+    _≡_ {A = CorrectorAnswer} (n, all, sum, out) a → _≡_ {A = ℕ × List ℕ × List ℕ} (r, out, handed) (packedFrame a counts)
 unfolding packedFrame packed
 frame-packed r n sum all out counts handed a e h q = rw (← q, e, h, add-comm n (256 * sum))

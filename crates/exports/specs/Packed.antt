@@ -4,7 +4,7 @@ use Prim.Native.Nat.{ℕ, _+_, _*_}
 use Rattle.fields.specs.Steps.Buffers.{copied}
 use Rattle.words.specs.declared.Correction.{Correction}
 use Rattle.words.specs.Answers.{refusalOf, changedOf}
-use Rattle.frames.specs.Answers.{Corrected}
+use Rattle.frames.specs.Answers.{CorrectorAnswer}
 
 unfoldable pub packed : ℕ → ℕ → ℕ
 packed number second = number + 256 * second
@@ -14,5 +14,5 @@ unfoldable pub packedWord : Correction × List ℕ → ℕ × List ℕ
 packedWord a = (packed (refusalOf (a .0)) (changedOf (a .0)), a .1)
 
 -- correction of a frame: number and sum, the buffer, and the counts, if there is place for exactly as many
-unfoldable pub packedFrame : Corrected → List ℕ → ℕ × List ℕ × List ℕ
+unfoldable pub packedFrame : CorrectorAnswer → List ℕ → ℕ × List ℕ × List ℕ
 packedFrame a counts = (packed (a .0) (a .2), a .3, copied (a .1) counts)

@@ -29,25 +29,25 @@ payloadExtracted block buffer =
     answered (unless (eqb (length block) 16320) 2 (unless (eqb (length buffer) 15296) 3 (unless (isFrame block) 4 0))) (payloadOf block) buffer
 
 -- what the corrector answers: a number, the 64 counts of the report and their sum, and the buffer. A refusal carries its number and nothing else
-abbrev pub Corrected : Type 0
-Corrected = ℕ × List ℕ × ℕ × List ℕ
+abbrev pub CorrectorAnswer : Type 0
+CorrectorAnswer = ℕ × List ℕ × ℕ × List ℕ
 
 unfoldable pub noCounts : List ℕ
 noCounts = tabulate 64 (λ k. 0)
 
-unfoldable pub refused : ℕ → List ℕ → Corrected
+unfoldable pub refused : ℕ → List ℕ → CorrectorAnswer
 refused n buffer = (n, noCounts, 0, buffer)
 
 -- the restored frame with its report; or 5, uncorrectable ("beyond reach")
-unfoldable pub reported : List ℕ → List ℕ → Option (List ℕ) → Corrected
+unfoldable pub reported : List ℕ → List ℕ → Option (List ℕ) → CorrectorAnswer
 reported block buffer none = refused 5 buffer
 reported block buffer (some frame) = (0, reportOf block frame, total (reportOf block frame), frame)
 
 -- corrector ("mender"): 2, 3, 5
-unfoldable pub frameCorrected : List ℕ → List ℕ → Corrected
+unfoldable pub frameCorrected : List ℕ → List ℕ → CorrectorAnswer
 frameCorrected block buffer =
     cond (eqb (length block) 16320) (cond (eqb (length buffer) 16320) (reported block buffer (restoredFrame block)) (refused 3 buffer)) (refused 2 buffer)
 
 -- for the C host, to which no report is handed out: number and buffer
-unfoldable pub withoutReport : Corrected → ℕ × List ℕ
+unfoldable pub withoutReport : CorrectorAnswer → ℕ × List ℕ
 withoutReport a = (a .0, a .3)

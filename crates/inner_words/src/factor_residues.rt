@@ -1,7 +1,7 @@
 // The residues of the inner words modulo each of the eight factors of the divisor: a step by one place, and the walk over all places, for each factor.
 // tests/generated/residues.py writes this file: the eight texts differ in the factor's coefficients alone, which the compiler has to know.
-use crate::residues::first_five;
-use crate::residues::load;
+use crate::places::first_five;
+use crate::places::load;
 use lanes::DEGREE;
 use lanes::Lanes;
 ghost use mathlib.Core.Path.{_≡_};

@@ -1,6 +1,5 @@
 // The residues of the 64 inner words of a frame modulo the eight factors of the divisor, bit-sliced: a number holds one coefficient of 64 residues. An
 // inner word is a code word just where all eight of its residues are zero, and the residues give its parity bits.
-use crate::Interleaved;
 use crate::factor_residues;
 use crate::places::byte;
 use lanes::DEGREE;
@@ -16,26 +15,10 @@ ghost use Rattle.fields.specs.Steps.Buffers.{Placed};
 ghost use Rattle.lanes.specs.Steps.Sliced.{orTo, cells};
 ghost use Rattle.words.specs.Bits.{bitAt};
 ghost use Rattle.inner_words.specs.Steps.Passes.{wrongWords};
-ghost use Rattle.inner_words.specs.Steps.InnerResidues.{swapped, allSwapped, loadedAt, begun, residueOf, residuesOf, sumAt};
+ghost use Rattle.inner_words.specs.Steps.InnerResidues.{swapped, allSwapped, residueOf, residuesOf, sumAt};
 
 // Blocks of eleven places that come after the first five in the data of an inner word.
 pub const DATA_BLOCKS: usize = WORD_BLOCKS - FACTORS;
-
-// Place p of every inner word, the first of eight bytes the lowest: no byte has to move.
-pub(crate) fn load(bytes: &[u8], p: usize) -> u64
-    requires { ⌜ (p < 2040) × (8 * p + 8 ≤ length (now bytes)) ⌝ }
-    ensures { λ r. ⌜ r ≡ loadedAt (now (bytes .entry)) p ⌝ }
-{
-    let i = Interleaved::PLACE_BYTES * p;
-    ((bytes[i + 7] as u64) << 56)
-        | ((bytes[i + 6] as u64) << 48)
-        | ((bytes[i + 5] as u64) << 40)
-        | ((bytes[i + 4] as u64) << 32)
-        | ((bytes[i + 3] as u64) << 24)
-        | ((bytes[i + 2] as u64) << 16)
-        | ((bytes[i + 1] as u64) << 8)
-        | (bytes[i] as u64)
-}
 
 // The number with its eight bytes turned round.
 fn swapped(x: u64) -> u64
@@ -51,27 +34,7 @@ fn swapped(x: u64) -> u64
         | (byte(x, 0) as u64)
 }
 
-// The first five places of every inner word: no residue is reduced yet.
-pub(crate) fn first_five(bytes: &[u8]) -> Lanes
-    requires { ⌜ 40 ≤ length (now bytes) ⌝ }
-    ensures { λ r. ⌜ cells r ≡ begun (now (bytes .entry)) ⌝ }
-{
-    Lanes {
-        r0: load(bytes, 4),
-        r1: load(bytes, 3),
-        r2: load(bytes, 2),
-        r3: load(bytes, 1),
-        r4: load(bytes, 0),
-        r5: 0,
-        r6: 0,
-        r7: 0,
-        r8: 0,
-        r9: 0,
-        r10: 0,
-    }
-}
-
-// The residues modulo factor j, in the order of `load`.
+// The residues modulo factor j, in the order of `places::load`.
 fn residue(j: usize, bytes: &[u8], blocks: usize) -> Lanes
     requires { ⌜ (j < 8) × (blocks ≤ 185) × (40 + 88 * blocks ≤ length (now bytes)) ⌝ }
     ensures { λ r. ⌜ cells r ≡ residueOf j (now (bytes .entry)) (5 + 11 * blocks) ⌝ }

@@ -267,7 +267,7 @@ fn inner_omitted_front_is_uncorrectable() {
     }
 }
 
-/// The same for outer words of several lengths, cut from longer ones.
+/// Outer words of several lengths, cut from longer code words with something in the omitted front, have no code word near either.
 #[test]
 fn outer_omitted_front_is_uncorrectable() {
     let mut random = Random(6);

@@ -75,7 +75,7 @@ pub mod frames {
         answer(unsafe { g9751_i4_correct(block.as_ptr(), block.len(), frame.as_mut_ptr(), frame.len()) })
     }
 
-    /// The same with its report: the sum of wrong bits, and in `counts`, if it has place for exactly 64, those of each inner word (0 for a refusal).
+    /// Writes the frame that is restored from the received block, and gives the report: the sum of wrong bits, and in `counts`, if it has place for exactly 64, those of each inner word (0 for a refusal).
     pub fn correct_with_report(block: &[u8], frame: &mut [u8], counts: &mut [u16]) -> Result<u32, Refusal> {
         let packed = unsafe { exports_correct_frame(block.as_ptr(), block.len(), frame.as_mut_ptr(), frame.len(), counts.as_mut_ptr(), counts.len()) };
         answer(packed as u8).map(|()| (packed >> 8) as u32)

@@ -16,7 +16,7 @@ use Rattle.words.proofs.Bits.Bytes.{bits-at, bytes-length}
 use Rattle.inner_words.proofs.Interleaving.InterleavedBits.{inner-word-length}
 use Rattle.frames.specs.Frames.{wrongBits}
 use Rattle.frames.specs.Frames as Frames
-use Rattle.frames.specs.Answers.{Corrected, refused, frameCorrected}
+use Rattle.frames.specs.Answers.{CorrectorAnswer, refused, frameCorrected}
 use Rattle.frames.specs.Demands.{Restored, wrongCounts, Premise}
 use Rattle.frames.proofs.Correction.ReportCounts.{wrong-in}
 use Rattle.frames.proofs.Demands as Ours
@@ -36,9 +36,9 @@ use Rattle.document03.proofs.Frames.LostSymbolsAgree.{lost-symbols-agre
 use Rattle.document03.proofs.Frames.StatementsHold.{payload-is, words-frame-agrees, frame-agrees, second-half, reads-back}
 
 -- the number of a refusal
-refused-number : (n : ℕ) (o : List ℕ) (a : Corrected) → refused n o ≡ a → n ≡ a .0
+refused-number : (n : ℕ) (o : List ℕ) (a : CorrectorAnswer) → refused n o ≡ a → n ≡ a .0
 unfolding refused
-refused-number n o a e = ap (λ (a : Corrected). a .0) e
+refused-number n o a e = ap (λ (a : CorrectorAnswer). a .0) e
 
 -- a block of bits, and its bytes
 module _ (block : List ℕ) (long : length block ≡ 130560) (bits : allBits block ≡ true) where
@@ -96,7 +96,7 @@ module _ (block : List ℕ) (long : length block ≡ 130560) (bits : allBits blo
       where
         go : Outcome (innerPass (bitAt bytes)) → Mends block (frameOf payload)
         go (inl (ws, r)) =
-            let e : Frames.frameOfWords ws ≡ frame = ap (λ (a : Corrected). a .3) (sym (Ours.two-passes .corrected bytes bytes ws size size r) ∙ answer) in
+            let e : Frames.frameOfWords ws ≡ frame = ap (λ (a : CorrectorAnswer). a .3) (sym (Ours.two-passes .corrected bytes bytes ws size size r) ∙ answer) in
             subst (λ (g : List ℕ). Mends block g)
             (words-frame-agrees ws (sixteen-words ws (r .sixteen) (r .long)) ∙ ap bitsOf e ∙ sym (frame-agrees payload payload-long)) (mends ws r)
         go (inr (w, l, far)) = absurd (omega (arith, refused-number 5 bytes _ (sym (Ours.two-passes .uncorrectable bytes bytes w size size l far) ∙ answer)))

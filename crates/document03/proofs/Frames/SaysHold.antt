@@ -16,7 +16,7 @@ use Rattle.words.specs.InnerWords.{innerPass}
 use Rattle.words.proofs.Bits.Bytes.{bits-at}
 use Rattle.frames.specs.Frames as Frames
 use Rattle.frames.specs.Correction as Correction
-use Rattle.frames.specs.Answers.{frameEncoded, frameChecked, payloadExtracted, Corrected, refused, frameCorrected}
+use Rattle.frames.specs.Answers.{frameEncoded, frameChecked, payloadExtracted, CorrectorAnswer, refused, frameCorrected}
 use Rattle.frames.specs.Answers as Answers
 use Rattle.frames.proofs.Demands.{two-passes}
 use Rattle.document03.proofs.Words.Statements.{when}
@@ -83,7 +83,7 @@ module _ (b o : List ℕ) where
   space-refused e f = rw (e, f)
 
 module _ (b o : List ℕ) where
-  abbrev Said : ℕ → Corrected → Type 0
+  abbrev Said : ℕ → CorrectorAnswer → Type 0
   Said fault r = MendWith fault b o (r .3) (r .0) (r .1) (r .2)
 
   -- a block and a buffer of their lengths
@@ -120,5 +120,5 @@ module _ (b o : List ℕ) where
       go true false e f = subst (Said 3) (sym (space-refused b o e f)) (refused-says 3 o)
       go false u e f = subst (Said 2) (sym (length-refused b o e)) (refused-says 2 o)
 
-  pub mend-says : (o′ counts : List ℕ) (n s : ℕ) → _≡_ {A = Corrected} (n, counts, s, o′) (frameCorrected b o) → MendSays b o o′ n counts s
+  pub mend-says : (o′ counts : List ℕ) (n s : ℕ) → _≡_ {A = CorrectorAnswer} (n, counts, s, o′) (frameCorrected b o) → MendSays b o o′ n counts s
   mend-says o′ counts n s e = subst (Said (mendFault b o)) (sym e) corrected-says

@@ -23,7 +23,7 @@ use Rattle.inner_words.specs.Steps.Passes.{innerCodes, wrongWords, InnerPassed}
 use Rattle.inner_words.proofs.Passes.WrongWords.{none-wrong}
 use Rattle.frames.specs.Frames.{symbolAt, dataIn, frameOfWords}
 use Rattle.frames.specs.Correction.{receivedBit, receivedSymbol, receivedWord, isPermitted, outerRestored, everyOf, outerPass, restoredFrame, reportOf, total}
-use Rattle.frames.specs.Answers.{Corrected, noCounts, refused, reported, frameCorrected, withoutReport}
+use Rattle.frames.specs.Answers.{CorrectorAnswer, noCounts, refused, reported, frameCorrected, withoutReport}
 use Rattle.frames.specs.Steps.Received.{outerCodes}
 use Rattle.frames.specs.Steps.Symbols.{Concatenated, Sent, wordIn}
 use Rattle.frames.specs.Steps.Passes.{provided, written, wordsIn}
@@ -95,7 +95,7 @@ none-counted = refl
 
 -- the report of an answer, and of none
 none-reported : (b o out : List ℕ) (t : Bool) → not t ≡ true → (r : Option (List ℕ)) → (t, out) ≡ written o r →
-    _≡_ {A = Corrected} (5, noCounts, 0, out) (reported b o r)
+    _≡_ {A = CorrectorAnswer} (5, noCounts, 0, out) (reported b o r)
 unfolding reported refused written
 none-reported b o out t h none w = ap (λ (a : Bool × List ℕ). (5, noCounts, 0, a .1)) w
 none-reported b o out t h (some frame) w =
@@ -103,7 +103,7 @@ none-reported b o out t h (some frame) w =
     absurd (omega (arith, ap {B = ℕ} (λ (x : Bool). cond x 1 0) z))
 
 some-reported : (b o out : List ℕ) (t : Bool) → not t ≡ false → (r : Option (List ℕ)) → (t, out) ≡ written o r →
-    _≡_ {A = Corrected} (0, reportOf b out, total (reportOf b out), out) (reported b o r)
+    _≡_ {A = CorrectorAnswer} (0, reportOf b out, total (reportOf b out), out) (reported b o r)
 unfolding reported written
 some-reported b o out t h none w =
     let z : true ≡ false = sym (not-false t h) ∙ ap (λ (a : Bool × List ℕ). a .0) w in
@@ -112,13 +112,13 @@ some-reported b o out t h (some frame) w = ap (λ (a : Bool × List ℕ). (0, re
 
 module _ (b o : List ℕ) where
   pub correct-length : (length b ≡ 16320 → ⊥) → (n sum : ℕ) (counts : List ℕ) → n ≡ 2 → counts ≡ noCounts → sum ≡ 0 →
-      _≡_ {A = Corrected} (n, counts, sum, o) (frameCorrected b o)
+      _≡_ {A = CorrectorAnswer} (n, counts, sum, o) (frameCorrected b o)
   unfolding frameCorrected refused
   correct-length f n sum counts en ec es = rw (ne-eqb (length b) 16320 f, en, ec, es)
 
   module _ (e : length b ≡ 16320) where
     pub correct-space : (length o ≡ 16320 → ⊥) → (n sum : ℕ) (counts : List ℕ) → n ≡ 3 → counts ≡ noCounts → sum ≡ 0 →
-        _≡_ {A = Corrected} (n, counts, sum, o) (frameCorrected b o)
+        _≡_ {A = CorrectorAnswer} (n, counts, sum, o) (frameCorrected b o)
     unfolding frameCorrected refused
     correct-space f n sum counts en ec es = rw (eq-eqb (length b) 16320 e, ne-eqb (length o) 16320 f, en, ec, es)
 
@@ -130,18 +130,18 @@ module _ (b o : List ℕ) where
       restored-is = rw (passes-done b copy passed (ec ∙ copied-same b blank (room ∙ sym e)) p) at told
 
       pub correct-none : not t ≡ true → (n sum : ℕ) (counts : List ℕ) → n ≡ 5 → counts ≡ noCounts → sum ≡ 0 →
-          _≡_ {A = Corrected} (n, counts, sum, out) (frameCorrected b o)
+          _≡_ {A = CorrectorAnswer} (n, counts, sum, out) (frameCorrected b o)
       unfolding frameCorrected
       correct-none h n sum counts en ew es =
           rw (eq-eqb (length b) 16320 e, eq-eqb (length o) 16320 f, en, ew, es) (none-reported b o out t h (restoredFrame b) restored-is)
 
       pub correct-written : not t ≡ false → (counts : List ℕ) (sum : ℕ) → counts ≡ reportOf b out → sum ≡ total counts →
-          _≡_ {A = Corrected} (0, counts, sum, out) (frameCorrected b o)
+          _≡_ {A = CorrectorAnswer} (0, counts, sum, out) (frameCorrected b o)
       unfolding frameCorrected
       correct-written h counts sum ew es =
           rw (eq-eqb (length b) 16320 e, eq-eqb (length o) 16320 f, es, ew) (some-reported b o out t h (restoredFrame b) restored-is)
 
 -- what the C host is told of an answer
-pub report-left-out : (a : Corrected) (n sum : ℕ) (counts out : List ℕ) → _≡_ {A = Corrected} (n, counts, sum, out) a → _≡_ {A = ℕ × List ℕ} (n, out) (withoutReport a)
+pub report-left-out : (a : CorrectorAnswer) (n sum : ℕ) (counts out : List ℕ) → _≡_ {A = CorrectorAnswer} (n, counts, sum, out) a → _≡_ {A = ℕ × List ℕ} (n, out) (withoutReport a)
 unfolding withoutReport
 report-left-out a n sum counts out e = ap withoutReport e

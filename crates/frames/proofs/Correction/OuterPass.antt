@@ -28,7 +28,7 @@ use Rattle.words.proofs.Codes.Proved.{codes}
 use Rattle.frames.specs.Frames.{dataIn}
 use Rattle.frames.specs.Correction.{receivedSymbol, isPadded, isPermitted, outerRestored, outerPass}
 use Rattle.frames.specs.Steps.Symbols.{partFrom, wordIn}
-use Rattle.frames.specs.Steps.Passes.{provided, WordRestored, wordsIn}
+use Rattle.frames.specs.Steps.Passes.{provided, OuterWordRestored, wordsIn}
 use Rattle.frames.proofs.Frames.FrameBits.{dataIn-le, dataIn-is}
 use Rattle.frames.proofs.Correction.Options.{every-some, every-missing}
 use Rattle.frames.proofs.OuterSymbols.Permitted.{permitted-none, permitted-some, permitted-not}
@@ -57,7 +57,7 @@ pub word-room : (outer : List ℕ) (w : ℕ) (word after : List ℕ) → w < 16 
 word-room outer w word after h long e same = omega (arith, dataIn-le w)
 
 -- word w stays as it is
-word-kept : (w : ℕ) (outer : List ℕ) (r : Bool) → provided r (wordIn outer w) ≡ nearest (isPermitted w) 1024 8 (wordIn outer w) → WordRestored w outer outer r
+word-kept : (w : ℕ) (outer : List ℕ) (r : Bool) → provided r (wordIn outer w) ≡ nearest (isPermitted w) 1024 8 (wordIn outer w) → OuterWordRestored w outer outer r
 word-kept w outer r e = record { long = refl; word = e; others = λ v l n. refl }
 
 word-short : (outer : List ℕ) (w : ℕ) → length (wordIn outer w) ≤ 1023
@@ -77,7 +77,7 @@ code-nearest w u r short h e = go r e
 
 module _ (outer : List ℕ) (long : length outer ≡ 12496) (w n : ℕ) (h : w < 16) (e : n ≡ dataIn w) (below : allBelow 1024 (wordIn outer w) ≡ true) (x y z : ℕ)
     (p : Packs x y z (outerRemainder (take (781 * w + n + 16 - 781 * w) (drop (781 * w) outer)))) (t : Bool) (test : t ≡ eqb (bitOr (bitOr x y) z) 0) where
-  pub code-kept : t ≡ true → (r : Bool) → r ≡ isPadded w (take (781 * w + n + 16 - 781 * w) (drop (781 * w) outer)) → WordRestored w outer outer r
+  pub code-kept : t ≡ true → (r : Bool) → r ≡ isPadded w (take (781 * w + n + 16 - 781 * w) (drop (781 * w) outer)) → OuterWordRestored w outer outer r
   code-kept is-code r q =
       let code : isOuter (wordIn outer w) ≡ true = sym (word-tested outer long w n h e below x y z p t test) ∙ is-code in
       word-kept w outer r (code-nearest w (wordIn outer w) r (word-short outer w) code (q ∙ ap (isPadded w) (part-is outer long w n h e)))
@@ -136,7 +136,7 @@ module _ (outer : List ℕ) (long : length outer ≡ 12496) (w : ℕ) (h : w < 1
         go none t = refl
         go (some c) t = let z : _≡_ {A = ℕ} 1 0 = ap (λ (a : Correction × List ℕ). caseOf (a .0)) t in absurd (omega arith)
 
-    pub restored-none : r ≡ Refused k → WordRestored w outer outer false
+    pub restored-none : r ≡ Refused k → OuterWordRestored w outer outer false
     unfolding provided
     restored-none e = word-kept w outer false (sym (permitted-none w u (word-short outer w) (outer-lost e)))
 
@@ -149,14 +149,14 @@ module _ (outer : List ℕ) (long : length outer ≡ 12496) (w : ℕ) (h : w < 1
           go none t = let z : _≡_ {A = ℕ} 0 1 = ap (λ (a : Correction × List ℕ). caseOf (a .0)) t in absurd (omega arith)
           go (some c) t = ap some (sym (ap (λ (a : Correction × List ℕ). a .1) t))
 
-      pub restored-not : not t ≡ true → WordRestored w outer outer false
+      pub restored-not : not t ≡ true → OuterWordRestored w outer outer false
       unfolding provided
       restored-not f = word-kept w outer false (sym (permitted-not w u (word-short outer w) after outer-found (sym test ∙ not-true t f)))
 
       after-long : length after ≡ dataIn w + 16
       after-long = codes .outer-nearest (length u) (word-short outer w) .sound u after refl outer-found .0 ∙ word-length outer w
 
-      pub restored-word : not t ≡ false → (next : List ℕ) → Placed (781 * w) after outer next → WordRestored w outer next true
+      pub restored-word : not t ≡ false → (next : List ℕ) → Placed (781 * w) after outer next → OuterWordRestored w outer next true
       unfolding provided wordIn
       restored-word f next p =
           record {
@@ -190,7 +190,7 @@ module _ (bytes : List ℕ) {w : ℕ} {outer mid : List ℕ} (so-far : Restoring
   pub restoring-below : allBelow 1024 (wordIn mid w) ≡ true
   restoring-below = rw (received-word (bitAt bytes) w p) (received-below bytes w)
 
-  module _ {after : List ℕ} {t : Bool} (r : WordRestored w mid after t) where
+  module _ {after : List ℕ} {t : Bool} (r : OuterWordRestored w mid after t) where
     pub restoring-kept : length after ≡ 12496
     restoring-kept = r .long ∙ restoring-long
 

@@ -28,7 +28,7 @@ use Rattle.inner_words.proofs.Interleaving.InterleavedBits.{inner-word-length}
 use Rattle.inner_words.proofs.Passes.InnerPass.{restored-none, restored-some, restored-length}
 use Rattle.frames.specs.Frames.{isBlock, dataIn, outerWord, outerWords, frameOfWords, frameOf, payloadOf}
 use Rattle.frames.specs.Correction.{receivedWord, isPermitted, outerRestored, outerPass, restoredFrame, reportOf, total}
-use Rattle.frames.specs.Answers.{isFrame, Corrected, refused, reported, frameCorrected}
+use Rattle.frames.specs.Answers.{isFrame, CorrectorAnswer, refused, reported, frameCorrected}
 use Rattle.frames.specs.Steps.Received.{outerCodes}
 use Rattle.frames.specs.Demands.{Uncorrectable, Restored}
 use Rattle.frames.proofs.Frames.FrameBits.{frame-block, frame-inner, dataIn-le, outer-word-length, payloadOf-length}
@@ -166,7 +166,7 @@ module _ (block buffer : List ℕ) where
       where
         go : ((ws : List (List ℕ)) × Restored (passed block) ws) ⊎ ((w : ℕ) × (w < 16) × Uncorrectable (passed block) w) →
             (w : ℕ) × (w < 16) × Uncorrectable (passed block) w
-        go (inl r) = absurd (omega (arith, ap (λ (a : Corrected). a .0) (sym (corrected (r .0) (r .1)) ∙ e)))
+        go (inl r) = absurd (omega (arith, ap (λ (a : CorrectorAnswer). a .0) (sym (corrected (r .0) (r .1)) ∙ e)))
         go (inr lost) = lost
 
   pub corrected-frame : (counts frame : List ℕ) (sum : ℕ) → frameCorrected block buffer ≡ (0, counts, sum, frame) →
@@ -177,9 +177,9 @@ module _ (block buffer : List ℕ) where
       go : (s t : Bool) (o : Option (List (List ℕ))) → outerPass (passed block) ≡ o →
           cond s (cond t (reported block buffer (Option·map frameOfWords o)) (refused 3 buffer)) (refused 2 buffer) ≡ (0, counts, sum, frame) →
           (isBlock frame ≡ true) × (isFrame frame ≡ true)
-      go false t o p e = absurd (omega (arith, ap (λ (a : Corrected). a .0) e))
-      go true false o p e = absurd (omega (arith, ap (λ (a : Corrected). a .0) e))
-      go true true none p e = absurd (omega (arith, ap (λ (a : Corrected). a .0) e))
+      go false t o p e = absurd (omega (arith, ap (λ (a : CorrectorAnswer). a .0) e))
+      go true false o p e = absurd (omega (arith, ap (λ (a : CorrectorAnswer). a .0) e))
+      go true true none p e = absurd (omega (arith, ap (λ (a : CorrectorAnswer). a .0) e))
       go true true (some ws) p e =
-          subst (λ (f : List ℕ). (isBlock f ≡ true) × (isFrame f ≡ true)) (ap (λ (a : Corrected). a .3) e)
+          subst (λ (f : List ℕ). (isBlock f ≡ true) × (isFrame f ≡ true)) (ap (λ (a : CorrectorAnswer). a .3) e)
           (frame-block ws, restored-frame (passed block) ws (pass-restored (passed block) ws p))

@@ -22,7 +22,7 @@ written buffer none = (false, buffer)
 written buffer (some answer) = (true, answer)
 
 -- outer word w of outer symbols becomes the permitted code word within eight symbols, if there is one, and the other words are as they were
-pub record WordRestored (w : ℕ) (before after : List ℕ) (r : Bool) : Type 0 where
+pub record OuterWordRestored (w : ℕ) (before after : List ℕ) (r : Bool) : Type 0 where
   pub long : length after ≡ length before
   pub word : provided r (wordIn after w) ≡ nearest (isPermitted w) 1024 8 (wordIn before w)
   pub others : (v : ℕ) → v < 16 → (v ≡ w → ⊥) → wordIn after v ≡ wordIn before v

@@ -1,8 +1,8 @@
--- `inner_words::residues::load` meets its contract. Assumes nothing.
+-- `inner_words::places::load` meets its contract. Assumes nothing.
 use borrow.Author.Needs.{needs}
 use Rattle.inner_words.proofs.Interleaving.EightBytes.{byte-fits, load-made}
-use Rattle.inner_words.proofs.residues.load.Statement.{statement}
-use Rattle.inner_words.proofs.residues.load.Tie as tie
+use Rattle.inner_words.proofs.places.load.Statement.{statement}
+use Rattle.inner_words.proofs.places.load.Tie as tie
 
 mul-i : tie.Need-mul-i
 mul-i c = search needs

@@ -1,8 +1,8 @@
--- `inner_words::residues::first_five` meets its contract. Assumes nothing.
+-- `inner_words::places::first_five` meets its contract. Assumes nothing.
 use borrow.Author.Needs.{needs}
 use Rattle.inner_words.proofs.Remainders.ResidueSteps.{five-places}
-use Rattle.inner_words.proofs.residues.first_five.Statement.{statement}
-use Rattle.inner_words.proofs.residues.first_five.Tie as tie
+use Rattle.inner_words.proofs.places.first_five.Statement.{statement}
+use Rattle.inner_words.proofs.places.first_five.Tie as tie
 
 returns : tie.Need-returns
 returns c =

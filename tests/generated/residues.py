@@ -2,7 +2,7 @@
 """Writes crates/inner_words/src/factor_residues.rt and the proofs of its functions below the folder that is named.
 
 Eight factors of the divisor, and for each a step and a walk of one text, in which the factor's coefficients are known to the compiler: with one text for all
-factors, to which they are given, the residues take five to seven times as long.
+factors, to which they are given, the residues take many times as long (docs/DECISIONS.md, section Bench).
 """
 import pathlib
 import sys

@@ -47,30 +47,21 @@ fn too_many(counts: &[u16]) -> u64
     m
 }
 
-// In how many places each inner word is to be inverted.
-fn flip_counts(flips: &[u64]) -> [u16; Interleaved::WORDS]
-    requires { ⌜ length (now flips) ≡ 2040 ⌝ }
-    ensures { λ r. ⌜ r ≡ flipCounts (now (flips .entry)) ⌝ }
+// Writes the candidates as a block: a 1 in each place that is to be inverted. The answer is in how many places each inner word is to be.
+fn write_flips(flips: &[u64], out: &mut [u8]) -> [u16; Interleaved::WORDS]
+    requires { ⌜ (length (now flips) ≡ 2040) × (length (now out) ≡ 16320) ⌝ }
+    ensures block { λ _. ⌜ AsBlock (now (flips .entry)) (now (out .exit)) ⌝ }
+    ensures counts { λ r. ⌜ r ≡ flipCounts (now (flips .entry)) ⌝ }
 {
     let mut counts = [0u16; Interleaved::WORDS];
     let mut p: usize = 0;
     while p < Inner::PLACES {
-        places::count(&mut counts, flips[p]);
+        let x = flips[p];
+        places::put_place(out, p, x);
+        places::count(&mut counts, x);
         p += 1;
     }
     counts
-}
-
-// Writes the candidates as a block: a 1 in each place that is to be inverted.
-fn write_flips(flips: &[u64], out: &mut [u8])
-    requires { ⌜ (length (now flips) ≡ 2040) × (length (now out) ≡ 16320) ⌝ }
-    ensures { λ _. ⌜ AsBlock (now (flips .entry)) (now (out .exit)) ⌝ }
-{
-    let mut p: usize = 0;
-    while p < Inner::PLACES {
-        places::put_place(out, p, flips[p]);
-        p += 1;
-    }
 }
 
 // The inner words whose candidate fails, by their residues. Residues are linear: those of a word with places inverted are its own plus those of the word that
@@ -80,9 +71,8 @@ fn failing(residues: &[u64], flips: &[u64]) -> u64
     ensures { λ r. ⌜ r ≡ failing (now (residues .entry)) (now (flips .entry)) ⌝ }
 {
     let mut inverted = crate::blank();
-    write_flips(flips, &mut inverted);
+    let counts = write_flips(flips, &mut inverted);
     let added = residues::residues(&inverted, lanes::WORD_BLOCKS);
-    let counts = flip_counts(flips);
     residues::wrong_sums(residues, &added) | too_many(&counts)
 }
 

@@ -19,9 +19,6 @@ slice-aggregate-residues c = search needs
 residues-requires : tie.Need-residues-requires
 residues-requires c κs = search needs
 
-flip-counts-requires : tie.Need-flip-counts-requires
-flip-counts-requires c κs = search needs
-
 slice-aggregate-wrong-sums : tie.Need-slice-aggregate-wrong-sums
 slice-aggregate-wrong-sums c = search needs
 
@@ -46,7 +43,6 @@ failing-spec =
     write-flips-requires
     slice-aggregate-residues
     residues-requires
-    flip-counts-requires
     slice-aggregate-wrong-sums
     wrong-sums-requires
     slice-aggregate-too-many

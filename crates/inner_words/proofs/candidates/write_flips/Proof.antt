@@ -1,27 +1,35 @@
 -- `inner_words::candidates::write_flips` meets its contract. Assumes nothing.
 use borrow.Author.Needs.{needs}
+use Rattle.fields.specs.Places.{at}
+use Rattle.inner_words.proofs.Passes.Counts.{Counting, counting-start, counting-few, counting-next, flips-end}
 use Rattle.inner_words.proofs.Passes.FlippedPlaces.{Writing, writing-start, writing-next, writing-end}
 use Prim.Native.Nat.{_-_}
 use Rattle.inner_words.proofs.candidates.write_flips.Statement.{statement}
 use Rattle.inner_words.proofs.candidates.write_flips.Tie as tie
 
 abbrev Inv-loop : tie.InvT-loop
-Inv-loop flips out₀ p₀ out p = Writing flips p out
+Inv-loop flips out₀ counts₀ p₀ out counts p = Writing flips p out × Counting (at flips) p counts
 
 abbrev μ-loop : tie.MeasureT-loop
-μ-loop flips out₀ p₀ out p = 2040 - p
+μ-loop flips out₀ counts₀ p₀ out counts p = 2040 - p
 
 loop-holds : tie.Need-loop-holds Inv-loop μ-loop
-loop-holds c = search (needs, writing-start)
+loop-holds c = (search (needs, writing-start), search (needs, counting-start))
 
-mul-put-place : tie.Need-mul-put-place Inv-loop μ-loop
-mul-put-place c = search needs
+mul-x : tie.Need-mul-x Inv-loop μ-loop
+mul-x c = search needs
 
-shared-slice-read-put-place : tie.Need-shared-slice-read-put-place Inv-loop μ-loop
-shared-slice-read-put-place c = search needs
+shared-slice-read-x : tie.Need-shared-slice-read-x Inv-loop μ-loop
+shared-slice-read-x c = search needs
 
 put-place-requires : tie.Need-put-place-requires Inv-loop μ-loop
 put-place-requires c κs = search needs
+
+slice-aggregate-count : tie.Need-slice-aggregate-count Inv-loop μ-loop
+slice-aggregate-count c = search needs
+
+count-requires : tie.Need-count-requires Inv-loop μ-loop
+count-requires c κs = search (needs, counting-few)
 
 add-p : tie.Need-add-p Inv-loop μ-loop
 add-p c = search needs
@@ -30,13 +38,13 @@ loop-less : tie.Need-loop-less Inv-loop μ-loop
 loop-less c = search needs
 
 loop-again : tie.Need-loop-again Inv-loop μ-loop
-loop-again c = search (needs, writing-next)
+loop-again c = (search (needs, writing-next), search (needs, counting-next))
 
 same-length : tie.Need-same-length Inv-loop μ-loop
 same-length c = search needs
 
 returns : tie.Need-returns Inv-loop μ-loop
-returns c = search (needs, writing-end)
+returns c = (search (needs, writing-end), search (needs, flips-end))
 
 pub write-flips-spec : {M : Type 1} → statement M
 write-flips-spec =
@@ -45,9 +53,11 @@ write-flips-spec =
     Inv-loop
     μ-loop
     loop-holds
-    mul-put-place
-    shared-slice-read-put-place
+    mul-x
+    shared-slice-read-x
     put-place-requires
+    slice-aggregate-count
+    count-requires
     add-p
     loop-less
     loop-again

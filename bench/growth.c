@@ -4,7 +4,7 @@
 
 enum { ROUNDS = 301 };
 
-static const int words[] = { 0, 1, 2, 4, 8, 12, 16, 17, 32, 64 };
+static const int words[] = { 0, 1, 2, 4, 8, 12, 16, 19, 20, 32, 64 };
 static const int errors[] = { 1, 2, 8 };
 
 enum { COUNTS = sizeof words / sizeof *words, ERRORS = sizeof errors / sizeof *errors };

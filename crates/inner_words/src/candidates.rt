@@ -6,12 +6,12 @@ use crate::residues;
 use lanes::candidates;
 use words::Inner;
 ghost use mathlib.Core.Path.{_≡_};
-ghost use Prim.Native.Nat.{ℕ, _+_, _*_, _<_};
+ghost use Prim.Native.Nat.{ℕ, _<_};
 ghost use lib.ListN.{length};
 ghost use Rattle.words.specs.Bits.{bitOf, bitAt};
 ghost use Rattle.inner_words.specs.Steps.Passes.{wrongWords, WordNearer, EachWord};
 ghost use Rattle.inner_words.specs.Steps.InnerResidues.{WordResidues};
-ghost use Rattle.inner_words.specs.Steps.Candidates.{Flipped, AsBlock, flipCounts, overRadius, tooMany, failing, ones};
+ghost use Rattle.inner_words.specs.Steps.Candidates.{Flipped, Raised, tooMany, AsBlock, failing, ones};
 
 // Inverts the places that `flips` has a 1 for, in the inner words that the mask has a 1 for.
 fn flip_places(flips: &[u64], mask: u64, block: &mut [u8])
@@ -26,42 +26,71 @@ fn flip_places(flips: &[u64], mask: u64, block: &mut [u8])
     }
 }
 
-// 1 for a count over the radius.
-fn over_radius(count: u16) -> u64
-    ensures { λ r. ⌜ (r ≡ overRadius count) × (r < 2) ⌝ }
-{
-    if Inner::RADIUS < count as usize { 1 } else { 0 }
+// Number j has the inner words that are to be inverted in more than j of the places so far.
+pub struct Above {
+    pub r0: u64,
+    pub r1: u64,
+    pub r2: u64,
+    pub r3: u64,
+    pub r4: u64,
+    pub r5: u64,
+    pub r6: u64,
+    pub r7: u64,
+    pub r8: u64,
 }
 
-// The inner words with a count over the radius.
-fn too_many(counts: &[u16]) -> u64
-    requires { ⌜ length (now counts) ≡ 64 ⌝ }
-    ensures { λ r. ⌜ r ≡ tooMany (now (counts .entry)) ⌝ }
+// One place more, in which the inner words of x are to be inverted.
+fn raised(s: Above, x: u64) -> Above
+    ensures { λ r. ⌜ Raised s x r ⌝ }
 {
-    let mut m: u64 = 0;
-    let mut k: usize = 0;
-    while k < Interleaved::WORDS {
-        m = 2 * m + over_radius(counts[k]);
-        k += 1;
+    Above {
+        r0: s.r0 | x,
+        r1: s.r1 | (s.r0 & x),
+        r2: s.r2 | (s.r1 & x),
+        r3: s.r3 | (s.r2 & x),
+        r4: s.r4 | (s.r3 & x),
+        r5: s.r5 | (s.r4 & x),
+        r6: s.r6 | (s.r5 & x),
+        r7: s.r7 | (s.r6 & x),
+        r8: s.r8 | (s.r7 & x),
     }
-    m
 }
 
-// Writes the candidates as a block: a 1 in each place that is to be inverted. The answer is in how many places each inner word is to be.
-fn write_flips(flips: &[u64], out: &mut [u8]) -> [u16; Interleaved::WORDS]
+// One place more; in most none is to be inverted.
+fn counted(s: Above, x: u64) -> Above
+    ensures { λ r. ⌜ Raised s x r ⌝ }
+{
+    if x == 0 {
+        return s;
+    }
+    raised(s, x)
+}
+
+// Writes the candidates as a block: a 1 in each place that is to be inverted. The answer are the inner words that are to be in more places than the radius.
+fn write_flips(flips: &[u64], out: &mut [u8]) -> u64
     requires { ⌜ (length (now flips) ≡ 2040) × (length (now out) ≡ 16320) ⌝ }
     ensures block { λ _. ⌜ AsBlock (now (flips .entry)) (now (out .exit)) ⌝ }
-    ensures counts { λ r. ⌜ r ≡ flipCounts (now (flips .entry)) ⌝ }
+    ensures many { λ r. ⌜ r ≡ tooMany (now (flips .entry)) ⌝ }
 {
-    let mut counts = [0u16; Interleaved::WORDS];
+    let mut s = Above {
+        r0: 0,
+        r1: 0,
+        r2: 0,
+        r3: 0,
+        r4: 0,
+        r5: 0,
+        r6: 0,
+        r7: 0,
+        r8: 0,
+    };
     let mut p: usize = 0;
     while p < Inner::PLACES {
         let x = flips[p];
         places::put_place(out, p, x);
-        places::count(&mut counts, x);
+        s = counted(s, x);
         p += 1;
     }
-    counts
+    s.r8
 }
 
 // The inner words whose candidate fails, by their residues. Residues are linear: those of a word with places inverted are its own plus those of the word that
@@ -71,9 +100,9 @@ fn failing(residues: &[u64], flips: &[u64]) -> u64
     ensures { λ r. ⌜ r ≡ failing (now (residues .entry)) (now (flips .entry)) ⌝ }
 {
     let mut inverted = crate::blank();
-    let counts = write_flips(flips, &mut inverted);
+    let many = write_flips(flips, &mut inverted);
     let added = residues::residues(&inverted, lanes::WORD_BLOCKS);
-    residues::wrong_sums(residues, &added) | too_many(&counts)
+    residues::wrong_sums(residues, &added) | many
 }
 
 // Takes the candidates in the block, where they hold; what is left as it was and is no code word is the answer, bit k, the highest first, for word k.
@@ -89,7 +118,7 @@ fn take(residues: &[u64], wrong: u64, flips: &[u64], block: &mut [u8]) -> u64
 }
 
 // More wrong inner words than this are worth the search for candidates: for one it takes as long as for all.
-const FEW: usize = 16;
+const FEW: usize = 19;
 
 // How many bits of the number are 1.
 fn ones(x: u64) -> usize

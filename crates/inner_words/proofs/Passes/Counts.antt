@@ -1,8 +1,8 @@
 -- In how many places of each inner word a bit is 1, counted place by place; and how many inner words are wrong. Assumes nothing.
 use mathlib.Core.Path.{_≡_, refl, ap, ap₂, _∙_}
 use mathlib.Core.List.{List}
-use Prim.Native.Nat.{ℕ, zero, suc, _+_, _-_, _/_, _^_, _≤_, _<_, _*_, zero-le}
-use native.Mathlib.Decide.{decLe, decLt}
+use Prim.Native.Nat.{ℕ, zero, suc, _+_, _-_, _/_, _^_, _≤_, _<_, zero-le}
+use native.Mathlib.Decide.{decLt}
 use native.Mathlib.Nat.{le-refl, not-suc-le-zero, zero-add}
 use native.Mathlib.Numerals.{add-one}
 use native.Mathlib.Omega.{arith}
@@ -16,14 +16,10 @@ use Rattle.fields.proofs.Lists.{tabulate-at, tabulate-is, tabulate-length, tabu
 use Rattle.fields.proofs.Ways.{past}
 use Rattle.fields.proofs.Places.Counting.{sum-most}
 use Rattle.fields.proofs.Places.Filling.{FilledOver, over-next, filled-end}
-use Rattle.words.specs.Bits.{bitOf, numberOf}
-use Rattle.words.proofs.Bits.Numbers.{bitOf-lt, bitOf-zero, masked-bit, numberOf-lt}
+use Rattle.words.specs.Bits.{bitOf}
+use Rattle.words.proofs.Bits.Numbers.{bitOf-lt, bitOf-zero, masked-bit}
 use Rattle.inner_words.specs.Steps.Passes.{placeCounted}
-use mathlib.Core.Bool.{Bool, true, false, cond}
-use borrow.Author.Tests.{lt-ltb, le-ltb}
-use lib.Dec.{ltb, lit<}
-use lib.Pow.{pow-mono}
-use Rattle.inner_words.specs.Steps.Candidates.{flipCounts, overRadius, tooMany, ones}
+use Rattle.inner_words.specs.Steps.Candidates.{ones}
 
 -- count k, with bit k of x counted
 unfoldable pub countedAt : List ℕ → ℕ → ℕ → ℕ
@@ -86,64 +82,6 @@ unfolding differs
 bit-is zero h = refl
 bit-is (suc zero) h = refl
 bit-is (suc (suc x)) h = absurd (omega arith)
-
--- ---- the counts of candidates
-
-pub flips-end : (flips counts : List ℕ) (p : ℕ) → Counting (at flips) p counts → p ≤ 2040 → 2040 ≤ p → counts ≡ flipCounts flips
-unfolding onesUpTo flipCounts
-flips-end flips counts p so-far within h = let e : p ≡ 2040 = omega arith in rw e at (so-far .value)
-
-pub over-is : (n : ℕ) → 8 < n → (1 ≡ overRadius n) × (1 < 2)
-unfolding overRadius
-over-is n h = (rw (lt-ltb 8 n h), lit< tt)
-
-pub over-not : (n : ℕ) → n ≤ 8 → (0 ≡ overRadius n) × (0 < 2)
-unfolding overRadius
-over-not n h = (rw (le-ltb 8 n h), lit< tt)
-
-pub over-lt : (n : ℕ) → overRadius n < 2
-unfolding overRadius
-over-lt n = go (ltb 8 n)
-  where
-    go : (t : Bool) → cond t 1 0 < 2
-    go true = lit< tt
-    go false = lit< tt
-
-pub not-over : (n : ℕ) → overRadius n ≡ 0 → n ≤ 8
-unfolding overRadius
-not-over n e = go (decLe n 8)
-  where
-    go : Dec (n ≤ 8) → n ≤ 8
-    go (yes h) = h
-    go (no g) = absurd (omega (arith, rw (lt-ltb 8 n (omega arith)) at e))
-
--- the invariant: the first k counts are tested
-pub record Testing (counts : List ℕ) (k m : ℕ) : Type 0 where
-  pub within : k ≤ 64
-  pub value : m ≡ numberOf k (λ i. overRadius (at counts i))
-
-pub testing-start : {counts : List ℕ} → Testing counts 0 0
-unfolding numberOf
-testing-start = record { within = zero-le; value = refl }
-
-module _ {counts : List ℕ} {k m : ℕ} (s : Testing counts k m) where
-  testing-lt : k < 64 → m < 2 ^ 63
-  testing-lt l =
-      omega (arith, s .value, numberOf-lt (λ i. overRadius (at counts i)) (λ i. over-lt (at counts i)) k, pow-mono {i = k} {j = 63} (omega arith))
-
-  pub testing-twice : k < 64 → Fits w64 (2 * m)
-  testing-twice l = record { fits = omega (arith, testing-lt l) }
-
-  pub testing-fits : {b : ℕ} → k < 64 → b < 2 → Fits w64 (2 * m + b)
-  testing-fits l h = record { fits = omega (arith, testing-lt l) }
-
-  pub testing-next : {b : ℕ} → k < 64 → b ≡ overRadius (at counts k) → Testing counts (k + 1) (2 * m + b)
-  unfolding numberOf
-  testing-next l e = record { within = omega arith; value = rw (add-one, ← e, ← s .value) }
-
-  pub testing-end : 64 ≤ k → m ≡ tooMany counts
-  unfolding tooMany
-  testing-end l = let e : k ≡ 64 = omega (arith, s .within) in rw e at (s .value)
 
 -- ---- how many inner words are wrong
 

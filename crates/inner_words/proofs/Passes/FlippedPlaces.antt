@@ -1,7 +1,7 @@
 -- The places of candidates: inverted in a block, and written as a block. Assumes nothing.
 use mathlib.Core.Path.{_≡_, refl, sym, ap, _∙_}
 use mathlib.Core.List.{List}
-use Prim.Native.Nat.{ℕ, _+_, _-_, _*_, _/_, _%_, _≤_, _<_, zero-le}
+use Prim.Native.Nat.{ℕ, _+_, _*_, _/_, _%_, _≤_, _<_, zero-le}
 use native.Mathlib.Decide.{ℕ-discrete, decLt}
 use native.Mathlib.Nat.{not-suc-le-zero}
 use native.Mathlib.Omega.{arith}
@@ -23,7 +23,7 @@ use Rattle.words.proofs.Bits.Numbers.{bitOf-lt, bitOf-number}
 use Rattle.words.proofs.Codes.Horner.{scale-one, scale-zero}
 use Rattle.words.proofs.Codes.ShiftedBits.{bitOf-sum}
 use Rattle.inner_words.specs.Steps.BitSliced.{placeAt, byteOf64}
-use Rattle.inner_words.specs.Steps.Candidates.{Flipped, flipBit, AsBlock, flipCounts}
+use Rattle.inner_words.specs.Steps.Candidates.{Flipped, flipBit, AsBlock, flipsIn}
 use Rattle.inner_words.proofs.Interleaving.BitSliced.{place-bit, bit-product}
 use Rattle.inner_words.proofs.Passes.Counts.{bit-is}
 
@@ -153,10 +153,9 @@ module _ (flips : List ℕ) (mask : ℕ) (before after : List ℕ) (f : Flipped 
     flipped-once p h = flipped-place p h ∙ ap (xor (bit p)) (rw e (scale-one (flip p) (bitOf-lt 64 (at flips p) k)))
 
     -- an inner word is as far from what it was as it has places inverted
-    pub flips-apart : apart (innerWord (bitAt before) k) (innerWord (bitAt after) k) ≡ at (flipCounts flips) k
-    unfolding innerWord flipCounts
+    pub flips-apart : apart (innerWord (bitAt before) k) (innerWord (bitAt after) k) ≡ flipsIn flips k
+    unfolding innerWord flipsIn
     flips-apart =
         apart-tables 2040 bit (λ p. bitAt after (64 * p + k)) ∙ sum-same 2040 _ flip (λ p h.
         ap (differs (bit p)) (flipped-once p h) ∙ sym (differs-sum (bit p) (xor (bit p) (flip p)))
         ∙ ap (λ (x : ℕ). differs x 0) (xor-cancel (bit p) (flip p)) ∙ sym (bit-is (flip p) (bitOf-lt 64 (at flips p) k)))
-        ∙ sym (tabulate-at 64 _ k 0 l)

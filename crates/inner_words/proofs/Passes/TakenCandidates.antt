@@ -2,7 +2,7 @@
 use mathlib.Core.Path.{_≡_, refl, sym, ap, ap₂, _∙_}
 use mathlib.Core.Bool.{Bool, true, cond}
 use mathlib.Core.List.{List}
-use Prim.Native.Nat.{ℕ, zero, suc, _+_, _-_, _*_, _/_, _%_, _<_}
+use Prim.Native.Nat.{ℕ, zero, suc, _+_, _*_, _/_, _%_, _<_}
 use native.Mathlib.Omega.{arith}
 use lib.Bits.{bitAnd, bitOr, bitXor, and-le-l}
 use lib.Dec.{eqb}
@@ -22,7 +22,7 @@ use Rattle.words.proofs.Codes.InnerWords.{inner-is}
 use Rattle.words.proofs.Codes.Proved.{codes}
 use Rattle.inner_words.specs.Steps.InnerResidues.{coefficient, wordResidue, residuesOf, WordResidues, sumAt}
 use Rattle.inner_words.specs.Steps.Passes.{wrongWords, WordNearer, EachWord}
-use Rattle.inner_words.specs.Steps.Candidates.{Flipped, flipBit, AsBlock, flipCounts, overRadius, tooMany, failing}
+use Rattle.inner_words.specs.Steps.Candidates.{Flipped, flipBit, AsBlock, flipsIn, above, tooMany, failing}
 use Rattle.inner_words.proofs.Interleaving.InterleavedBits.{inner-word-length, place-to-bit}
 use Rattle.inner_words.proofs.Interleaving.BitSliced.{bit-product, bit-or, orTo-bit}
 use Rattle.inner_words.proofs.Remainders.InnerResidues.{coefficient-sum}
@@ -30,7 +30,7 @@ use Rattle.inner_words.proofs.Remainders.ResidueCodes.{code-by, residue
 use Rattle.inner_words.proofs.Passes.WrongWords.{wrong-below, wrong-not, wrong-bit}
 use Rattle.inner_words.proofs.Passes.InnerPass.{restored-some, restored-code, nearer-self, wrongAt}
 use Rattle.inner_words.proofs.Passes.FlippedPlaces.{outside-mask, flipped-once, flips-apart}
-use Rattle.inner_words.proofs.Passes.Counts.{over-lt, not-over}
+use Rattle.inner_words.proofs.Passes.TooMany.{above-lt, above-not}
 
 -- ---- the residues of what is inverted
 
@@ -48,12 +48,12 @@ flip-place flips k p l h =
     let r : (64 * p + k) % 64 ≡ k = omega arith in
     rw (q, r) at (flip-block flips (64 * p + k) (omega arith))
 
-pub failing-is : (residues flips block added counts : List ℕ) (x m : ℕ) → AsBlock flips block → added ≡ residuesOf block (5 + 11 * 185) →
-    counts ≡ flipCounts flips → x ≡ orTo 88 (sumAt residues added) → m ≡ tooMany counts → bitOr x m ≡ failing residues flips
+pub failing-is : (residues flips block added : List ℕ) (x m : ℕ) → AsBlock flips block → added ≡ residuesOf block (5 + 11 * 185) →
+    x ≡ orTo 88 (sumAt residues added) → m ≡ tooMany flips → bitOr x m ≡ failing residues flips
 unfolding failing
-failing-is residues flips block added counts x m f ea ec ex em =
+failing-is residues flips block added x m f ea ex em =
     ap₂ bitOr (ex ∙ ap (λ (y : List ℕ). orTo 88 (sumAt residues y))
-    (ea ∙ residues-same block (flipBlock flips) (λ i l. f .bits i l ∙ sym (flip-block flips i l)))) (em ∙ ap tooMany ec)
+    (ea ∙ residues-same block (flipBlock flips) (λ i l. f .bits i l ∙ sym (flip-block flips i l)))) em
 
 -- linearity: an inner word with places inverted has its residues plus those of the places
 module _ (residues flips before after : List ℕ) (mask : ℕ) (g : Flipped flips mask before after) (k : ℕ) (l : k < 64) (em : bitOf 64 mask k ≡ 1)
@@ -121,25 +121,25 @@ module _ (residues flips before after : List ℕ) (wrong x : ℕ) (told : wrong 
       sums : ℕ
       sums = orTo 88 (sumAt residues (residuesOf (flipBlock flips) 2040))
 
-      none : (bitOf 64 sums k ≡ 0) × (bitOf 64 (tooMany (flipCounts flips)) k ≡ 0)
+      none : (bitOf 64 sums k ≡ 0) × (bitOf 64 (tooMany flips) k ≡ 0)
       unfolding failing sums
       none =
-          bits-or-zero (bitOf 64 sums k) (bitOf 64 (tooMany (flipCounts flips)) k) (bitOf-lt 64 sums k) (bitOf-lt 64 (tooMany (flipCounts flips)) k)
-          (sym (bit-or 64 k sums (tooMany (flipCounts flips))) ∙ ap (λ (y : ℕ). bitOf 64 y k) (sym ex) ∙ e)
+          bits-or-zero (bitOf 64 sums k) (bitOf 64 (tooMany flips) k) (bitOf-lt 64 sums k) (bitOf-lt 64 (tooMany flips) k)
+          (sym (bit-or 64 k sums (tooMany flips)) ∙ ap (λ (y : ℕ). bitOf 64 y k) (sym ex) ∙ e)
 
       code : isInner v ≡ true
       unfolding sums
       code = sym (sum-code residues flips before after mask g k l em (R k l ew)) ∙ wrong-not _ (sym (orTo-bit 64 k 88 _) ∙ none .0)
 
-      near : overRadius (apart w v) ≡ 0
+      near : above 8 (apart w v) ≡ 0
       unfolding tooMany
       near =
-          ap overRadius (flips-apart flips mask before after g k l em)
-          ∙ sym (bitOf-number (λ k. overRadius (at (flipCounts flips) k)) (λ k. over-lt (at (flipCounts flips) k)) 64 k l) ∙ none .1
+          ap (above 8) (flips-apart flips mask before after g k l em)
+          ∙ sym (bitOf-number (λ k. above 8 (flipsIn flips k)) (λ k. above-lt 8 (flipsIn flips k)) 64 k l) ∙ none .1
 
       found : innerRestored w ≡ v
       found =
-          restored-some w v (codes .inner-nearest .complete w v (inner-word-length (bitAt before) k) (inner-is v code .long) code (not-over (apart w v) near))
+          restored-some w v (codes .inner-nearest .complete w v (inner-word-length (bitAt before) k) (inner-is v code .long) code (above-not 8 (apart w v) near))
 
       taken : bitOf 64 (bitAnd wrong x) k ≡ 0 → Known
       taken q = (

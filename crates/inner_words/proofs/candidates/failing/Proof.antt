@@ -25,12 +25,6 @@ slice-aggregate-wrong-sums c = search needs
 wrong-sums-requires : tie.Need-wrong-sums-requires
 wrong-sums-requires c κs = search needs
 
-slice-aggregate-too-many : tie.Need-slice-aggregate-too-many
-slice-aggregate-too-many c = search needs
-
-too-many-requires : tie.Need-too-many-requires
-too-many-requires c κs = search needs
-
 returns : tie.Need-returns
 returns c = search (needs, failing-is)
 
@@ -45,6 +39,4 @@ failing-spec =
     residues-requires
     slice-aggregate-wrong-sums
     wrong-sums-requires
-    slice-aggregate-too-many
-    too-many-requires
     returns)

@@ -72,10 +72,10 @@ mod tests {
     #[test]
     fn a_write_is_seen_inside_and_outside() {
         for i in 0..2 * GUARD + 3 {
-            let mut lent = Guarded::new(&[1u8, 2, 3]);
-            assert!(guarded.kept("it").is_ok() && lent.holds("it", &[1, 2, 3]).is_ok());
-            lent.now[i] ^= 1;
-            assert!(guarded.kept("it").is_err() && lent.holds("it", &[1, 2, 3]).is_err());
+            let mut guarded = Guarded::new(&[1u8, 2, 3]);
+            assert!(guarded.kept("it").is_ok() && guarded.holds("it", &[1, 2, 3]).is_ok());
+            guarded.now[i] ^= 1;
+            assert!(guarded.kept("it").is_err() && guarded.holds("it", &[1, 2, 3]).is_err());
         }
     }
 }

@@ -21,36 +21,36 @@ use Rattle.document03.proofs.Words.WordsAgree.{sum-first}
 use Rattle.document03.proofs.Frames.Menders.{wrongFrom, bitsBefore, bitsHeld, wrongSymbols, symbolsIn}
 use Rattle.document03.proofs.Frames.PassesAgree.{symbols-in}
 
--- the bits of symbol s of outer word w, as h counts them: in the document's places, and in the row
+-- the bits of symbol s of outer word w, as h counts them: in the document's places, and in the outer symbols
 module _ (h : ℕ → ℕ) where
   abbrev sent : ℕ → ℕ → ℕ
   sent w s = sumTo (bitsHeld w s) (λ j. h (7810 * w + bitsBefore w s + j))
 
-  abbrev inRow : ℕ → ℕ → ℕ
-  inRow w s = sumTo 10 (λ j. receivedBit h (7810 * w + 10 * s + j))
+  abbrev inOuter : ℕ → ℕ → ℕ
+  inOuter w s = sumTo 10 (λ j. receivedBit h (7810 * w + 10 * s + j))
 
   -- a symbol before the padding bits, the one that holds them, and one after them
-  before-padding : (w s : ℕ) → bitsHeld w s ≡ 10 → bitsBefore w s ≡ 10 * s → 7810 * w + 10 * s + 10 ≤ 124768 → sent w s ≡ inRow w s
+  before-padding : (w s : ℕ) → bitsHeld w s ≡ 10 → bitsBefore w s ≡ 10 * s → 7810 * w + 10 * s + 10 ≤ 124768 → sent w s ≡ inOuter w s
   before-padding w s e f l =
       ap₂ (λ (n m : ℕ). sumTo n (λ j. h (7810 * w + m + j))) e f
       ∙ sum-same 10 _ _ (λ j m. sym (received-first h (7810 * w + 10 * s + j) (omega arith)))
 
-  with-padding : sent 15 761 ≡ inRow 15 761
+  with-padding : sent 15 761 ≡ inOuter 15 761
   unfolding sumTo
   with-padding =
       let first = sum-same 8 (λ j. h (124760 + j)) (λ j. receivedBit h (124760 + j)) (λ j m. sym (received-first h (124760 + j) (omega arith))) in
       first ∙ omega (arith, received-padding h 124768 (omega arith) (omega arith), received-padding h 124769 (omega arith) (omega arith))
 
-  after-padding : (s : ℕ) → 761 < s → sent 15 s ≡ inRow 15 s
+  after-padding : (s : ℕ) → 761 < s → sent 15 s ≡ inOuter 15 s
   after-padding s l =
       let e : eqb s 761 ≡ false = ne-eqb s 761 (λ q. omega arith) in
       rw (e, lt-leb s 761 l)
       (sum-same 10 _ _ (λ j m. sym (received-last h (7810 * 15 + 10 * s + j) (omega arith) ∙ ap h (omega arith))))
 
-  symbol-bits : (w s : ℕ) → w < 16 → s < dataIn w + 16 → sent w s ≡ inRow w s
+  symbol-bits : (w s : ℕ) → w < 16 → s < dataIn w + 16 → sent w s ≡ inOuter w s
   symbol-bits w s k l = go (decLt w 15) (decLt s 761) (ℕ-discrete s 761)
     where
-      go : Dec (w < 15) → Dec (s < 761) → Dec (s ≡ 761) → sent w s ≡ inRow w s
+      go : Dec (w < 15) → Dec (s < 761) → Dec (s ≡ 761) → sent w s ≡ inOuter w s
       go (yes a) _ _ = before-padding w s (rw (lt-ltb w 15 a)) (rw (lt-ltb w 15 a)) (omega (arith, dataIn-le w))
       go (no a) (yes b) _ =
           let e : w ≡ 15 = omega arith in
@@ -87,7 +87,7 @@ module _ (lost block frame b f : List ℕ) (same : (i : ℕ) → at block i ≡ 
 
   module _ (w : ℕ) (k : w < 16) where
     abbrev counted : ℕ → ℕ
-    counted s = min 1 (inRow wrong w s)
+    counted s = min 1 (inOuter wrong w s)
 
     symbols-agree : (n s : ℕ) → s + n ≤ dataIn w + 16 → wrongSymbols n s w lost block frame ≡ sumTo n (λ t. counted (s + t))
     unfolding sumTo

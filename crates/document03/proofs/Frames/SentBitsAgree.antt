@@ -31,7 +31,7 @@ symbol-bit (s ∷ ss) i h =
     let r : i % 10 ≡ (i - 10) % 10 = omega arith in
     symbol-bit ss (i - 10) (omega arith) ∙ rw (q, r))
 
--- our row of words: the bits of the first word, and those of the others
+-- our outer symbols: the bits of the first word, and those of the others
 symbols-first : (ss : List ℕ) (rest : List (List ℕ)) (r : ℕ) → r < 7810 → outerBit (ss ∷ rest) r ≡ bitOf 10 (at ss (r / 10)) (r % 10)
 unfolding outerBit
 symbols-first ss rest r h =

@@ -1,7 +1,7 @@
 -- Words place by place: symbols, the value of a word at an element, and the distance of two words.
 use mathlib.Core.Bool.{Bool, true, _&&_, cond}
 use mathlib.Core.List.{List}
-use Prim.Native.Nat.{ℕ, zero, suc, _+_}
+use Prim.Native.Nat.{ℕ, zero, suc, _+_, _-_}
 use lib.Dec.{eqb, ltb}
 use lib.ListN.{length, getD}
 use Rattle.fields.specs.Elements.{xor, times}
@@ -33,9 +33,13 @@ unfoldable pub sumTo : ℕ → (ℕ → ℕ) → ℕ
 sumTo zero f = 0
 sumTo (suc n) f = sumTo n f + f n
 
--- 1 where two symbols differ; and the distance of two words, the number of places of the first where they differ
+-- 1 where two symbols differ; and in how many places two words differ, from one place on and before another
 unfoldable pub differs : ℕ → ℕ → ℕ
 differs x y = cond (eqb x y) 0 1
 
+unfoldable pub apartBetween : ℕ → ℕ → List ℕ → List ℕ → ℕ
+apartBetween from to c d = sumTo (to - from) (λ i. differs (at c (from + i)) (at d (from + i)))
+
+-- the distance of two words: in how many of all places of the first they differ
 unfoldable pub apart : List ℕ → List ℕ → ℕ
-apart c d = sumTo (length c) (λ i. differs (at c i) (at d i))
+apart c d = apartBetween 0 (length c) c d

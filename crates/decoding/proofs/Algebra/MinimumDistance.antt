@@ -9,6 +9,7 @@ use lib.Seq.{ext-getD}
 use Rattle.fields.specs.Elements.{xor, power}
 use Rattle.fields.specs.Field.{Field}
 use Rattle.fields.specs.Places.{at, value, sumTo, differs, apart}
+use Rattle.fields.proofs.Places.Counting.{apart-sum}
 use Rattle.decoding.proofs.Algebra.Field.{upto, eq-of-add}
 use Rattle.decoding.proofs.Algebra.Support.{support, support-count}
 use Rattle.decoding.proofs.Algebra.Elements.{isZero, ops, laws, power-next, powers-distinct}
@@ -36,6 +37,5 @@ module _ (m p : ℕ) (F : Field m p) where
 
   pub far-lists : (s k : ℕ) (c d : List ℕ) → length c ≡ length d → length c ≤ 2 ^ m - 1 → ((i : ℕ) → at c i < 2 ^ m) → ((i : ℕ) → at d i < 2 ^ m) →
       ((j : ℕ) → j < k → value m p (power m p (s + j)) (at c) (length c) ≡ value m p (power m p (s + j)) (at d) (length d)) → apart c d ≤ k → c ≡ d
-  unfolding apart
   far-lists s k c d same small hc hd agree few =
-      ext-getD 0 c d same (far s k (length c) small (at c) (at d) hc hd (λ j h. rw (← same) at (agree j h)) few)
+      ext-getD 0 c d same (far s k (length c) small (at c) (at d) hc hd (λ j h. rw (← same) at (agree j h)) (rw (apart-sum c d) at few))

@@ -16,7 +16,7 @@ use Rattle.fields.specs.Places.{at, allBelow, horner, sumTo, differs, apart}
 use Rattle.fields.proofs.Lists.{tabulate-at, tabulate-length}
 use Rattle.fields.proofs.Xor.{xor-cancel, xor-lt, xor-self, xor-zero-l, xor-zero-r}
 use Rattle.fields.proofs.Places.Tests.{below-at, below-all}
-use Rattle.fields.proofs.Places.Counting.{differs-most, differs-self, sum-zero, sum-same, sum-add}
+use Rattle.fields.proofs.Places.Counting.{differs-most, differs-self, sum-zero, sum-same, sum-add, apart-sum}
 use Rattle.decoding.specs.Steps.Decoder.{Tables, locator, xorTo, timesPower, syndrome, errorAt, Correctable, Decoded, weightOf, withErrors}
 use Rattle.decoding.proofs.Algebra.PowerSums.{powerSum-add, horner-sums}
 use Rattle.decoding.proofs.Algebra.Tables.{tableOps, table-laws, table-powers, xorTo-same, table-value, syndrome-is}
@@ -45,8 +45,7 @@ pub differs-sum : (x y : ℕ) → differs (xor x y) 0 ≡ differs x y
 differs-sum x y = sym (differs-added x (xor x y)) ∙ ap (differs x) (xor-cancel x y)
 
 pub sum-weight : (w c : List ℕ) → sumTo (length w) (λ i. differs (xor (at w i) (at c i)) 0) ≡ apart w c
-unfolding apart
-sum-weight w c = sum-same (length w) _ _ (λ i l. differs-sum (at w i) (at c i))
+sum-weight w c = sum-same (length w) _ _ (λ i l. differs-sum (at w i) (at c i)) ∙ sym (apart-sum w c)
 
 module _ (places values : List ℕ) where
   -- there is no error at a place after those listed
@@ -97,9 +96,8 @@ module _ (places values : List ℕ) where
 
       pub apart-errors : (c : List ℕ) → length c ≡ n → ((i : ℕ) → i < n → at c i ≡ w i) → ((l : ℕ) → l < k → at places l < n) → ((l m : ℕ) → l < m → m < k → at places l < at places m) →
           apart c (withErrors w places values k n) ≡ weightOf values k
-      unfolding apart
       apart-errors c long same below ascending =
-          rw long (sum-same n _ _ (λ i l. ap₂ differs (same i l) (errors-at i l) ∙ differs-added (w i) (errorAt places values k i)) ∙ errors-weight k below ascending)
+          rw (apart-sum, long) (sum-same n _ _ (λ i l. ap₂ differs (same i l) (errors-at i l) ∙ differs-added (w i) (errorAt places values k i)) ∙ errors-weight k below ascending)
 
 -- ---- syndromes
 

@@ -10,7 +10,7 @@ use lib.Dec.{eqb, eqb·suc-zero}
 use lib.ListN.{length, getD}
 use Rattle.fields.specs.Places.{at, sumTo, differs}
 use Rattle.fields.specs.Places as Places
-use Rattle.fields.proofs.Places.Counting.{sum-same}
+use Rattle.fields.proofs.Places.Counting.{sum-same, apart-sum}
 use Rattle.words.specs.Bits as Bits
 use Rattle.words.specs.InnerWords.{withParity}
 use Rattle.words.proofs.Bits.Bytes.{bits-length, bits-at, bits-same}
@@ -59,12 +59,12 @@ bytes-long p = frame-length (Frames.outerWords p)
 
 -- in how many bits blocks differ
 pub apart-bits : (b c : List ℕ) → length b ≡ 16320 → length c ≡ 16320 → apart (Bits.bitsOf b) (Bits.bitsOf c) ≡ wrongBits b c
-unfolding wrongBits Places.apart
+unfolding wrongBits
 apart-bits b c eb ec =
     let xs = Bits.bitsOf b in
     let ys = Bits.bitsOf c in
     apart-agrees xs ys (bits-length b ∙ ap (λ (n : ℕ). 8 * n) (eb ∙ sym ec) ∙ sym (bits-length c))
-    ∙ ap (λ (n : ℕ). sumTo n (λ i. differs (at xs i) (at ys i))) (bits-length b ∙ omega arith)
+    ∙ apart-sum xs ys ∙ ap (λ (n : ℕ). sumTo n (λ i. differs (at xs i) (at ys i))) (bits-length b ∙ omega arith)
     ∙ sum-same 130560 _ _ (λ i l. ap₂ differs (bits-at b i) (bits-at c i))
 
 -- lists of one length are the same if they differ nowhere

@@ -15,6 +15,7 @@ use Rattle.fields.specs.Field.{Field}
 use Rattle.fields.specs.Lists.{tabulate}
 use Rattle.fields.specs.Places.{at, every, allBelow, horner, value, sumTo, differs}
 use Rattle.fields.specs.Places as Places
+use Rattle.fields.proofs.Places.Counting.{apart-sum}
 use Rattle.fields.proofs.Lists.{tabulate-is}
 use Rattle.decoding.proofs.Algebra.Values.{value-lt}
 use Rattle.document03.proofs.Fields.{xor, xor-agrees}
@@ -54,12 +55,15 @@ unfolding differs
 differs-agrees true x y e = rw e
 differs-agrees false x y e = rw e
 
+apart-places : (xs ys : List ℕ) → length xs ≡ length ys → apart xs ys ≡ sumTo (length xs) (λ i. differs (at xs i) (at ys i))
+unfolding sumTo
+apart-places [] ys e = refl
+apart-places (x ∷ xs) [] e = absurd (omega arith)
+apart-places (x ∷ xs) (y ∷ ys) e =
+    ap₂ _+_ (differs-agrees (eqb x y) x y refl) (apart-places xs ys (omega arith)) ∙ sym (sum-first (length xs) (λ i. differs (at (x ∷ xs) i) (at (y ∷ ys) i)))
+
 pub apart-agrees : (xs ys : List ℕ) → length xs ≡ length ys → apart xs ys ≡ Places.apart xs ys
-unfolding Places.apart sumTo
-apart-agrees [] ys e = refl
-apart-agrees (x ∷ xs) [] e = absurd (omega arith)
-apart-agrees (x ∷ xs) (y ∷ ys) e =
-    ap₂ _+_ (differs-agrees (eqb x y) x y refl) (apart-agrees xs ys (omega arith)) ∙ sym (sum-first (length xs) (λ i. differs (at (x ∷ xs) i) (at (y ∷ ys) i)))
+apart-agrees xs ys e = apart-places xs ys e ∙ sym (apart-sum xs ys)
 
 -- what takes in one symbol after another
 module _ {S : Type 0} (f : S → ℕ → S) (run : S → List ℕ → S) (stop : (r : S) → run r [] ≡ r) (go : (r : S) (s : ℕ) (ss : List ℕ) → run r (s ∷ ss) ≡ run (f r s) ss) where

@@ -1,15 +1,15 @@
 -- In how many places words differ. Assumes nothing.
-use mathlib.Core.Path.{_≡_, refl, sym, _∙_}
+use mathlib.Core.Path.{_≡_, refl, sym, ap, ap₂, _∙_}
 use mathlib.Core.Bool.{Bool, true, false, cond}
 use mathlib.Core.List.{List, _++_}
-use Prim.Native.Nat.{ℕ, zero, suc, _+_, _≤_, _<_, zero-le}
+use Prim.Native.Nat.{ℕ, zero, suc, _+_, _-_, _≤_, _<_, zero-le}
 use native.Mathlib.Decide.{ℕ-discrete}
-use native.Mathlib.Nat.{add-suc, add-zero, le-refl, not-suc-le-zero}
+use native.Mathlib.Nat.{add-suc, add-zero, le-refl, not-suc-le-zero, zero-add}
 use native.Mathlib.Omega.{arith}
 use borrow.Author.Tests.{eq-eqb, eqb-true}
 use lib.Dec.{eqb}
 use lib.ListN.{length, length-append, List·getD-append}
-use Rattle.fields.specs.Places.{at, sumTo, differs, apart}
+use Rattle.fields.specs.Places.{at, sumTo, differs, apartBetween, apart}
 
 pub differs-most : (x y : ℕ) → differs x y ≤ 1
 unfolding differs
@@ -53,11 +53,17 @@ sum-one-more (suc n) j f g l e h = go (ℕ-discrete j n) (λ l. sum-one-more n j
         omega (arith, last, sum-same n f g (λ i b. h i (omega arith) (λ k. omega arith)))
     go (no q) before = omega (arith, before (omega arith), h n (le-refl (suc n)) (λ k. omega arith))
 
+-- the distance, place by place
+pub apart-sum : (c d : List ℕ) → apart c d ≡ sumTo (length c) (λ i. differs (at c i) (at d i))
+unfolding apart apartBetween
+apart-sum c d =
+    let all : length c - 0 ≡ length c = omega arith in
+    rw all (sum-same (length c) _ _ (λ i l. ap (λ (j : ℕ). differs (at c j) (at d j)) (zero-add i)))
+
 -- words with the same beginning differ at most in the rest
 pub apart-append : (c a b : List ℕ) → apart (c ++ a) (c ++ b) ≤ length a
-unfolding apart
 apart-append c a b =
-    rw (length-append c a) (sum-most (length c) (length a) (λ i. differs (at (c ++ a) i) (at (c ++ b) i))
+    rw (apart-sum, length-append c a) (sum-most (length c) (length a) (λ i. differs (at (c ++ a) i) (at (c ++ b) i))
     (λ i l. rw (List·getD-append c a 0 i l, List·getD-append c b 0 i l) (differs-self (at c i))) (λ i. differs-most (at (c ++ a) i) (at (c ++ b) i)))
 
 -- ---- the triangle inequality
@@ -86,7 +92,6 @@ differs-by x y zero h = rw (h refl) (omega (arith, differs-self y))
 differs-by x y (suc n) h = omega (arith, differs-most x y)
 
 pub apart-two : (w c d : List ℕ) → length c ≡ length w → apart c d ≤ apart w c + apart w d
-unfolding apart
 apart-two w c d e =
-    rw (e, ← (sum-add (length w) (λ i. differs (at w i) (at c i)) (λ i. differs (at w i) (at d i))))
+    rw (apart-sum c d, apart-sum w c, apart-sum w d, e, ← (sum-add (length w) (λ i. differs (at w i) (at c i)) (λ i. differs (at w i) (at d i))))
     (sum-mono (length w) _ _ (λ i l. differs-by (at c i) (at d i) _ (λ z. sym (differs-none (at w i) (at c i) (omega arith)) ∙ differs-none (at w i) (at d i) (omega arith))))

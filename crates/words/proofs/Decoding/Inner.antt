@@ -16,7 +16,7 @@ use Rattle.fields.specs.Places.{at, allBelow, value, sumTo, differs, apart}
 use Rattle.fields.proofs.Lists.{tabulate-at}
 use Rattle.fields.proofs.Xor.{xor-lt, xor-self, xor-zero-l, xor-zero-r}
 use Rattle.fields.proofs.Places.Tests.{every-at, every-true, below-at, below-all}
-use Rattle.fields.proofs.Places.Counting.{differs-most, sum-same}
+use Rattle.fields.proofs.Places.Counting.{differs-most, sum-same, apart-sum}
 use Rattle.decoding.specs.Steps.Decoder.{locator, xorTo, syndrome, errorAt, Correctable, Decoded, weightOf, withErrors}
 use Rattle.decoding.proofs.Algebra.Tables.{tables-b}
 use Rattle.decoding.proofs.Decoding.Changes.{differs-sum, error-none, error-lt, weight-most, errors-length, errors-at, apart-errors, syndrome-same, syndrome-add, none-left, few-leave-none}
@@ -155,9 +155,9 @@ module _ (w : List ℕ) (long : length w ≡ 255) (places values : List ℕ) (co
         ∙ syndrome-same powersB exponentsB 2040 _ (located d) (λ i h. sym (located-add (bitAt w) (at c) i)) j
 
     few : sumTo 2040 (λ i. differs (located d i) 0) ≤ 8
-    unfolding located apart
+    unfolding located
     few =
-        let e : sumTo 2040 (λ i. differs (located d i) 0) ≡ apart (bitsOf w) c = rw word-long (sum-same 2040 _ _ (λ i l. same i)) in
+        let e : sumTo 2040 (λ i. differs (located d i) 0) ≡ apart (bitsOf w) c = rw (apart-sum, word-long) (sum-same 2040 _ _ (λ i l. same i)) in
         omega arith
       where
         same : (i : ℕ) → differs (located d i) 0 ≡ differs (at (bitsOf w) i) (at c i)

@@ -1,4 +1,5 @@
--- Bounded-distance decoding: what `nearest` finds is a near code word, and where code words lie far apart it is the only one. Assumes nothing.
+-- Bounded-distance decoding by a cost: what is found is a code word that is cheap enough, and where two such are the same it is the only one. The code word within
+-- a radius is an instance, for code words that lie far apart. Assumes nothing.
 use mathlib.Core.Path.{_≡_, refl, sym, ap, _∙_, subst}
 use mathlib.Core.Bool.{Bool, true, false, _&&_, cond}
 use mathlib.Core.List.{List, [], _∷_}
@@ -13,7 +14,7 @@ use lib.ListN.{length}
 use Rattle.fields.specs.Places.{at, allBelow, apart}
 use Rattle.fields.proofs.Places.Tests.{below-lt}
 use Rattle.fields.proofs.Places.Counting.{apart-two}
-use Rattle.words.specs.Nearest.{orElse, firstAt, firstWord, nearest, Decodes}
+use Rattle.words.specs.Nearest.{orElse, firstAt, firstWord, nearestBy, DecodesBy, nearest, Decodes}
 
 -- ---- the search through all words
 
@@ -56,62 +57,79 @@ module _ {A : Type 0} where
   word-none q (s ∷ c) f e h =
       word-none q c (λ c. f (s ∷ c)) (at-none q (λ s. firstWord q (length c) (λ c. f (s ∷ c))) e s (h 0 (omega arith))) (λ i l. h (suc i) (omega arith))
 
--- ---- code words of symbols below q, and the radius t
+-- ---- code words of symbols below q, and a cost of at most t
 
-module _ (isCode : List ℕ → Bool) (q t : ℕ) where
-  -- c is a code word as long as w, within t places of it
-  pub record Near (w c : List ℕ) : Type 0 where
+module _ (cost : List ℕ → List ℕ → ℕ) (isCode : List ℕ → Bool) (q t : ℕ) where
+  -- c is a code word as long as w, and cheap enough
+  pub record Cheap (w c : List ℕ) : Type 0 where
     pub as-long : length c ≡ length w
     pub code : isCode c ≡ true
-    pub within : apart w c ≤ t
+    pub within : cost w c ≤ t
 
-  pub nearest-some : (w c : List ℕ) → nearest isCode q t w ≡ some c → Near w c
-  unfolding nearest
-  nearest-some w c e =
-      let r = word-some q (length w) (λ c. cond (isCode c && leb (apart w c) t) (some c) none) c e in
-      go (r .0) (r .1) (isCode (r .0)) (leb (apart w (r .0)) t) refl refl (r .2)
+  by-some : (w c : List ℕ) → nearestBy cost isCode q t w ≡ some c → Cheap w c
+  unfolding nearestBy
+  by-some w c e =
+      let r = word-some q (length w) (λ c. cond (isCode c && leb (cost w c) t) (some c) none) c e in
+      go (r .0) (r .1) (isCode (r .0)) (leb (cost w (r .0)) t) refl refl (r .2)
     where
-      go : (d : List ℕ) → length d ≡ length w → (a b : Bool) → isCode d ≡ a → leb (apart w d) t ≡ b → cond (a && b) (some d) none ≡ some c → Near w c
+      go : (d : List ℕ) → length d ≡ length w → (a b : Bool) → isCode d ≡ a → leb (cost w d) t ≡ b → cond (a && b) (some d) none ≡ some c → Cheap w c
       go d l true true i b e =
           let k : d ≡ c = cc in
-          subst (λ (x : List ℕ). Near w x) k (record { as-long = l; code = i; within = leb-true (apart w d) t b })
+          subst (λ (x : List ℕ). Cheap w x) k (record { as-long = l; code = i; within = leb-true (cost w d) t b })
       go d l true false i b e = let z : _≡_ {A = ℕ} 0 1 = cc in absurd (omega arith)
       go d l false b i b′ e = let z : _≡_ {A = ℕ} 0 1 = cc in absurd (omega arith)
 
-  pub nearest-none : (w c : List ℕ) → nearest isCode q t w ≡ none → length c ≡ length w → allBelow q c ≡ true → isCode c ≡ true → t < apart w c
-  unfolding nearest
-  nearest-none w c e l b i =
-      go (leb (apart w c) t) refl
-      (rw i at (word-none q c (λ c. cond (isCode c && leb (apart w c) t) (some c) none) (rw l e) (below-lt q c b)))
+  by-none : (w c : List ℕ) → nearestBy cost isCode q t w ≡ none → length c ≡ length w → allBelow q c ≡ true → isCode c ≡ true → t < cost w c
+  unfolding nearestBy
+  by-none w c e l b i =
+      go (leb (cost w c) t) refl
+      (rw i at (word-none q c (λ c. cond (isCode c && leb (cost w c) t) (some c) none) (rw l e) (below-lt q c b)))
     where
-      go : (x : Bool) → leb (apart w c) t ≡ x → cond (leb (apart w c) t) (some c) none ≡ none → t < apart w c
+      go : (x : Bool) → leb (cost w c) t ≡ x → cond (leb (cost w c) t) (some c) none ≡ none → t < cost w c
       go true x h = let z : _≡_ {A = ℕ} 0 1 = cc in omega arith
-      go false x h = leb-false (apart w c) t x
+      go false x h = leb-false (cost w c) t x
+
+  -- where every code word is too dear, none is found
+  pub by-lost : (w : List ℕ) → ((c : List ℕ) → isCode c ≡ true → length c ≡ length w → t < cost w c) → nearestBy cost isCode q t w ≡ none
+  by-lost w h = go (nearestBy cost isCode q t w) refl
+    where
+      go : (o : Option (List ℕ)) → nearestBy cost isCode q t w ≡ o → o ≡ none
+      go none e = refl
+      go (some d) e = let m = by-some w d e in absurd (omega (arith, h d (m .code) (m .as-long), m .within))
+
+  -- code words have symbols below q, and two that a word of length n becomes cheaply enough are the same
+  module _ (n : ℕ) (below : (c : List ℕ) → isCode c ≡ true → allBelow q c ≡ true)
+      (only : (w c d : List ℕ) → length w ≡ n → Cheap w c → Cheap w d → c ≡ d) where
+    -- the code word that is cheap enough is the one that is found
+    by-is : (w c : List ℕ) → length w ≡ n → Cheap w c → nearestBy cost isCode q t w ≡ some c
+    by-is w c l m = go (nearestBy cost isCode q t w) refl
+      where
+        go : (o : Option (List ℕ)) → nearestBy cost isCode q t w ≡ o → o ≡ some c
+        go none e = absurd (omega (arith, by-none w c e (m .as-long) (below c (m .code)) (m .code), m .within))
+        go (some d) e = ap some (only w d c l (by-some w d e) m)
+
+    pub decodes-by : DecodesBy cost isCode q t n
+    decodes-by =
+        record {
+          sound = λ w c l e. let k = by-some w c e in (k .as-long ∙ l, k .code, k .within);
+          complete = λ w c l m i a. by-is w c l (record { as-long = m ∙ sym l; code = i; within = a });
+          none-means-none = λ w c l e m i. by-none w c e (m ∙ sym l) (below c i) i;
+        }
+
+-- ---- the radius t: the cost is the distance
+
+module _ (isCode : List ℕ → Bool) (q t : ℕ) where
+  -- the first code word among all words that differs in at most t places
+  pub nearest-first : (w : List ℕ) → nearest isCode q t w ≡ firstWord q (length w) (λ c. cond (isCode c && leb (apart w c) t) (some c) none)
+  unfolding nearestBy
+  nearest-first w = refl
 
   pub nearest-lost : (w : List ℕ) → ((c : List ℕ) → isCode c ≡ true → length c ≡ length w → t < apart w c) → nearest isCode q t w ≡ none
-  nearest-lost w h = go (nearest isCode q t w) refl
-    where
-      go : (o : Option (List ℕ)) → nearest isCode q t w ≡ o → o ≡ none
-      go none e = refl
-      go (some d) e = let m = nearest-some w d e in absurd (omega (arith, h d (m .code) (m .as-long), m .within))
+  nearest-lost = by-lost apart isCode q t
 
-  -- code words have symbols below q, and those of length n that differ in at most t + t places are the same
-  module _ (n : ℕ) (below : (c : List ℕ) → isCode c ≡ true → allBelow q c ≡ true)
-      (far : (c d : List ℕ) → isCode c ≡ true → isCode d ≡ true → length c ≡ n → length d ≡ n → apart c d ≤ t + t → c ≡ d) where
-    -- the near code word is the one that is found
-    pub nearest-is : (w c : List ℕ) → length w ≡ n → Near w c → nearest isCode q t w ≡ some c
-    nearest-is w c l m = go (nearest isCode q t w) refl
-      where
-        go : (o : Option (List ℕ)) → nearest isCode q t w ≡ o → o ≡ some c
-        go none e = absurd (omega (arith, nearest-none w c e (m .as-long) (below c (m .code)) (m .code)))
-        go (some d) e =
-            let k = nearest-some w d e in
-            ap some (far d c (k .code) (m .code) (k .as-long ∙ l) (m .as-long ∙ l) (omega (arith, apart-two w d c (k .as-long), k .within)))
-
-    pub decodes : Decodes isCode q t n
-    decodes =
-        record {
-          sound = λ w c l e. let k = nearest-some w c e in (k .as-long ∙ l, k .code, k .within);
-          complete = λ w c l m i a. nearest-is w c l (record { as-long = m ∙ sym l; code = i; within = a });
-          none-means-none = λ w c l e m i. nearest-none w c e (m ∙ sym l) (below c i) i;
-        }
+  -- code words of length n that differ in at most t + t places are the same
+  pub decodes : (n : ℕ) → ((c : List ℕ) → isCode c ≡ true → allBelow q c ≡ true) →
+      ((c d : List ℕ) → isCode c ≡ true → isCode d ≡ true → length c ≡ n → length d ≡ n → apart c d ≤ t + t → c ≡ d) → Decodes isCode q t n
+  decodes n below far =
+      decodes-by apart isCode q t n below
+      (λ w c d l k m. far c d (k .code) (m .code) (k .as-long ∙ l) (m .as-long ∙ l) (omega (arith, apart-two w c d (k .as-long), k .within, m .within)))

@@ -9,7 +9,7 @@ ghost use Rattle.fields.specs.Steps.Buffers.{Placed};
 ghost use Rattle.words.specs.Bits.{bitAt, bytesOf};
 ghost use Rattle.words.specs.InnerWords.{withParity};
 ghost use Rattle.inner_words.specs.Steps.BitSliced.{parityPlaces, parityBytes};
-ghost use Rattle.inner_words.specs.Steps.Passes.{wrongWords, InnerPassed, innerCodes};
+ghost use Rattle.inner_words.specs.Steps.Passes.{InnerPassed, innerCodes};
 
 mod candidates;
 mod factor_residues;
@@ -89,11 +89,10 @@ pub fn blank() -> [u8; Interleaved::BYTES]
 }
 
 // The inner pass over a copy of the received block: each inner word becomes the code word within eight places; where there is none it is left as received.
-// The answer is what is left wrong: bit k, the highest first, is 1 where word k is no code word.
+// The answer is the words that are left: bit k, the highest first, is 1 where word k is no code word and was left as received.
 pub fn correct(block: &mut [u8]) -> u64
     requires { ⌜ length (now block) ≡ 16320 ⌝ }
-    ensures passed { λ _. ⌜ InnerPassed (now (block .entry)) (now (block .exit)) ⌝ }
-    ensures left { λ r. ⌜ r ≡ wrongWords (bitAt (now (block .exit))) ⌝ }
+    ensures { λ r. ⌜ InnerPassed (now (block .entry)) (now (block .exit)) r ⌝ }
 {
     let residues = residues::residues(block, lanes::WORD_BLOCKS);
     let wrong = residues::wrong(&residues);

@@ -1,5 +1,5 @@
 -- The 64 inner words of a frame, place by place, their parity bits, and the inner pass over them. Bits are given by a function b: bit i is b i.
-use mathlib.Core.Bool.{cond}
+use mathlib.Core.Bool.{Bool, not, cond}
 use mathlib.Core.List.{List}
 use mathlib.Core.Option.{Option·getD}
 use Prim.Native.Nat.{ℕ, _+_, _-_, _*_, _/_, _%_}
@@ -7,7 +7,7 @@ use lib.Dec.{ltb}
 use Rattle.fields.specs.Lists.{tabulate}
 use Rattle.fields.specs.Places.{at}
 use Rattle.words.specs.InnerCode.{isInner, innerParity}
-use Rattle.words.specs.Nearest.{nearest}
+use Rattle.words.specs.Nearest.{isSome, nearest}
 
 -- frame bit 64 p + k is place p of inner word k: 1,952 data places, and with the parity places 2,040
 unfoldable pub innerData : (ℕ → ℕ) → ℕ → List ℕ
@@ -30,3 +30,7 @@ innerRestored w = Option·getD (nearest isInner 2 8 w) w
 
 unfoldable pub innerPass : (ℕ → ℕ) → ℕ → ℕ
 innerPass b i = at (innerRestored (innerWord b (i % 64))) (i / 64)
+
+-- the inner words that it leaves as received ("lost"): those without such a code word
+unfoldable pub isLost : (ℕ → ℕ) → ℕ → Bool
+isLost b k = not (isSome (nearest isInner 2 8 (innerWord b k)))

@@ -1,6 +1,6 @@
 -- The inner pass: what an inner word is restored to, and all inner words of a block one after the other. Assumes nothing.
 use mathlib.Core.Path.{_≡_, refl, sym, ap, ap₂, _∙_}
-use mathlib.Core.Bool.{Bool, true, false, cond}
+use mathlib.Core.Bool.{Bool, true, false, not, cond}
 use mathlib.Core.List.{List}
 use mathlib.Core.Option.{Option, none, some, Option·getD, Option·map}
 use Prim.Native.Nat.{ℕ, _+_, _-_, _*_, _/_, _%_, _^_, _≤_, _<_, zero-le}
@@ -18,16 +18,16 @@ use Rattle.fields.proofs.Lists.{tabulate-same}
 use Rattle.fields.proofs.Places.Differences.{apart-self}
 use Rattle.words.specs.Bits.{bitOf, numberOf, bitAt}
 use Rattle.words.specs.InnerCode.{isInner}
-use Rattle.words.specs.Nearest.{nearest}
-use Rattle.words.specs.InnerWords.{innerWord, innerRestored, innerPass}
+use Rattle.words.specs.Nearest.{isSome, nearest}
+use Rattle.words.specs.InnerWords.{innerWord, innerRestored, innerPass, isLost}
 use Rattle.words.proofs.Bits.Numbers.{bitOf-lt, bitOf-zero, masked-bit, numberOf-lt, numberOf-same}
 use Rattle.words.proofs.Codes.InnerWords.{inner-is}
 use Rattle.words.proofs.Codes.Proved.{codes}
 use Rattle.inner_words.specs.Steps.InnerResidues.{residuesOf, WordResidues}
-use Rattle.inner_words.specs.Steps.Passes.{wrongWords, WordRestored, WordNearer, OneWord, EachWord, InnerPassed}
-use Rattle.inner_words.proofs.Interleaving.InterleavedBits.{bit-to-place}
+use Rattle.inner_words.specs.Steps.Passes.{wrongWords, lostWords, WordRestored, WordNearer, OneWord, EachWord, InnerPassed}
+use Rattle.inner_words.proofs.Interleaving.InterleavedBits.{bit-to-place, inner-word-length}
 use Rattle.inner_words.proofs.Remainders.ResidueCodes.{whole-residues, residues-kept}
-use Rattle.inner_words.proofs.Passes.WrongWords.{wrong-lt, wrong-not, wrong-no, wrong-bit}
+use Rattle.inner_words.proofs.Passes.WrongWords.{wrong-lt, wrong-other, wrong-not, wrong-no, wrong-bit}
 
 -- ---- an inner word
 
@@ -62,6 +62,14 @@ restored-length w long = go (nearest isInner 2 8 w) refl
     go : (o : Option (List ℕ)) → nearest isInner 2 8 w ≡ o → length (Option·getD o w) ≡ 2040
     go none e = long
     go (some c) e = codes .inner-nearest .sound w c long e .0
+
+-- what an inner word is restored to is a code word just where there is one within eight places
+pub restored-is : (w : List ℕ) → length w ≡ 2040 → isInner (innerRestored w) ≡ isSome (nearest isInner 2 8 w)
+restored-is w long = go (nearest isInner 2 8 w) refl
+  where
+    go : (o : Option (List ℕ)) → nearest isInner 2 8 w ≡ o → isInner (innerRestored w) ≡ isSome o
+    go none e = ap isInner (restored-none w e) ∙ lost-wrong w e
+    go (some c) e = ap isInner (restored-some w c e) ∙ codes .inner-nearest .sound w c long e .1
 
 pub nearer-self : (w : List ℕ) → WordNearer w w
 nearer-self w = record { same = refl; kept = λ e. refl }
@@ -218,10 +226,18 @@ none-restored block x told e =
           record { is = sym (restored-code w (wrong-not (isInner w) right)) };
     }
 
-pub pass-restored : (before after : List ℕ) → EachWord WordRestored before after → InnerPassed before after
-unfolding innerPass
-pass-restored before after r =
-    record { long = r .long; bits = λ i b. bit-to-place (bitAt after) i b ∙ ap (λ (w : List ℕ). at w (i / 64)) (r .word (i % 64) (omega arith) .is) }
+-- what is left wrong was left as received
+pub pass-restored : (before after : List ℕ) (x : ℕ) → EachWord WordRestored before after → x ≡ wrongWords (bitAt after) → InnerPassed before after x
+unfolding innerPass wrongWords lostWords isLost
+pass-restored before after x r told =
+    record {
+      long = r .long;
+      bits = λ i b. bit-to-place (bitAt after) i b ∙ ap (λ (w : List ℕ). at w (i / 64)) (r .word (i % 64) (omega arith) .is);
+      lost = told ∙ numberOf-same 64 _ _ (λ k l.
+          let w = innerWord (bitAt before) k in
+          ap (λ (t : Bool). cond t 0 1) (ap isInner (r .word k l .is) ∙ restored-is w (inner-word-length (bitAt before) k)) ∙ wrong-other (isSome (nearest isInner 2 8 w)));
+      wrong = told;
+    }
 
 -- what has come nearer, and is restored then, is restored
 pub nearer-restored : (before mid after : List ℕ) → EachWord WordNearer before mid → EachWord WordRestored mid after → EachWord WordRestored before after

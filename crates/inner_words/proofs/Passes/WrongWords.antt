@@ -1,6 +1,6 @@
 -- The inner words of a block that are no code words. Assumes nothing.
 use mathlib.Core.Path.{_≡_, refl, sym, ap, _∙_}
-use mathlib.Core.Bool.{Bool, true, false, cond}
+use mathlib.Core.Bool.{Bool, true, false, not, cond}
 use Prim.Native.Nat.{ℕ, _-_, _^_, _<_}
 use native.Mathlib.Omega.{arith}
 use borrow.Author.Tests.{eq-eqb, eqb-true}
@@ -17,6 +17,10 @@ use Rattle.inner_words.specs.Steps.Passes.{innerCodes, wrongWords}
 pub wrong-lt : (t : Bool) → cond t 0 1 < 2
 wrong-lt true = lit< tt
 wrong-lt false = lit< tt
+
+pub wrong-other : (t : Bool) → _≡_ {A = ℕ} (cond t 0 1) (cond (not t) 1 0)
+wrong-other true = refl
+wrong-other false = refl
 
 pub wrong-not : (t : Bool) → _≡_ {A = ℕ} (cond t 0 1) 0 → t ≡ true
 wrong-not true e = refl

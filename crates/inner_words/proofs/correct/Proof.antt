@@ -18,7 +18,7 @@ same-length : tie.Need-same-length
 same-length c = search needs
 
 returns : tie.Need-returns
-returns c = (search (needs, words-wrong, none-restored, pass-restored), search (needs, words-right))
+returns c = search (needs, words-wrong, words-right, none-restored, pass-restored)
 
 exp-b-requires : tie.Need-exp-b-requires
 exp-b-requires c κs = search needs
@@ -57,7 +57,7 @@ same-length-2 : tie.Need-same-length-2
 same-length-2 c = search needs
 
 returns-2 : tie.Need-returns-2
-returns-2 c = (search (needs, nearer-restored, pass-restored), search needs)
+returns-2 c = search (needs, nearer-restored, pass-restored)
 
 pub correct-spec : {M : Type 1} → statement M
 correct-spec =

@@ -8,7 +8,7 @@ use Rattle.fields.specs.Lists.{tabulate}
 use Rattle.fields.specs.Places.{at, every}
 use Rattle.words.specs.Bits.{bitOf, numberOf, bitAt}
 use Rattle.words.specs.InnerCode.{isInner}
-use Rattle.words.specs.InnerWords.{innerWord, innerRestored, innerPass}
+use Rattle.words.specs.InnerWords.{innerWord, innerRestored, innerPass, isLost}
 
 -- each inner word is a code word
 unfoldable pub innerCodes : (ℕ → ℕ) → Bool
@@ -39,10 +39,16 @@ pub record EachWord (P : List ℕ → List ℕ → Type 0) (before after : List 
   pub long : length after ≡ length before
   pub word : (k : ℕ) → k < 64 → P (innerWord (bitAt before) k) (innerWord (bitAt after) k)
 
--- the inner pass over a block
-pub record InnerPassed (before after : List ℕ) : Type 0 where
+-- bit k of the number, the highest of 64 first, is 1 where the inner pass leaves inner word k as received
+unfoldable pub lostWords : (ℕ → ℕ) → ℕ
+lostWords b = numberOf 64 (λ k. cond (isLost b k) 1 0)
+
+-- the inner pass over a block: its bits, and the inner words that it leaves as received, which are those that are no code words then
+pub record InnerPassed (before after : List ℕ) (left : ℕ) : Type 0 where
   pub long : length after ≡ length before
   pub bits : (i : ℕ) → i < 130560 → bitAt after i ≡ innerPass (bitAt before) i
+  pub lost : left ≡ lostWords (bitAt before)
+  pub wrong : left ≡ wrongWords (bitAt after)
 
 -- the counts, with one place of every inner word counted: bit k of x, the highest of 64 first, is that of inner word k
 unfoldable pub placeCounted : List ℕ → ℕ → List ℕ

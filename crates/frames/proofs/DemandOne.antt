@@ -2,7 +2,7 @@
 use mathlib.Core.Path.{_≡_, refl, sym, _∙_}
 use mathlib.Core.Bool.{Bool, true, false, cond, and-eq-true-iff}
 use mathlib.Core.List.{List, [], _∷_}
-use mathlib.Core.Option.{Option, none, some, Option·map}
+use mathlib.Core.Option.{Option, none, some}
 use Prim.Native.Nat.{ℕ, zero, suc}
 use native.Mathlib.Omega.{arith}
 use borrow.Author.Tests.{eqb-true, leb-true}
@@ -10,19 +10,19 @@ use lib.Dec.{eqb, leb, eqb·suc-zero}
 use lib.ListN.{length}
 use Rattle.fields.specs.Places.{at, allBelow}
 use Rattle.words.specs.declared.Correction.the-variants.{Corrected, Refused}
-use Rattle.words.specs.Bits.{bitAt, bitsOf, bytesOf}
+use Rattle.words.specs.Bits.{bitsOf, bytesOf}
 use Rattle.words.specs.OuterCode.{isOuter, outerParity}
 use Rattle.words.specs.InnerCode.{isInner}
-use Rattle.words.specs.Nearest.{nearest}
-use Rattle.words.specs.InnerWords.{innerPass}
+use Rattle.words.specs.Nearest.{isSome, nearest}
 use Rattle.words.specs.Answers.{unless, refusal, within, answered, firstOf, refusalOf, changedOf, found, corrected, outerChecked, outerEncoded, outerCorrected, innerChecked, innerEncoded, innerCorrected}
 use Rattle.words.proofs.Bits.Bytes.{bytes-length}
 use Rattle.words.proofs.Codes.Proved.{codes}
-use Rattle.frames.specs.Frames.{outerWords, frameOfWords, frameOf, payloadOf}
-use Rattle.frames.specs.Correction.{outerPass, restoredFrame}
-use Rattle.frames.specs.Answers.{isFrame, frameEncoded, frameChecked, payloadExtracted, refused, reported, frameCorrected, withoutReport}
-use Rattle.frames.specs.Demands.{firstBroken, Refuses, isSome, withoutCount, Demand1}
-use Rattle.frames.proofs.Frames.FrameBits.{payloadOf-length, frame-length}
+use Rattle.frames.specs.Frames.{outerWords, frameOf, payloadOf}
+use Rattle.frames.specs.Correction.{restoredFrame}
+use Rattle.frames.specs.Answers.{isFrame, frameEncoded, frameChecked, payloadExtracted, refused, reported, concluded, frameCorrected, withoutReport}
+use Rattle.frames.specs.Demands.{firstBroken, Refuses, withoutCount, Demand1}
+use Rattle.frames.proofs.Frames.FrameBits.{block-is, payloadOf-length, frame-length}
+use Rattle.frames.proofs.Correction.RestoredWords.{is-frame}
 
 -- where no rule is broken the first holds, and those after it
 pub none-broken : (test : Bool) (n next : ℕ) → unless test (suc n) next ≡ 0 → (test ≡ true) × (next ≡ 0)
@@ -55,23 +55,22 @@ module _ (buffer answer : List ℕ) (size n : ℕ) (test : Bool) (rest : List (�
 
 -- the corrector
 module _ (block buffer : List ℕ) where
-  corrected-block : (long room : Bool) (words : Option (List (List ℕ))) → (room ≡ true → length buffer ≡ 16320) →
-      (let frame = Option·map frameOfWords words in
-      Refuses (withoutReport (cond long (cond room (reported block buffer frame) (refused 3 buffer)) (refused 2 buffer))) buffer
-      ((2, long) ∷ (3, room) ∷ (5, isSome frame) ∷ []))
-  unfolding reported refused withoutReport firstBroken
-  corrected-block false room words fits = refuses buffer _ 2 refl
-  corrected-block true false words fits = refuses buffer _ 3 refl
-  corrected-block true true none fits = refuses buffer _ 5 refl
-  corrected-block true true (some words) fits = writes buffer _ (frameOfWords words) refl (frame-length words ∙ sym (fits refl))
+  block-concluded : (long room : Bool) (restored : Option (List ℕ)) → (room ≡ true → length buffer ≡ 16320) →
+      ((frame : List ℕ) → restored ≡ some frame → length frame ≡ 16320) →
+      Refuses (withoutReport (concluded (unless long 2 (unless room 3 0)) block buffer restored)) buffer ((2, long) ∷ (3, room) ∷ (5, isSome restored) ∷ [])
+  unfolding concluded reported refused withoutReport firstBroken
+  block-concluded false room restored fits size = refuses buffer _ 2 refl
+  block-concluded true false restored fits size = refuses buffer _ 3 refl
+  block-concluded true true none fits size = refuses buffer _ 5 refl
+  block-concluded true true (some frame) fits size = writes buffer _ frame refl (size frame refl ∙ sym (fits refl))
 
-  block-alone : (long room : Bool) (frame : Option (List ℕ)) →
-      (let a = cond long (cond room (reported block buffer frame) (refused 3 buffer)) (refused 2 buffer) in (a .0 ≡ 0 → ⊥) → a ≡ refused (a .0) buffer)
-  unfolding reported refused
-  block-alone false room frame f = refl
-  block-alone true false frame f = refl
-  block-alone true true none f = refl
-  block-alone true true (some frame) f = absurd (f refl)
+  -- whatever is refused, before the passes or after them, is answered by its number alone
+  concluded-alone : (n : ℕ) (restored : Option (List ℕ)) →
+      (let a = concluded n block buffer restored in (a .0 ≡ 0 → ⊥) → a ≡ refused (a .0) buffer)
+  unfolding concluded reported refused
+  concluded-alone zero none f = refl
+  concluded-alone zero (some frame) f = absurd (f refl)
+  concluded-alone (suc n) restored f = rw (eqb·suc-zero n)
 
 -- ---- single words
 
@@ -124,7 +123,7 @@ inner-corrected word buffer =
     record { number = r .number; kept = r .kept; fits = r .fits }
 
 pub demand-1 : Demand1
-unfolding frameEncoded frameChecked payloadExtracted frameCorrected restoredFrame withoutReport frameOf
+unfolding frameEncoded frameChecked payloadExtracted frameCorrected withoutReport frameOf
     outerChecked outerEncoded outerCorrected innerChecked innerEncoded innerCorrected refusal firstBroken
 demand-1 =
     record {
@@ -132,9 +131,9 @@ demand-1 =
       check = λ block. refl;
       extract = λ block buffer. answers buffer (payloadOf block) 15296 1 (eqb (length block) 16320) ((4, isFrame block) ∷ []) (payloadOf-length block);
       correct = λ block buffer.
-          corrected-block block buffer (eqb (length block) 16320) (eqb (length buffer) 16320) (outerPass (innerPass (bitAt block)))
-          (eqb-true (length buffer) 16320);
-      correct-alone = λ block buffer. block-alone block buffer (eqb (length block) 16320) (eqb (length buffer) 16320) (restoredFrame block);
+          block-concluded block buffer (eqb (length block) 16320) (eqb (length buffer) 16320) (restoredFrame block) (eqb-true (length buffer) 16320)
+          (λ frame e. block-is frame (is-frame block frame e .0) .0);
+      correct-alone = λ block buffer. concluded-alone block buffer _ (restoredFrame block);
       correct-c = λ block buffer. refl;
       check-outer = λ word. word-checked (within 17 1023 (length word)) (allBelow 1024 word) (isOuter word);
       encode-outer = λ d buffer. answers buffer (outerParity d) 16 5 (within 1 1007 (length d)) ((7, allBelow 1024 d) ∷ []) (codes .outer-length d);

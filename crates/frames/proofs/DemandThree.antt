@@ -3,6 +3,7 @@
 use mathlib.Core.Path.{_≡_, refl, sym, _∙_}
 use mathlib.Core.Bool.{Bool, true, false, cond}
 use mathlib.Core.List.{List, []}
+use mathlib.Core.Option.{some}
 use Prim.Native.Nat.{ℕ, _+_, _-_, _*_, _%_, _≤_, _<_, min}
 use native.Mathlib.Omega.{arith}
 use lib.Dec.{ltb}
@@ -16,23 +17,24 @@ use Rattle.words.specs.InnerWords.{innerWord}
 use Rattle.words.proofs.Bits.Numbers.{number-differs}
 use Rattle.inner_words.proofs.Interleaving.InterleavedBits.{word-to-bit}
 use Rattle.frames.specs.Frames.{isPayload, dataIn, outerWord, outerWords, symbolAt, frameOf, wrongBits}
-use Rattle.frames.specs.Correction.{receivedBit, receivedSymbol, receivedWord, reportOf, total}
-use Rattle.frames.specs.Answers.{frameCorrected}
+use Rattle.frames.specs.Correction.{receivedBit, receivedSymbol, receivedWord, restoredFrame, reportOf, total}
+use Rattle.frames.specs.Answers.{reported, frameCorrected}
 use Rattle.frames.specs.Demands.{Restored, wrongAt, wrongCounts, lostSymbols, Premise}
 use Rattle.frames.proofs.Frames.FrameBits.{payload-is, frame-inner, dataIn-le, outer-word-length}
 use Rattle.frames.proofs.OuterSymbols.Received.{received-own}
 use Rattle.frames.proofs.OuterSymbols.Permitted.{payload-permitted}
 use Rattle.frames.proofs.Frames.FarApart.{wrong-parts}
 use Rattle.frames.proofs.Correction.ReportCounts.{wrong-in, report-counts}
-use Rattle.frames.proofs.Correction.RestoredWords.{inner-near, inner-lost, passed, corrected}
+use Rattle.frames.proofs.Correction.RestoredWords.{inner-near, inner-lost, passed, restored, answer-is}
 
 -- ---- the report
 
 module _ (block frame : List ℕ) where
   -- the sum of the report is the number of wrong bits in the block
   report-total : total (reportOf block frame) ≡ wrongBits block frame
-  unfolding reportOf total
-  report-total = rw tabulate-length (sum-same 64 _ _ (λ k l. tabulate-at 64 _ k 0 l) ∙ sym (wrong-parts block frame))
+  unfolding wrongCounts total
+  report-total =
+      rw (report-counts block frame, tabulate-length) (sum-same 64 _ _ (λ k l. tabulate-at 64 _ k 0 l ∙ sym (wrong-in block frame k)) ∙ sym (wrong-parts block frame))
 
 -- ---- outer words
 
@@ -79,9 +81,9 @@ module _ (lost : ℕ → Bool) (payload block : List ℕ) (valid : isPayload pay
           rw (word-to-bit (passed block) sent i l same) (omega (arith, differs-self (sent i)))
 
   -- so each outer word lies within eight symbols of the sent one
-  restored : Restored (passed block) (outerWords payload)
+  words-restored : Restored (passed block) (outerWords payload)
   unfolding outerWords lostSymbols
-  restored =
+  words-restored =
       record {
         sixteen = tabulate-length 16 (outerWord payload);
         long = λ w k. rw (tabulate-at 16 (outerWord payload) w [] k) (outer-word-length payload w);
@@ -90,8 +92,12 @@ module _ (lost : ℕ → Bool) (payload block : List ℕ) (valid : isPayload pay
             (omega (arith, premise .few w k, symbols-differ (passed block) sent _ passed-differs w k));
       }
 
+  pub sent-restored : restoredFrame block ≡ some (frameOf payload)
+  unfolding frameOf
+  sent-restored = restored block (outerWords payload) words-restored
+
   pub first-half : (buffer : List ℕ) → length block ≡ 16320 → length buffer ≡ 16320 →
       frameCorrected block buffer ≡ (0, wrongCounts block (frameOf payload), wrongBits block (frameOf payload), frameOf payload)
-  unfolding frameOf
+  unfolding reported
   first-half buffer fits room =
-      corrected block buffer fits room (outerWords payload) restored ∙ rw (report-total block (frameOf payload), report-counts block (frameOf payload))
+      answer-is block buffer fits room (some (frameOf payload)) sent-restored ∙ rw (report-total block (frameOf payload), report-counts block (frameOf payload))

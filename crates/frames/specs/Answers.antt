@@ -38,15 +38,18 @@ noCounts = tabulate 64 (λ k. 0)
 unfoldable pub refused : ℕ → List ℕ → CorrectorAnswer
 refused n buffer = (n, noCounts, 0, buffer)
 
--- the restored frame with its report; or 5, uncorrectable ("beyond reach")
+-- what is answered where a frame was restored, or none: the frame with its report; or 5, uncorrectable ("beyond reach")
 unfoldable pub reported : List ℕ → List ℕ → Option (List ℕ) → CorrectorAnswer
 reported block buffer none = refused 5 buffer
 reported block buffer (some frame) = (0, reportOf block frame, total (reportOf block frame), frame)
 
+-- the corrector's answer: the refusal n that is met before the passes, if it is not 0; else what is answered to what they restored
+unfoldable pub concluded : ℕ → List ℕ → List ℕ → Option (List ℕ) → CorrectorAnswer
+concluded n block buffer restored = cond (eqb n 0) (reported block buffer restored) (refused n buffer)
+
 -- corrector ("mender"): 2, 3, 5
 unfoldable pub frameCorrected : List ℕ → List ℕ → CorrectorAnswer
-frameCorrected block buffer =
-    cond (eqb (length block) 16320) (cond (eqb (length buffer) 16320) (reported block buffer (restoredFrame block)) (refused 3 buffer)) (refused 2 buffer)
+frameCorrected block buffer = concluded (unless (eqb (length block) 16320) 2 (unless (eqb (length buffer) 16320) 3 0)) block buffer (restoredFrame block)
 
 -- for the C host, to which no report is handed out: number and buffer
 unfoldable pub withoutReport : CorrectorAnswer → ℕ × List ℕ

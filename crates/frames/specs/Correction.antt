@@ -7,7 +7,7 @@ use Prim.Native.Nat.{ℕ, _+_, _-_, _*_, _%_}
 use lib.Dec.{eqb, ltb}
 use lib.ListN.{length}
 use Rattle.fields.specs.Lists.{tabulate}
-use Rattle.fields.specs.Places.{at, sumTo, apart}
+use Rattle.fields.specs.Places.{at, sumTo, apartBetween}
 use Rattle.words.specs.Bits.{bitAt}
 use Rattle.words.specs.OuterCode.{isOuter}
 use Rattle.words.specs.Nearest.{nearest}
@@ -32,6 +32,13 @@ isPadded w c = ltb w 15 || eqb (at c 761 % 4) 0
 unfoldable pub isPermitted : ℕ → List ℕ → Bool
 isPermitted w c = isOuter c && isPadded w c
 
+-- outer pass: each of the sixteen words becomes the permitted code word within eight symbols, if there is one
+unfoldable pub outerRestored : (ℕ → ℕ) → ℕ → Option (List ℕ)
+outerRestored b w = nearest (isPermitted w) 1024 8 (receivedWord b w)
+
+unfoldable pub outerPass : (ℕ → ℕ) → List (Option (List ℕ))
+outerPass b = tabulate 16 (outerRestored b)
+
 -- all answers of a list; none, if one is missing
 unfoldable pub consTo : {A : Type 0} → Option A → Option (List A) → Option (List A)
 consTo none rest = none
@@ -42,20 +49,21 @@ unfoldable pub everyOf : {A : Type 0} → List (Option A) → Option (List A)
 everyOf [] = some []
 everyOf (o ∷ os) = consTo o (everyOf os)
 
--- outer pass: each word becomes the permitted code word within eight symbols; none, if some word has none
-unfoldable pub outerRestored : (ℕ → ℕ) → ℕ → Option (List ℕ)
-outerRestored b w = nearest (isPermitted w) 1024 8 (receivedWord b w)
+-- the frame of the sixteen words that an outer pass over the bits b restores, with parity bits made afresh; none, if some word has none
+unfoldable pub outerFrame : (ℕ → ℕ) → Option (List ℕ)
+outerFrame b = Option·map frameOfWords (everyOf (outerPass b))
 
-unfoldable pub outerPass : (ℕ → ℕ) → Option (List (List ℕ))
-outerPass b = everyOf (tabulate 16 (outerRestored b))
-
--- the frame of the restored words, with parity bits made afresh; none, if the block is uncorrectable ("beyond reach")
+-- the frame that the two passes restore; none, if the block is uncorrectable ("beyond reach")
 unfoldable pub restoredFrame : List ℕ → Option (List ℕ)
-restoredFrame block = Option·map frameOfWords (outerPass (innerPass (bitAt block)))
+restoredFrame block = outerFrame (innerPass (bitAt block))
 
--- the report: for each inner word the number of places where received block and restored frame differ, and their sum
+-- for each inner word the number of places where two blocks differ, from one place on and before another
+unfoldable pub countsBetween : ℕ → ℕ → List ℕ → List ℕ → List ℕ
+countsBetween from to block frame = tabulate 64 (λ k. apartBetween from to (innerWord (bitAt block) k) (innerWord (bitAt frame) k))
+
+-- the report: the counts over all 2,040 places of received block and restored frame, and their sum
 unfoldable pub reportOf : List ℕ → List ℕ → List ℕ
-reportOf block frame = tabulate 64 (λ k. apart (innerWord (bitAt block) k) (innerWord (bitAt frame) k))
+reportOf block frame = countsBetween 0 2040 block frame
 
 unfoldable pub total : List ℕ → ℕ
 total counts = sumTo (length counts) (at counts)

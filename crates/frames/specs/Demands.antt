@@ -1,7 +1,7 @@
 -- What the buyer asked for, and what is proved: the record to open first. `demands` of proofs/Demands.antt is the proof.
 use mathlib.Core.Path.{_≡_}
 use mathlib.Core.Logic.{_⊎_}
-use mathlib.Core.Bool.{Bool, true, false, cond}
+use mathlib.Core.Bool.{Bool, true, false, not, cond}
 use mathlib.Core.List.{List, [], _∷_}
 use mathlib.Core.Option.{Option, none, some}
 use Prim.Native.Nat.{ℕ, _+_, _*_, _%_, _≤_, _<_, min}
@@ -15,12 +15,12 @@ use Rattle.words.specs.declared.Correction.the-variants.{Corrected, Refused}
 use Rattle.words.specs.Bits.{bitAt, bitsOf}
 use Rattle.words.specs.OuterCode.{isOuter}
 use Rattle.words.specs.InnerCode.{isInner}
-use Rattle.words.specs.Nearest.{nearest}
-use Rattle.words.specs.InnerWords.{innerWord, innerPass}
+use Rattle.words.specs.Nearest.{isSome, nearest}
+use Rattle.words.specs.InnerWords.{innerWord, innerPass, isLost}
 use Rattle.words.specs.Answers.{unless, within, refusalOf, changedOf, outerChecked, outerEncoded, outerCorrected, innerChecked, innerEncoded, innerCorrected}
 use Rattle.words.specs.Codes.{Codes}
 use Rattle.frames.specs.Frames.{isPayload, isBlock, dataIn, frameOfWords, frameOf, wrongBits}
-use Rattle.frames.specs.Correction.{receivedBit, receivedWord, isPermitted, restoredFrame, reportOf, total}
+use Rattle.frames.specs.Correction.{receivedBit, receivedWord, isPermitted, outerRestored, restoredFrame, reportOf, total}
 use Rattle.frames.specs.Answers.{isFrame, frameEncoded, frameChecked, payloadExtracted, refused, frameCorrected, withoutReport}
 use Rattle.frames.specs.FrameLaws.{FrameLaws}
 
@@ -39,11 +39,6 @@ pub record Refuses (answer : ℕ × List ℕ) (buffer : List ℕ) (rules : List 
   pub kept : (answer .0 ≡ 0 → ⊥) → answer .1 ≡ buffer
   -- what is written has the size of the buffer
   pub fits : length (answer .1) ≡ length buffer
-
--- rule 5: there is a restored frame, or a code word within eight
-abbrev pub isSome : {A : Type 0} → Option A → Bool
-isSome none = false
-isSome (some a) = true
 
 -- number and buffer of the answer to a single word's correction
 abbrev pub withoutCount : Correction × List ℕ → ℕ × List ℕ
@@ -110,10 +105,23 @@ pub record TwoPasses : Type 0 where
   -- inner pass: an inner word becomes the code word within eight places; where there is none it is left as received
   pub inner-near : (b : ℕ → ℕ) (k : ℕ) (c : List ℕ) → k < 64 → isInner c ≡ true → apart (innerWord b k) c ≤ 8 → innerWord (innerPass b) k ≡ c
   pub inner-lost : (b : ℕ → ℕ) (k : ℕ) → k < 64 → ((c : List ℕ) → isInner c ≡ true → 8 < apart (innerWord b k) c) → innerWord (innerPass b) k ≡ innerWord b k
-  -- outer pass on its result: if sixteen words can be restored, the answer is their frame with its report; there is one way
+  -- it tells which inner words it leaves as received: those without such a code word; and these are no code words after it, while the others are
+  pub lost-far : (b : ℕ → ℕ) (k : ℕ) → isLost b k ≡ true → (c : List ℕ) → isInner c ≡ true → 8 < apart (innerWord b k) c
+  pub lost-only : (b : ℕ → ℕ) (k : ℕ) → ((c : List ℕ) → isInner c ≡ true → 8 < apart (innerWord b k) c) → isLost b k ≡ true
+  pub lost-wrong : (b : ℕ → ℕ) (k : ℕ) → k < 64 → isInner (innerWord (innerPass b) k) ≡ not (isLost b k)
+  -- outer pass: an outer word becomes the permitted code word within eight symbols; where there is none, nothing
+  pub outer-near : (b : ℕ → ℕ) (w : ℕ) (c : List ℕ) → isPermitted w c ≡ true → length c ≡ dataIn w + 16 → apart (receivedWord b w) c ≤ 8 →
+      outerRestored b w ≡ some c
+  pub outer-lost : (b : ℕ → ℕ) (w : ℕ) → Uncorrectable b w → outerRestored b w ≡ none
+  -- on the result of the inner pass: if sixteen words can be restored, their frame is; there is one way
+  pub restored : (block : List ℕ) (words : List (List ℕ)) → Restored (innerPass (bitAt block)) words → restoredFrame block ≡ some (frameOfWords words)
+  -- and none is exactly where some outer word has no permitted code word within eight symbols
+  pub none-restored : (block : List ℕ) (w : ℕ) → w < 16 → Uncorrectable (innerPass (bitAt block)) w → restoredFrame block ≡ none
+  pub none-only : (block : List ℕ) → restoredFrame block ≡ none → (w : ℕ) × (w < 16) × Uncorrectable (innerPass (bitAt block)) w
+  -- the answer is the restored frame with its report
   pub corrected : (block buffer : List ℕ) (words : List (List ℕ)) → length block ≡ 16320 → length buffer ≡ 16320 → Restored (innerPass (bitAt block)) words →
       frameCorrected block buffer ≡ (0, reportOf block (frameOfWords words), total (reportOf block (frameOfWords words)), frameOfWords words)
-  -- the answer is refusal 5 exactly where some outer word has no permitted code word within eight symbols
+  -- or refusal 5, exactly where there is none
   pub uncorrectable : (block buffer : List ℕ) (w : ℕ) → length block ≡ 16320 → length buffer ≡ 16320 → w < 16 → Uncorrectable (innerPass (bitAt block)) w →
       frameCorrected block buffer ≡ refused 5 buffer
   pub uncorrectable-only : (block buffer : List ℕ) → length block ≡ 16320 → length buffer ≡ 16320 → frameCorrected block buffer ≡ refused 5 buffer →
@@ -165,7 +173,10 @@ pub record Premise (lost : ℕ → Bool) (payload block : List ℕ) : Type 0 whe
   pub few : (w : ℕ) → w < 16 → lostSymbols lost block (frameOf payload) w ≤ 8
 
 pub record Demand3 : Type 0 where
-  -- the sent frame comes back, and each number of the report is the number of wrong bits among the places that it counts
+  -- the sent frame is restored
+  pub sent-restored : (lost : ℕ → Bool) (payload block : List ℕ) → isPayload payload ≡ true → Premise lost payload block →
+      restoredFrame block ≡ some (frameOf payload)
+  -- so it comes back, and each number of the report is the number of wrong bits among the places that it counts
   pub first-half : (lost : ℕ → Bool) (payload block buffer : List ℕ) → isPayload payload ≡ true → length block ≡ 16320 → length buffer ≡ 16320 →
       Premise lost payload block →
       frameCorrected block buffer ≡ (0, wrongCounts block (frameOf payload), wrongBits block (frameOf payload), frameOf payload)

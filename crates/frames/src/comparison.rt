@@ -4,16 +4,21 @@ use inner_words::places;
 ghost use mathlib.Core.Path.{_≡_};
 ghost use Prim.Native.Nat.{_≤_};
 ghost use lib.ListN.{length};
-ghost use Rattle.frames.specs.Correction.{reportOf, total};
+ghost use Rattle.frames.specs.Correction.{countsBetween, total};
 
-// The places of each inner word in which the two blocks differ.
-pub(crate) fn counts(block: &[u8], frame: &[u8]) -> [u16; Frame::INNER_WORDS]
-    requires { ⌜ (length (now block) ≡ 16320) × (length (now frame) ≡ 16320) ⌝ }
-    ensures { λ r. ⌜ r ≡ reportOf (now (block .entry)) (now (frame .entry)) ⌝ }
+// The places of each inner word in which the two blocks differ, from one place on and before another.
+pub(crate) fn counts(
+    block: &[u8],
+    frame: &[u8],
+    from: usize,
+    to: usize,
+) -> [u16; Frame::INNER_WORDS]
+    requires { ⌜ (length (now block) ≡ 16320) × (length (now frame) ≡ 16320) × (from ≤ to) × (to ≤ 2040) ⌝ }
+    ensures { λ r. ⌜ r ≡ countsBetween from to (now (block .entry)) (now (frame .entry)) ⌝ }
 {
     let mut counts = [0u16; Frame::INNER_WORDS];
-    let mut p: usize = 0;
-    while p < words::Inner::PLACES {
+    let mut p = from;
+    while p < to {
         places::count(
             &mut counts,
             places::place(block, p) ^ places::place(frame, p),

@@ -6,8 +6,8 @@
 //     extract  after the same test, the block's bytes make the outer symbols again, and the data symbols among them are the payload
 //     correct  inner pass: the inner words of a copy of the block that are no code words become the code words within eight places, those that have none
 //              stay; outer pass: the copy's bytes make one outer word after the other, which becomes the code word within eight symbols; if each has one,
-//              they are sent and parity bits are made as in encoding, and the report compares block and frame (module comparison); a copy that is
-//              a frame after the inner pass is the answer as it stands
+//              the copy becomes their frame, sent and with parity bits made as in encoding; a copy that is a frame after the inner pass stays as it is.
+//              Then the frame is written, and the report compares it with the block (module comparison)
 //
 // Every input is answered: an entry returns 0, or the number of the refusal; a refusal leaves the output buffer as it was. Where there is more than one
 // fault, the order is 1 (length of the payload) or 2 (length of the block), 3 (size of the output buffer), then 4 (no frame) or 5
@@ -16,15 +16,14 @@ use decoding::symbols;
 use inner_words::Interleaved;
 ghost use mathlib.Core.Path.{_≡_};
 ghost use mathlib.Core.Bool.{true, _&&_};
-ghost use mathlib.Core.Option.{Option·map};
+ghost use mathlib.Core.Option.{some};
 ghost use lib.ListN.{length};
 ghost use Rattle.words.specs.Bits.{bitAt};
 ghost use Rattle.inner_words.specs.Steps.Passes.{innerCodes};
-ghost use Rattle.frames.specs.Frames.{frameOfWords};
-ghost use Rattle.frames.specs.Correction.{outerPass};
+ghost use Rattle.frames.specs.Correction.{outerFrame, restoredFrame};
 ghost use Rattle.frames.specs.Steps.Received.{outerCodes};
-ghost use Rattle.frames.specs.Steps.Passes.{written};
-ghost use Rattle.frames.specs.Answers.{frameEncoded, frameChecked, payloadExtracted, noCounts, frameCorrected};
+ghost use Rattle.frames.specs.Steps.Passes.{provided};
+ghost use Rattle.frames.specs.Answers.{frameEncoded, frameChecked, payloadExtracted, noCounts, reported, frameCorrected};
 
 mod bits;
 pub mod c_entries;
@@ -140,26 +139,49 @@ fn refused(number: u8) -> Report
     }
 }
 
-// The outer pass over a block after the inner pass: writes the frame of the restored outer words, and the answer is true; false, if some outer word has none.
-// A block that is a frame already is that frame; `inner` is true only if its inner words are code words.
-fn outer_pass(passed: &[u8], inner: bool, out: &mut [u8]) -> bool
-    requires { ⌜ (length (now passed) ≡ 16320) × (length (now out) ≡ 16320) ⌝ }
-    requires { ⌜ (inner ≡ true → innerCodes (bitAt (now passed)) ≡ true) ⌝ }
-    ensures { λ r. ⌜ (r, now (out .exit)) ≡ written (now (out .entry)) (Option·map frameOfWords (outerPass (bitAt (now (passed .entry))))) ⌝ }
+// The outer pass over a block after the inner pass: the block becomes the frame of the restored outer words, and the answer is true; false, if some outer word
+// has none. A block that is a frame already is that frame; `inner` is true only if its inner words are code words.
+fn outer_pass(frame: &mut [u8], inner: bool) -> bool
+    requires { ⌜ length (now frame) ≡ 16320 ⌝ }
+    requires { ⌜ (inner ≡ true → innerCodes (bitAt (now frame)) ≡ true) ⌝ }
+    ensures { λ r. ⌜ (length (now (frame .exit)) ≡ 16320) × (provided r (now (frame .exit)) ≡ outerFrame (bitAt (now (frame .entry)))) ⌝ }
 {
     if inner {
-        if outer_test::are_code_words(passed) {
-            symbols::copy_bytes(passed, out);
+        if outer_test::are_code_words(frame) {
             return true;
         }
     }
     let mut outer = outer_words::blank();
-    if !outer_words::correct(passed, &mut outer) {
+    if !outer_words::correct(frame, &mut outer) {
         return false;
     }
-    outer_words::send(&outer, out);
-    inner_words::encode(out);
+    outer_words::send(&outer, frame);
+    inner_words::encode(frame);
     true
+}
+
+// The two passes over a copy of the received block, which becomes the restored frame; false, if there is none.
+fn restore(frame: &mut [u8]) -> bool
+    requires { ⌜ length (now frame) ≡ 16320 ⌝ }
+    ensures { λ r. ⌜ (length (now (frame .exit)) ≡ 16320) × (provided r (now (frame .exit)) ≡ restoredFrame (now (frame .entry))) ⌝ }
+{
+    let left = inner_words::correct(frame);
+    outer_pass(frame, left == 0)
+}
+
+// Writes the restored frame, and gives its report: the one place where a correction writes into the output buffer.
+fn conclude(block: &[u8], frame: &[u8], out: &mut [u8]) -> Report
+    requires { ⌜ (length (now block) ≡ 16320) × (length (now frame) ≡ 16320) × (length (now out) ≡ 16320) ⌝ }
+    ensures { λ r. ⌜ (r .refusal, r .counts, r .sum, now (out .exit)) ≡ reported (now (block .entry)) (now (out .entry)) (some (now (frame .entry))) ⌝ }
+{
+    symbols::copy_bytes(frame, out);
+    let counts = comparison::counts(block, frame, 0, words::Inner::PLACES);
+    let sum = comparison::sum(&counts);
+    Report {
+        refusal: 0,
+        counts,
+        sum,
+    }
 }
 
 // Writes the restored frame and gives the report; 2, 3 or 5.
@@ -172,17 +194,10 @@ pub fn correct_frame(block: &[u8], out: &mut [u8]) -> Report
     if out.len() != Frame::BYTES {
         return refused(3);
     }
-    let mut passed = inner_words::blank();
-    symbols::copy_bytes(block, &mut passed);
-    let inner = inner_words::correct(&mut passed) == 0;
-    if !outer_pass(&passed, inner, out) {
+    let mut frame = inner_words::blank();
+    symbols::copy_bytes(block, &mut frame);
+    if !restore(&mut frame) {
         return refused(5);
     }
-    let counts = comparison::counts(block, out);
-    let sum = comparison::sum(&counts);
-    Report {
-        refusal: 0,
-        counts,
-        sum,
-    }
+    conclude(block, &frame, out)
 }

@@ -3,8 +3,8 @@ use mathlib.Core.Path.{_≡_, sym, ap, _∙_, subst}
 use mathlib.Core.Bool.{true, false}
 use mathlib.Core.List.{List}
 use mathlib.Core.Logic.{_⊎_, inl, inr}
+use mathlib.Core.Option.{some}
 use Prim.Native.Nat.{ℕ, _≤_, _<_}
-use native.Mathlib.Omega.{arith}
 use lib.ListN.{length}
 use Rattle.fields.specs.Places.{at}
 use Rattle.fields.specs.Places as Places
@@ -12,12 +12,12 @@ use Rattle.words.specs.Bits.{bitAt, bitsOf, bytesOf}
 use Rattle.words.specs.InnerCode as Inner
 use Rattle.words.specs.InnerWords as InnerWords
 use Rattle.words.specs.InnerWords.{innerPass}
-use Rattle.words.proofs.Bits.Bytes.{bits-at, bytes-length}
+use Rattle.words.proofs.Bits.Bytes.{bits-at}
 use Rattle.inner_words.proofs.Interleaving.InterleavedBits.{inner-word-length}
-use Rattle.frames.specs.Frames.{wrongBits}
 use Rattle.frames.specs.Frames as Frames
-use Rattle.frames.specs.Answers.{CorrectorAnswer, refused, frameCorrected}
-use Rattle.frames.specs.Demands.{Restored, wrongCounts, Premise}
+use Rattle.frames.specs.Correction.{restoredFrame}
+use Rattle.frames.specs.Demands.{Restored, Premise}
+use Rattle.frames.proofs.Correction.Options.{some-same, some-not-none}
 use Rattle.frames.proofs.Correction.ReportCounts.{wrong-in}
 use Rattle.frames.proofs.Demands as Ours
 use Rattle.document03.proofs.Fields.{isIn, fields}
@@ -34,11 +34,6 @@ use Rattle.document03.proofs.Frames.PassesAgree.{Outcome, one-frame, no
 use Rattle.document03.proofs.Frames.ReportsAgree.{count-agrees}
 use Rattle.document03.proofs.Frames.LostSymbolsAgree.{lost-symbols-agree}
 use Rattle.document03.proofs.Frames.StatementsHold.{payload-is, words-frame-agrees, frame-agrees, second-half, reads-back}
-
--- the number of a refusal
-refused-number : (n : ℕ) (o : List ℕ) (a : CorrectorAnswer) → refused n o ≡ a → n ≡ a .0
-unfolding refused
-refused-number n o a e = ap (λ (a : CorrectorAnswer). a .0) e
 
 -- a block of bits, and its bytes
 module _ (block : List ℕ) (long : length block ≡ 130560) (bits : allBits block ≡ true) where
@@ -85,21 +80,18 @@ module _ (block : List ℕ) (long : length block ≡ 130560) (bits : allBits blo
           few = λ w l. subst (λ (n : ℕ). n ≤ 8) (lost-symbols-agree lost block (frameOf payload) bytes frame same same-sent w l) (few w l);
         }
 
-    size : length bytes ≡ 16320
-    size = bytes-length 16320 (at block)
-
-    answer : frameCorrected bytes bytes ≡ (0, wrongCounts bytes frame, wrongBits bytes frame, frame)
-    answer = Ours.demand-3 .first-half (λ k. isIn k lost) payload bytes bytes (payload-is payload payload-long payload-bytes) size size premise
+    sent : restoredFrame bytes ≡ some frame
+    sent = Ours.demand-3 .sent-restored (λ k. isIn k lost) payload bytes (payload-is payload payload-long payload-bytes) premise
 
     first-half : Mends block (frameOf payload)
     first-half = go (Ours.two-passes .one-or-other bytes)
       where
         go : Outcome (innerPass (bitAt bytes)) → Mends block (frameOf payload)
         go (inl (ws, r)) =
-            let e : Frames.frameOfWords ws ≡ frame = ap (λ (a : CorrectorAnswer). a .3) (sym (Ours.two-passes .corrected bytes bytes ws size size r) ∙ answer) in
+            let e : Frames.frameOfWords ws ≡ frame = some-same (Frames.frameOfWords ws) frame (sym (Ours.two-passes .restored bytes ws r) ∙ sent) in
             subst (λ (g : List ℕ). Mends block g)
             (words-frame-agrees ws (sixteen-words ws (r .sixteen) (r .long)) ∙ ap bitsOf e ∙ sym (frame-agrees payload payload-long)) (mends ws r)
-        go (inr (w, l, far)) = absurd (omega (arith, refused-number 5 bytes _ (sym (Ours.two-passes .uncorrectable bytes bytes w size size l far) ∙ answer)))
+        go (inr (w, l, far)) = absurd (some-not-none frame (sym sent ∙ Ours.two-passes .none-restored bytes w l far))
 
 pub two-passes : Two-passes
 two-passes =

@@ -9,6 +9,7 @@ use Rattle.words.specs.Bits.{bitAt}
 use Rattle.words.specs.InnerWords as InnerWords
 use Rattle.inner_words.proofs.Interleaving.InterleavedBits.{inner-word-length}
 use Rattle.frames.specs.Correction as Correction
+use Rattle.frames.proofs.Correction.ReportCounts.{report-distances}
 use Rattle.document03.proofs.Words.Statements.{apart}
 use Rattle.document03.proofs.Words.WordsAgree.{sum-first, apart-agrees}
 use Rattle.document03.proofs.Frames.Statements.{innerWord}
@@ -25,8 +26,9 @@ module _ (block frame b f : List ℕ) (same : (i : ℕ) → at block i ≡ bitAt
       ∙ apart-agrees (InnerWords.innerWord (bitAt b) k) (InnerWords.innerWord (bitAt f) k) (inner-word-length (bitAt b) k ∙ sym (inner-word-length (bitAt f) k))
 
   pub report-agrees : reportOf block frame ≡ Correction.reportOf b f
-  unfolding Correction.reportOf
-  report-agrees = all-agree (λ n k. reportFrom n k block frame) (λ k. apart (innerWord k block) (innerWord k frame)) _ 64 (λ k. refl) (λ n k. refl) count-agrees
+  report-agrees =
+      all-agree (λ n k. reportFrom n k block frame) (λ k. apart (innerWord k block) (innerWord k frame)) _ 64 (λ k. refl) (λ n k. refl) count-agrees
+      ∙ sym (report-distances b f)
 
 pub total-agrees : (xs : List ℕ) → total xs ≡ Correction.total xs
 unfolding Correction.total sumTo

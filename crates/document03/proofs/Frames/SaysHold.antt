@@ -16,7 +16,7 @@ use Rattle.words.specs.InnerWords.{innerPass}
 use Rattle.words.proofs.Bits.Bytes.{bits-at}
 use Rattle.frames.specs.Frames as Frames
 use Rattle.frames.specs.Correction as Correction
-use Rattle.frames.specs.Answers.{frameEncoded, frameChecked, payloadExtracted, CorrectorAnswer, refused, frameCorrected}
+use Rattle.frames.specs.Answers.{frameEncoded, frameChecked, payloadExtracted, CorrectorAnswer, refused, concluded, frameCorrected}
 use Rattle.frames.specs.Answers as Answers
 use Rattle.frames.proofs.Demands.{two-passes}
 use Rattle.document03.proofs.Words.Statements.{when}
@@ -75,11 +75,11 @@ refused-says n o = (refl, refl, refl, refl)
 
 module _ (b o : List ℕ) where
   length-refused : eqb (length b) 16320 ≡ false → frameCorrected b o ≡ refused 2 o
-  unfolding frameCorrected
+  unfolding frameCorrected concluded
   length-refused e = rw e
 
   space-refused : eqb (length b) 16320 ≡ true → eqb (length o) 16320 ≡ false → frameCorrected b o ≡ refused 3 o
-  unfolding frameCorrected
+  unfolding frameCorrected concluded
   space-refused e f = rw (e, f)
 
 module _ (b o : List ℕ) where

@@ -10,6 +10,13 @@ use Rattle.fields.specs.Lists.{tabulate}
 use Rattle.frames.specs.Correction.{consTo, everyOf}
 
 module _ {A : Type 0} where
+  -- an answer is not none, and two that are the same have the same value
+  pub some-not-none : (a : A) → some a ≡ none → ⊥
+  some-not-none a e = let z : _≡_ {A = ℕ} 0 1 = cc in omega arith
+
+  pub some-same : (a b : A) → some a ≡ some b → a ≡ b
+  some-same a b e = cc
+
   -- all are there
   pub every-some : (n : ℕ) (f : ℕ → Option A) (g : ℕ → A) → ((i : ℕ) → i < n → f i ≡ some (g i)) → everyOf (tabulate n f) ≡ some (tabulate n g)
   unfolding tabulate everyOf consTo

@@ -26,7 +26,7 @@ use Rattle.words.specs.declared.Correction.{Correction}
 use Rattle.words.specs.declared.Correction.the-variants.{Corrected, Refused}
 use Rattle.words.proofs.Codes.Proved.{codes}
 use Rattle.frames.specs.Frames.{dataIn}
-use Rattle.frames.specs.Correction.{receivedSymbol, isPadded, isPermitted, outerRestored, outerPass}
+use Rattle.frames.specs.Correction.{receivedSymbol, isPadded, isPermitted, outerRestored, outerPass, everyOf}
 use Rattle.frames.specs.Steps.Symbols.{partFrom, wordIn}
 use Rattle.frames.specs.Steps.Passes.{provided, OuterWordRestored, wordsIn}
 use Rattle.frames.proofs.Frames.FrameBits.{dataIn-le, dataIn-is}
@@ -206,10 +206,10 @@ module _ (bytes : List ℕ) {w : ℕ} {outer mid : List ℕ} (so-far : Restoring
         go v l (yes q) = rw (q, near, not-false t f)
         go v l (no q) = so-far .done v (omega arith) ∙ ap some (sym (r .others v (omega arith) q ∙ word-before (bitAt bytes) w p v (omega arith)))
 
-    pub restoring-not : not t ≡ true → provided false (wordsIn after) ≡ outerPass (bitAt bytes)
+    pub restoring-not : not t ≡ true → provided false (wordsIn after) ≡ everyOf (outerPass (bitAt bytes))
     unfolding provided outerPass
     restoring-not f = sym (every-missing 16 _ w h (near ∙ ap (λ (b : Bool). provided b (wordIn after w)) (not-true t f)))
 
-pub restoring-end : {b : ℕ → ℕ} {w : ℕ} {outer : List ℕ} → Restoring b w outer → 16 ≤ w → provided true (wordsIn outer) ≡ outerPass b
+pub restoring-end : {b : ℕ → ℕ} {w : ℕ} {outer : List ℕ} → Restoring b w outer → 16 ≤ w → provided true (wordsIn outer) ≡ everyOf (outerPass b)
 unfolding provided outerPass wordsIn
 restoring-end {b} {w} {outer} r g = sym (every-some 16 _ (wordIn outer) (λ v l. r .done v (omega arith)))

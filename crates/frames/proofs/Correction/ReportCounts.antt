@@ -2,17 +2,19 @@
 use mathlib.Core.Path.{_≡_, refl, sym, ap, ap₂, _∙_}
 use mathlib.Core.List.{List}
 use Prim.Native.Nat.{ℕ, _+_, _-_, _*_, _≤_, _<_, zero-le}
+use native.Mathlib.Nat.{le-refl, zero-add}
 use native.Mathlib.Numerals.{add-one}
 use native.Mathlib.Omega.{arith}
 use lib.Bits.{bitXor}
-use lib.ListN.{length, getD}
+use lib.ListN.{length, getD, replicate}
 use mir.Syntax.{w16, w32}
 use mir.Val.{Fits}
 use Rattle.fields.specs.Elements.{xor}
 use Rattle.fields.specs.Places.{at, sumTo, differs, apart}
+use Rattle.fields.specs.Lists.{tabulate}
 use Rattle.fields.proofs.Lists.{tabulate-same}
 use Rattle.fields.proofs.Places.Counting.{sum-same}
-use Rattle.fields.proofs.Places.Differences.{apart-tables}
+use Rattle.fields.proofs.Places.Differences.{apart-tables, between-tables}
 use Rattle.decoding.proofs.Decoding.Changes.{differs-sum}
 use Rattle.words.specs.Bits.{bitOf, bitAt}
 use Rattle.words.specs.InnerWords.{innerWord}
@@ -21,8 +23,8 @@ use Rattle.words.proofs.Codes.ShiftedBits.{bitOf-sum}
 use Rattle.inner_words.specs.Steps.BitSliced.{placeAt}
 use Rattle.inner_words.specs.Steps.Passes.{placeCounted}
 use Rattle.inner_words.proofs.Interleaving.BitSliced.{place-bit}
-use Rattle.inner_words.proofs.Passes.Counts.{onesUpTo, Counting, counting-next, bit-is}
-use Rattle.frames.specs.Correction.{reportOf, total}
+use Rattle.inner_words.proofs.Passes.Counts.{onesUpTo, Counting, counting-start, counting-few, counting-next, bit-is}
+use Rattle.frames.specs.Correction.{countsBetween, reportOf, total}
 use Rattle.frames.specs.Demands.{wrongAt, wrongIn, wrongCounts}
 
 -- ---- all places of every inner word
@@ -34,31 +36,64 @@ module _ (block frame : List ℕ) where
 
   -- the report counts the wrong bits of each inner word
   pub report-counts : reportOf block frame ≡ wrongCounts block frame
-  unfolding reportOf wrongCounts
-  report-counts = tabulate-same 64 _ _ (λ k l. wrong-in k)
+  unfolding reportOf countsBetween innerWord wrongCounts wrongIn wrongAt
+  report-counts = tabulate-same 64 _ _ (λ k l.
+      between-tables 0 2040 2040 (λ p. bitAt block (64 * p + k)) (λ p. bitAt frame (64 * p + k)) (le-refl 2040)
+      ∙ sum-same 2040 _ _ (λ p m. ap (λ (q : ℕ). differs (bitAt block (64 * q + k)) (bitAt frame (64 * q + k))) (zero-add p)))
 
--- the places of every inner word in which two blocks differ
-unfoldable pub differences : List ℕ → List ℕ → ℕ → ℕ
-differences block frame p = xor (placeAt block p) (placeAt frame p)
+  -- which are the distances of the inner words
+  pub report-distances : reportOf block frame ≡ tabulate 64 (λ k. apart (innerWord (bitAt block) k) (innerWord (bitAt frame) k))
+  unfolding wrongCounts
+  report-distances = report-counts ∙ tabulate-same 64 _ _ (λ k l. sym (wrong-in k))
 
-module _ (block frame counts : List ℕ) (p : ℕ) (so-far : Counting (differences block frame) p counts) where
-  place-wrong : (q k : ℕ) → k < 64 → bitOf 64 (differences block frame q) k ≡ wrongAt block frame (64 * q + k)
-  unfolding wrongAt differences
-  place-wrong q k l =
+-- ---- places from one on and before another
+
+-- the places of every inner word in which two blocks differ, from place `from` on
+unfoldable pub differences : List ℕ → List ℕ → ℕ → ℕ → ℕ
+differences block frame from i = xor (placeAt block (from + i)) (placeAt frame (from + i))
+
+-- the invariant: the places before p are counted
+pub record CountedTo (block frame : List ℕ) (from p : ℕ) (counts : List ℕ) : Type 0 where
+  pub begun : from ≤ p
+  pub counting : Counting (differences block frame from) (p - from) counts
+
+pub counted-start : {block frame : List ℕ} {from : ℕ} → CountedTo block frame from from (replicate 64 0)
+counted-start {block} {frame} {from} =
+    let none : from - from ≡ 0 = omega arith in
+    record { begun = le-refl from; counting = rw none (counting-start {xs = differences block frame from}) }
+
+module _ (block frame counts : List ℕ) (from p : ℕ) (so-far : CountedTo block frame from p counts) where
+  abbrev xs : ℕ → ℕ
+  xs = differences block frame from
+
+  pub counted-few : (to : ℕ) → to ≤ 2040 → p ≤ to → (k : ℕ) → at counts k ≤ 2040
+  counted-few to short within = counting-few xs counts (p - from) (so-far .counting) (omega arith)
+
+  place-differs : (i k : ℕ) → k < 64 → bitOf 64 (xs i) k ≡ differs (bitAt block (64 * (from + i) + k)) (bitAt frame (64 * (from + i) + k))
+  unfolding differences
+  place-differs i k l =
+      let q = from + i in
       bit-is _ (bitOf-lt 64 (xor (placeAt block q) (placeAt frame q)) k)
       ∙ ap (λ (x : ℕ). differs x 0) (bitOf-sum 64 k (placeAt block q) (placeAt frame q) ∙ ap₂ xor (place-bit block q k l) (place-bit frame q k l))
       ∙ differs-sum (bitAt block (64 * q + k)) (bitAt frame (64 * q + k))
 
-  pub report-next : (x y : ℕ) (next : List ℕ) → x ≡ placeAt block p → y ≡ placeAt frame p → next ≡ placeCounted counts (bitXor x y) →
-      Counting (differences block frame) (p + 1) next
+  pub counted-next : (x y : ℕ) (next : List ℕ) → x ≡ placeAt block p → y ≡ placeAt frame p → next ≡ placeCounted counts (bitXor x y) →
+      CountedTo block frame from (p + 1) next
   unfolding differences xor
-  report-next x y next ex ey e = counting-next (differences block frame) counts p so-far (bitXor x y) next (ap₂ bitXor ex ey) e
+  counted-next x y next ex ey e =
+      let here : from + (p - from) ≡ p = omega (arith, so-far .begun) in
+      let more : p + 1 - from ≡ p - from + 1 = omega (arith, so-far .begun) in
+      record {
+        begun = omega (arith, so-far .begun);
+        counting = rw more (counting-next xs counts (p - from) (so-far .counting) (bitXor x y) next (rw here (ap₂ bitXor ex ey)) e);
+      }
 
-  pub report-end : p ≤ 2040 → 2040 ≤ p → counts ≡ reportOf block frame
-  unfolding onesUpTo wrongIn wrongCounts
-  report-end within h =
-      let e : p ≡ 2040 = omega arith in
-      rw e at (so-far .value) ∙ tabulate-same 64 _ _ (λ k l. sum-same 2040 _ _ (λ q b. place-wrong q k l)) ∙ sym (report-counts block frame)
+  pub counted-end : (to : ℕ) → to ≤ 2040 → p ≤ to → to ≤ p → counts ≡ countsBetween from to block frame
+  unfolding onesUpTo countsBetween innerWord
+  counted-end to short within h =
+      let e : p ≡ to = omega arith in
+      rw e at (so-far .counting .value) ∙ tabulate-same 64 _ _ (λ k l. sum-same (to - from) _ _ (λ i b. place-differs i k l)
+      ∙ sym (between-tables from to 2040 (λ p. bitAt block (64 * p + k)) (λ p. bitAt frame (64 * p + k)) short))
 
 -- ---- the sum
 

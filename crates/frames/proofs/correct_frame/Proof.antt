@@ -1,6 +1,6 @@
 -- `frames::correct_frame` meets its contract. Assumes nothing.
 use borrow.Author.Needs.{needs}
-use Rattle.frames.proofs.Answers.CorrectionAnswers.{none-left, correct-length, correct-space, correct-none, correct-written}
+use Rattle.frames.proofs.Answers.CorrectionAnswers.{correct-length, correct-space, correct-none, correct-written}
 use Rattle.frames.proofs.correct_frame.Statement.{statement}
 use Rattle.frames.proofs.correct_frame.Tie as tie
 
@@ -25,38 +25,26 @@ slice-aggregate-copy-bytes c = search needs
 copy-bytes-requires : tie.Need-copy-bytes-requires
 copy-bytes-requires c κs = search needs
 
-slice-aggregate-correct : tie.Need-slice-aggregate-correct
-slice-aggregate-correct c = search needs
+slice-aggregate-restore : tie.Need-slice-aggregate-restore
+slice-aggregate-restore c = search needs
 
-correct-requires : tie.Need-correct-requires
-correct-requires c κs = search needs
-
-slice-aggregate-outer-pass : tie.Need-slice-aggregate-outer-pass
-slice-aggregate-outer-pass c = search needs
-
-outer-pass-requires : tie.Need-outer-pass-requires
-outer-pass-requires c κs = (search needs, λ t. search (needs, none-left))
+restore-requires : tie.Need-restore-requires
+restore-requires c κs = search needs
 
 refused-requires-3 : tie.Need-refused-requires-3
 refused-requires-3 c κs = search needs
 
-same-length : tie.Need-same-length
-same-length c = search needs
-
 returns-3 : tie.Need-returns-3
 returns-3 c = search (needs, correct-none)
 
-counts-requires : tie.Need-counts-requires
-counts-requires c κs = search needs
+slice-aggregate-conclude : tie.Need-slice-aggregate-conclude
+slice-aggregate-conclude c = search needs
 
-slice-aggregate-sum : tie.Need-slice-aggregate-sum
-slice-aggregate-sum c = search needs
+conclude-requires : tie.Need-conclude-requires
+conclude-requires c κs = search needs
 
-sum-requires : tie.Need-sum-requires
-sum-requires c κs = search needs
-
-same-length-2 : tie.Need-same-length-2
-same-length-2 c = search needs
+same-length : tie.Need-same-length
+same-length c = search needs
 
 returns-4 : tie.Need-returns-4
 returns-4 c = search (needs, correct-written)
@@ -72,15 +60,11 @@ correct-frame-spec =
     blank-requires
     slice-aggregate-copy-bytes
     copy-bytes-requires
-    slice-aggregate-correct
-    correct-requires
-    slice-aggregate-outer-pass
-    outer-pass-requires
+    slice-aggregate-restore
+    restore-requires
     refused-requires-3
-    same-length
     returns-3
-    counts-requires
-    slice-aggregate-sum
-    sum-requires
-    same-length-2
+    slice-aggregate-conclude
+    conclude-requires
+    same-length
     returns-4)

@@ -7,14 +7,11 @@ use Rattle.frames.proofs.outer_pass.Tie as tie
 are-code-words-requires : tie.Need-are-code-words-requires
 are-code-words-requires c κs = search needs
 
-copy-bytes-requires : tie.Need-copy-bytes-requires
-copy-bytes-requires c κs = search needs
-
 same-length : tie.Need-same-length
 same-length c = search needs
 
 returns : tie.Need-returns
-returns c = search (needs, pass-kept, c .before .before .before .before .before .before .before .before .shared-slice-known .given)
+returns c = search (needs, pass-kept)
 
 blank-requires : tie.Need-blank-requires
 blank-requires c κs = search needs
@@ -24,6 +21,9 @@ slice-aggregate-correct c = search needs
 
 correct-requires : tie.Need-correct-requires
 correct-requires c κs = search needs
+
+same-length-2 : tie.Need-same-length-2
+same-length-2 c = search needs
 
 returns-2 : tie.Need-returns-2
 returns-2 c = search (needs, pass-none)
@@ -37,8 +37,8 @@ send-requires c κs = search needs
 encode-requires : tie.Need-encode-requires
 encode-requires c κs = search needs
 
-same-length-2 : tie.Need-same-length-2
-same-length-2 c = search needs
+same-length-3 : tie.Need-same-length-3
+same-length-3 c = search needs
 
 returns-3 : tie.Need-returns-3
 returns-3 c = search (needs, pass-written)
@@ -48,15 +48,15 @@ outer-pass-spec =
     tie.close
     (tie.spec
     are-code-words-requires
-    copy-bytes-requires
     same-length
     returns
     blank-requires
     slice-aggregate-correct
     correct-requires
+    same-length-2
     returns-2
     slice-aggregate-send
     send-requires
     encode-requires
-    same-length-2
+    same-length-3
     returns-3)

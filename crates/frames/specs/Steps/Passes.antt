@@ -1,6 +1,6 @@
 -- What the functions give that correct a block: its inner words one by one, its outer words, and the report.
 use mathlib.Core.Path.{_≡_}
-use mathlib.Core.Bool.{Bool, true, false, cond}
+use mathlib.Core.Bool.{Bool, cond}
 use mathlib.Core.List.{List}
 use mathlib.Core.Option.{Option, none, some}
 use Prim.Native.Nat.{ℕ, _<_}
@@ -15,11 +15,6 @@ use Rattle.frames.specs.Steps.Symbols.{wordIn}
 -- the answer x, if the test holds
 unfoldable pub provided : {A : Type 0} → Bool → A → Option A
 provided test x = cond test (some x) none
-
--- whether there is an answer, and a buffer with it; the buffer stays as it was where there is none
-unfoldable pub written : List ℕ → Option (List ℕ) → Bool × List ℕ
-written buffer none = (false, buffer)
-written buffer (some answer) = (true, answer)
 
 -- outer word w of outer symbols becomes the permitted code word within eight symbols, if there is one, and the other words are as they were
 pub record OuterWordRestored (w : ℕ) (before after : List ℕ) (r : Bool) : Type 0 where

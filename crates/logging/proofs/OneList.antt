@@ -1,4 +1,4 @@
--- Two lists with the laws of the worst list agree, so that there is one. Assumes nothing.
+-- Two lists with the laws of the worst list agree, so that there is one. Of the order this uses only that it is a strict total order. Assumes nothing.
 use mathlib.Core.Path.{_≡_, sym, _∙_}
 use mathlib.Core.Logic.{_⊎_, inl, inr, ⊎-elim}
 use mathlib.Core.List.{List}
@@ -8,17 +8,11 @@ use native.Mathlib.Nat.{le-refl, not-suc-le-zero}
 use native.Mathlib.Omega.{arith}
 use borrow.Author.Count.{below-more}
 use lib.Seq.{ext-getD}
-use Rattle.logging.specs.WorstList.{worstWords}
+use Rattle.logging.specs.WorstList.{Counts, worstWords}
 use Rattle.logging.specs.Laws.{Before, placeOf, Worst}
+use Rattle.logging.proofs.Order.{irreflexive, transitive}
+use Rattle.logging.proofs.WorstOfAll.{same-or-not}
 use Rattle.logging.proofs.Ranking.{worst-list}
-
-same-or-not : (a b : ℕ) → (a ≡ b) ⊎ (a ≡ b → ⊥)
-same-or-not a b = go (decLt a b) (decLt b a)
-  where
-    go : Dec (a < b) → Dec (b < a) → (a ≡ b) ⊎ (a ≡ b → ⊥)
-    go (yes h) d = inr (λ e. omega arith)
-    go (no g) (yes h) = inr (λ e. omega arith)
-    go (no g) (no h) = inl (omega arith)
 
 -- whether k is among the first n places
 abbrev Among : List ℕ → ℕ → ℕ → Type 0
@@ -34,7 +28,7 @@ among-or-not list k (suc n) =
     (λ absent. ⊎-elim (λ e. inl (n, omega arith, e)) (λ differ. inr (λ j l. below-more _ n absent differ j (omega arith))) (same-or-not (placeOf list n) k)) (among-or-not list k n)
 
 -- two such lists that agree before place i: if the first names an inner word there, the other names that one or one that stands before it
-module _ (counts : List ℕ) where
+module _ (counts : Counts) where
   no-later : (l m : List ℕ) → Worst counts l → Worst counts m → (i : ℕ) → i < 8 → ((j : ℕ) → j < i → placeOf l j ≡ placeOf m j) → placeOf l i < 64 →
       (placeOf m i < 64) × ((placeOf l i ≡ placeOf m i → ⊥) → Before counts (placeOf m i) (placeOf l i))
   no-later l m wl wm i h agree small = ⊎-elim among absent (among-or-not m (placeOf l i) 8)
@@ -63,7 +57,7 @@ module _ (counts : List ℕ) where
 
   -- no two inner words stand before each other
   not-both : (j k : ℕ) → Before counts j k → Before counts k j → ⊥
-  not-both j k = ⊎-elim (λ h. ⊎-elim (λ g. omega arith) (λ q. omega (arith, q .0))) (λ p. ⊎-elim (λ g. omega (arith, p .0)) (λ q. omega (arith, p .1, q .1)))
+  not-both j k b c = irreflexive counts j (transitive counts j k j b c)
 
   -- so two such lists agree at place i, and at all places
   module _ (l m : List ℕ) (wl : Worst counts l) (wm : Worst counts m) where

@@ -1,78 +1,83 @@
--- The functions of the worst list, each way through them: a count, the worse of two inner words, the search for the worst of all, and leaving one out.
+-- The order of the worst list. This file alone looks into it: each way through its function, document 01's words for it, and that it is a strict total order.
 -- Assumes nothing.
-use mathlib.Core.Path.{_≡_, refl, _∙_}
+use mathlib.Core.Path.{_≡_, refl, sym, _∙_}
 use mathlib.Core.Logic.{_⊎_, inl, inr, ⊎-elim}
-use mathlib.Core.Bool.{Bool, true, false, cond}
+use mathlib.Core.Bool.{Bool, true, false, _&&_, _||_, false≢true}
 use mathlib.Core.List.{List}
-use Prim.Native.Nat.{ℕ, _+_, _≤_, _<_, zero-le}
-use native.Mathlib.Nat.{le-refl}
-use native.Mathlib.Numerals.{add-one}
+use Prim.Native.Nat.{ℕ, _≤_, _<_}
+use native.Mathlib.Decide.{decLt}
 use native.Mathlib.Omega.{arith}
-use borrow.Author.Tests.{lt-ltb, le-ltb}
-use lib.Dec.{ltb}
-use lib.ListN.{getD, set}
-use Rattle.logging.specs.WorstList.{countOf, worse, worst, without}
+use borrow.Author.Tests.{ltb-true, eqb-true, lt-ltb, le-ltb, eq-eqb, ne-eqb}
+use lib.Dec.{eqb, ltb}
+use lib.ListN.{getD}
+use Rattle.logging.specs.WorstList.{Counts, countOf, isBefore}
+use Rattle.logging.specs.Laws.{Before, PutFirst}
 
 -- ---- counts
 
-pub count-inside : (counts : List ℕ) (k : ℕ) → k < 64 → getD counts k 0 ≡ countOf counts k
+pub count-inside : (counts : Counts) (k : ℕ) → k < 64 → getD counts k 0 ≡ countOf counts k
 unfolding countOf
 count-inside counts k h = rw (lt-ltb k 64 h)
 
-pub count-outside : (counts : List ℕ) (k : ℕ) → 64 ≤ k → 0 ≡ countOf counts k
+pub count-outside : (counts : Counts) (k : ℕ) → 64 ≤ k → 0 ≡ countOf counts k
 unfolding countOf
 count-outside counts k h = rw (le-ltb k 64 h)
 
--- ---- the worse of two
+-- ---- each way through the function
 
-module _ (counts : List ℕ) (j k x y : ℕ) (ex : x ≡ countOf counts j) (ey : y ≡ countOf counts k) where
-  pub worse-second : x < y → k ≡ worse counts j k
-  unfolding worse
-  worse-second h = rw (← ex, ← ey, lt-ltb x y h)
+module _ (counts : Counts) (j k x y : ℕ) (ex : x ≡ countOf counts j) (ey : y ≡ countOf counts k) where
+  pub before-larger : y < x → true ≡ isBefore counts j k
+  unfolding isBefore
+  before-larger h = rw (← ex, ← ey, lt-ltb y x h)
 
-  pub worse-first : y ≤ x → j ≡ worse counts j k
-  unfolding worse
-  worse-first h = rw (← ex, ← ey, le-ltb x y h)
+  pub before-equal : x ≡ y → ltb j k ≡ isBefore counts j k
+  unfolding isBefore
+  before-equal e = rw (← ex, ← ey, le-ltb y x (omega arith), eq-eqb x y e)
 
--- ---- the worst of all
+  pub before-smaller : x ≤ y → (x ≡ y → ⊥) → false ≡ isBefore counts j k
+  unfolding isBefore
+  before-smaller h n = rw (← ex, ← ey, le-ltb y x h, ne-eqb x y n)
 
--- the invariant of the search: j is the worst of the first k
-pub record Searched (counts : List ℕ) (k j : ℕ) : Type 0 where
-  pub within : k ≤ 64
-  pub place : j ≤ 64
-  pub value : j ≡ worst counts k
+-- ---- document 01's words
 
-pub searched-start : {counts : List ℕ} → Searched counts 0 64
-unfolding worst
-searched-start = record { within = zero-le; place = le-refl 64; value = refl }
+module _ (counts : Counts) (j k : ℕ) where
+  before-says : Before counts j k → PutFirst counts j k
+  unfolding isBefore
+  before-says b = go (ltb (countOf counts k) (countOf counts j)) refl (eqb (countOf counts j) (countOf counts k)) refl b
+    where
+      go : (t : Bool) → ltb (countOf counts k) (countOf counts j) ≡ t → (u : Bool) → eqb (countOf counts j) (countOf counts k) ≡ u →
+          (t || (u && ltb j k)) ≡ true → PutFirst counts j k
+      go true larger u equal b = inl (ltb-true _ _ larger)
+      go false larger true equal b = inr (eqb-true _ _ equal, ltb-true j k b)
+      go false larger false equal b = absurd (false≢true b)
 
--- one of the two
-worse-one : (counts : List ℕ) (j k : ℕ) → (worse counts j k ≡ j) ⊎ (worse counts j k ≡ k)
-unfolding worse
-worse-one counts j k = go (ltb (countOf counts j) (countOf counts k))
-  where
-    go : (t : Bool) → (cond t k j ≡ j) ⊎ (cond t k j ≡ k)
-    go true = inr refl
-    go false = inl refl
+  says-before : PutFirst counts j k → Before counts j k
+  says-before (inl larger) = sym (before-larger counts j k _ _ refl refl larger)
+  says-before (inr (equal, lower)) = sym (before-equal counts j k _ _ refl refl equal) ∙ lt-ltb j k lower
 
-pub searched-next : (counts : List ℕ) (k j i : ℕ) → Searched counts k j → k < 64 → i ≡ worse counts j k → Searched counts (k + 1) i
-unfolding worst
-searched-next counts k j i s h e =
-    record {
-      within = omega arith;
-      place = ⊎-elim (λ w. omega (arith, w, e, s .place)) (λ w. omega (arith, w, e)) (worse-one counts j k);
-      value = e ∙ rw (add-one, ← (s .value));
-    }
+  pub in-words : (Before counts j k → PutFirst counts j k) × (PutFirst counts j k → Before counts j k)
+  in-words = (before-says, says-before)
 
-pub searched-end : (counts : List ℕ) (k j : ℕ) → Searched counts k j → 64 ≤ k → j ≡ worst counts 64
-searched-end counts k j s h = let e : k ≡ 64 = omega (arith, s .within) in rw e at (s .value)
+-- ---- a strict total order
 
--- ---- leaving out
+module _ (counts : Counts) where
+  pub irreflexive : (k : ℕ) → Before counts k k → ⊥
+  irreflexive k b = ⊎-elim (λ h. omega arith) (λ p. omega (arith, p .1)) (before-says counts k k b)
 
-pub left-out : (counts : List ℕ) (k : ℕ) → k < 64 → set counts k 0 ≡ without counts k
-unfolding without
-left-out counts k h = rw (lt-ltb k 64 h)
+  pub transitive : (i j k : ℕ) → Before counts i j → Before counts j k → Before counts i k
+  transitive i j k b c = says-before counts i k (go (before-says counts i j b) (before-says counts j k c))
+    where
+      go : PutFirst counts i j → PutFirst counts j k → PutFirst counts i k
+      go (inl g) (inl h) = inl (omega arith)
+      go (inl g) (inr (e, l)) = inl (omega arith)
+      go (inr (d, m)) (inl h) = inl (omega arith)
+      go (inr (d, m)) (inr (e, l)) = inr (omega arith, omega arith)
 
-pub left-out-none : (counts : List ℕ) (k : ℕ) → 64 ≤ k → counts ≡ without counts k
-unfolding without
-left-out-none counts k h = rw (le-ltb k 64 h)
+  pub comparable : (j k : ℕ) → (j ≡ k → ⊥) → Before counts j k ⊎ Before counts k j
+  comparable j k differ = go (decLt (countOf counts k) (countOf counts j)) (decLt (countOf counts j) (countOf counts k)) (decLt j k)
+    where
+      go : Dec (countOf counts k < countOf counts j) → Dec (countOf counts j < countOf counts k) → Dec (j < k) → Before counts j k ⊎ Before counts k j
+      go (yes h) d e = inl (says-before counts j k (inl h))
+      go (no g) (yes h) e = inr (says-before counts k j (inl h))
+      go (no g) (no f) (yes h) = inl (says-before counts j k (inr (omega arith, h)))
+      go (no g) (no f) (no e) = inr (says-before counts k j (inr (omega arith, omega (arith, differ))))

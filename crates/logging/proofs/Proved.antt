@@ -8,6 +8,7 @@ use Rattle.frames.specs.declared.Report.{Report}
 use Rattle.logging.specs.Counting.{framesOf, uncorrectableOf, correctedBitsOf, limited, Call, clear, count, since, sumOver, totals}
 use Rattle.logging.specs.Laws.{CorrectorCall, numberPromised, sumPromised, given, CounterLaws, Logging}
 use Rattle.logging.proofs.Sequences.{since-clearing}
+use Rattle.logging.proofs.Order.{in-words, irreflexive, transitive, comparable}
 use Rattle.logging.proofs.Ranking.{worst-list}
 use Rattle.logging.proofs.OneList.{worst-only}
 
@@ -67,4 +68,16 @@ counters =
 -- ---- worst list
 
 pub logging : Logging
-logging = record { counters = counters; lists = record { worst = worst-list; only = worst-only } }
+logging =
+    record {
+      counters = counters;
+      lists =
+          record {
+            order = in-words;
+            irreflexive = irreflexive;
+            transitive = transitive;
+            comparable = comparable;
+            worst = worst-list;
+            only = worst-only;
+          };
+    }

@@ -1,105 +1,81 @@
--- The worst of all inner words: no count is larger, of equal counts its number is the lowest, and it stands before every other inner word with a count
--- above 0. Assumes nothing.
-use mathlib.Core.Path.{_≡_, refl, sym, ap, _∙_}
+-- The first of all inner words that can be listed: it stands before every other of them. Of the order this uses only that it is a strict total order.
+-- Assumes nothing.
+use mathlib.Core.Path.{_≡_, refl, sym, _∙_}
 use mathlib.Core.Logic.{_⊎_, inl, inr, ⊎-elim}
-use mathlib.Core.Bool.{cond}
+use mathlib.Core.Bool.{Bool, true, false, true≢false}
 use mathlib.Core.List.{List}
-use Prim.Native.Nat.{ℕ, zero, suc, _≤_, _<_}
+use Prim.Native.Nat.{ℕ, zero, suc, _<_}
 use native.Mathlib.Decide.{decLt}
-use native.Mathlib.Nat.{le-refl, not-suc-le-zero}
+use native.Mathlib.Nat.{not-suc-le-zero}
 use native.Mathlib.Omega.{arith}
-use lib.Dec.{ltb}
-use lib.ListN.{length, getD, set, length-set, List·getD-eq-default}
-use lib.Seq.{getD-set-same, getD-set-other}
 use Rattle.logging.specs.Laws.{Before}
-use Rattle.logging.specs.WorstList.{countOf, worse, worst, without}
-use Rattle.logging.proofs.Order.{count-inside, count-outside, worse-first, worse-second, left-out, left-out-none}
+use Rattle.logging.specs.WorstList.{Counts, isBefore, isOpen, earlier, firstOpen}
+use Rattle.logging.proofs.Order.{transitive, comparable}
+use Rattle.logging.proofs.Search.{Open, open-inside, earlier-closed, earlier-empty, earlier-new, earlier-same}
 
--- ---- one left out
+pub same-or-not : (a b : ℕ) → (a ≡ b) ⊎ (a ≡ b → ⊥)
+same-or-not a b = go (decLt a b) (decLt b a)
+  where
+    go : Dec (a < b) → Dec (b < a) → (a ≡ b) ⊎ (a ≡ b → ⊥)
+    go (yes h) d = inr (λ e. omega arith)
+    go (no g) (yes h) = inr (λ e. omega arith)
+    go (no g) (no h) = inl (omega arith)
 
-module _ (counts : List ℕ) (w : ℕ) where
-  -- the one that is left out has no count, and the others keep theirs
-  pub without-same : w < 64 → countOf (without counts w) w ≡ 0
-  without-same h =
-      ap (λ (l : List ℕ). countOf l w) (sym (left-out counts w h)) ∙ sym (count-inside (set counts w 0) w h) ∙ go (decLt w (length counts))
+-- w is the first of the first n inner words: empty or one that can be listed, and it stands before every other that can be
+pub record Top (counts : Counts) (listed : List Bool) (n w : ℕ) : Type 0 where
+  pub named : (w ≡ 64) ⊎ ((w < n) × Open counts listed w)
+  pub first : (k : ℕ) → k < n → Open counts listed k → (k ≡ w → ⊥) → (w < 64) × Before counts w k
+
+module _ (counts : Counts) (listed : List Bool) (n w : ℕ) (t : Top counts listed n w) where
+  -- n is no better than w: w is the first of one more
+  top-same : (Open counts listed n → (n ≡ w → ⊥) → (w < 64) × Before counts w n) → Top counts listed (suc n) w
+  top-same last = record { named = ⊎-elim (λ e. inl e) (λ p. inr (omega (arith, p .0), p .1)) (t .named); first = λ k l. go k (decLt k n) l }
     where
-      go : Dec (w < length counts) → getD (set counts w 0) w 0 ≡ 0
-      go (yes l) = getD-set-same counts w 0 0 l
-      go (no g) = List·getD-eq-default (set counts w 0) 0 {n = w} (omega (arith, length-set counts w 0))
+      go : (k : ℕ) → Dec (k < n) → k < suc n → Open counts listed k → (k ≡ w → ⊥) → (w < 64) × Before counts w k
+      go k (yes l) h = t .first k l
+      go k (no g) h = let e : k ≡ n = omega arith in rw e last
 
-  pub without-other : (k : ℕ) → (k ≡ w → ⊥) → countOf (without counts w) k ≡ countOf counts k
-  unfolding countOf
-  without-other k n = ap (λ (x : ℕ). cond (ltb k 64) x 0) (go (decLt w 64))
-    where
-      go : Dec (w < 64) → getD (without counts w) k 0 ≡ getD counts k 0
-      go (yes h) = ap (λ (l : List ℕ). getD l k 0) (sym (left-out counts w h)) ∙ getD-set-other counts w k 0 0 n
-      go (no g) = ap (λ (l : List ℕ). getD l k 0) (sym (left-out-none counts w (omega arith)))
-
--- ---- what the worst of the first n is
-
-pub record Top (counts : List ℕ) (n w : ℕ) : Type 0 where
-  pub named : (w ≡ 64) ⊎ ((w < n) × (0 < countOf counts w))
-  pub most : (k : ℕ) → k < n → countOf counts k ≤ countOf counts w
-  pub first : (k : ℕ) → w < 64 → k < w → countOf counts k < countOf counts w
-
-pub none-counted : (counts : List ℕ) → countOf counts 64 ≡ 0
-none-counted counts = sym (count-outside counts 64 (le-refl 64))
-
-module _ (counts : List ℕ) (n w : ℕ) (t : Top counts n w) where
-  top-new : countOf counts w < countOf counts n → Top counts (suc n) n
-  top-new h =
+  -- n is better than w, which is empty or stands after it
+  top-new : Open counts listed n → ((w ≡ 64) ⊎ Before counts n w) → Top counts listed (suc n) n
+  top-new o better =
       record {
-        named = inr (omega arith, omega arith);
-        most = λ k l. go k (decLt k n) l;
-        first = λ k small l. omega (arith, t .most k l);
+        named = inr (omega arith, o);
+        first = λ k l ok differ. (open-inside counts listed n o, go k (omega (arith, differ)) ok (same-or-not k w) better);
       }
     where
-      go : (k : ℕ) → Dec (k < n) → k < suc n → countOf counts k ≤ countOf counts n
-      go k (yes l) m = omega (arith, t .most k l)
-      go k (no g) m = let e : k ≡ n = omega arith in rw e (le-refl _)
+      go : (k : ℕ) → k < n → Open counts listed k → (k ≡ w) ⊎ (k ≡ w → ⊥) → (w ≡ 64) ⊎ Before counts n w → Before counts n k
+      go k l ok (inl e) (inl empty) = absurd (omega (arith, open-inside counts listed k ok))
+      go k l ok (inl e) (inr b) = rw e b
+      go k l ok (inr differ) (inl empty) = absurd (omega (arith, t .first k l ok differ .0))
+      go k l ok (inr differ) (inr b) = transitive counts n w k b (t .first k l ok differ .1)
 
-  top-same : countOf counts n ≤ countOf counts w → Top counts (suc n) w
-  top-same h =
-      record {
-        named = ⊎-elim (λ e. inl e) (λ p. inr (omega (arith, p .0), p .1)) (t .named);
-        most = λ k l. go k (decLt k n) l;
-        first = t .first;
-      }
+  top-next : Top counts listed (suc n) (earlier counts listed w n)
+  top-next = go (isOpen counts listed n) refl (same-or-not w 64) (isBefore counts n w) refl
     where
-      go : (k : ℕ) → Dec (k < n) → k < suc n → countOf counts k ≤ countOf counts w
-      go k (yes l) m = t .most k l
-      go k (no g) m = let e : k ≡ n = omega arith in rw e h
+      -- w is an inner word, and n does not stand before it
+      after : (w ≡ 64 → ⊥) → isBefore counts n w ≡ false → (n ≡ w → ⊥) → (w < 64) × Before counts w n
+      after full b differ = (
+        ⊎-elim (λ e. absurd (full e)) (λ p. open-inside counts listed w (p .1)) (t .named),
+        ⊎-elim (λ c. c) (λ c. absurd (true≢false (sym c ∙ b))) (comparable counts w n (λ e. differ (sym e))),
+      )
 
-  top-worse : Top counts (suc n) (worse counts w n)
-  top-worse = go (decLt (countOf counts w) (countOf counts n))
-    where
-      go : Dec (countOf counts w < countOf counts n) → Top counts (suc n) (worse counts w n)
-      go (yes h) = rw (← worse-second counts w n _ _ refl refl h) (top-new h)
-      go (no g) = rw (← worse-first counts w n _ _ refl refl (omega arith)) (top-same (omega arith))
+      go : (u : Bool) → isOpen counts listed n ≡ u → (w ≡ 64) ⊎ (w ≡ 64 → ⊥) → (v : Bool) → isBefore counts n w ≡ v →
+          Top counts listed (suc n) (earlier counts listed w n)
+      go false o place v b = rw (← earlier-closed counts listed w n _ refl o) (top-same (λ p differ. absurd (true≢false (sym p ∙ o))))
+      go true o (inl empty) v b = rw (← earlier-empty counts listed w n _ refl o empty) (top-new o (inl empty))
+      go true o (inr full) true b = rw (← earlier-new counts listed w n _ _ refl o refl b) (top-new o (inr b))
+      go true o (inr full) false b = rw (← earlier-same counts listed w n _ full refl b) (top-same (λ p. after full b))
 
-pub top : (counts : List ℕ) (n : ℕ) → Top counts n (worst counts n)
-unfolding worst
-top counts zero = record { named = inl refl; most = λ k l. absurd (not-suc-le-zero l); first = λ k small l. absurd (omega arith) }
-top counts (suc n) = top-worse counts n (worst counts n) (top counts n)
+pub top : (counts : Counts) (listed : List Bool) (n : ℕ) → Top counts listed n (firstOpen counts listed n)
+unfolding firstOpen
+top counts listed zero = record { named = inl refl; first = λ k l. absurd (not-suc-le-zero l) }
+top counts listed (suc n) = top-next counts listed n (firstOpen counts listed n) (top counts listed n)
 
--- it stands before every other inner word with a count above 0
-module _ (counts : List ℕ) where
-  pub top-named : (worst counts 64 ≡ 64) ⊎ ((worst counts 64 < 64) × (0 < countOf counts (worst counts 64)))
-  top-named = top counts 64 .named
+-- of all inner words
+module _ (counts : Counts) (listed : List Bool) where
+  pub top-named : (firstOpen counts listed 64 ≡ 64) ⊎ Open counts listed (firstOpen counts listed 64)
+  top-named = ⊎-elim (λ e. inl e) (λ p. inr (p .1)) (top counts listed 64 .named)
 
-  pub top-before : (k : ℕ) → k < 64 → 0 < countOf counts k → (k ≡ worst counts 64 → ⊥) → (worst counts 64 < 64) × Before counts (worst counts 64) k
-  top-before k l some other = ⊎-elim empty full top-named
-    where
-      empty : worst counts 64 ≡ 64 → (worst counts 64 < 64) × Before counts (worst counts 64) k
-      empty e = absurd (omega (arith, top counts 64 .most k l, ap (λ (w : ℕ). countOf counts w) e, none-counted counts))
-
-      full : (worst counts 64 < 64) × (0 < countOf counts (worst counts 64)) → (worst counts 64 < 64) × Before counts (worst counts 64) k
-      full p = (p .0, go (decLt (countOf counts k) (countOf counts (worst counts 64))))
-        where
-          go : Dec (countOf counts k < countOf counts (worst counts 64)) → Before counts (worst counts 64) k
-          go (yes h) = inl h
-          go (no g) = inr (omega (arith, top counts 64 .most k l), later (decLt k (worst counts 64)))
-            where
-              later : Dec (k < worst counts 64) → worst counts 64 < k
-              later (yes h) = absurd (omega (arith, top counts 64 .first k (p .0) h))
-              later (no f) = omega (arith, other)
+  pub top-before : (k : ℕ) → Open counts listed k → (k ≡ firstOpen counts listed 64 → ⊥) →
+      (firstOpen counts listed 64 < 64) × Before counts (firstOpen counts listed 64) k
+  top-before k o = top counts listed 64 .first k (open-inside counts listed k o) o

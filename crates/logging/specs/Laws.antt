@@ -1,7 +1,7 @@
 -- What is proved of counters and worst list: `logging` of proofs/Proved.antt is the proof.
 use mathlib.Core.Path.{_≡_}
 use mathlib.Core.Logic.{_⊎_}
-use mathlib.Core.Bool.{cond}
+use mathlib.Core.Bool.{true, cond}
 use mathlib.Core.List.{List, map}
 use Prim.Native.Nat.{ℕ, _<_}
 use lib.Dec.{eqb}
@@ -9,7 +9,7 @@ use lib.ListN.{length, getD}
 use Rattle.frames.specs.Answers.{frameCorrected}
 use Rattle.frames.specs.declared.Report.{Report}
 use Rattle.logging.specs.Counting.{limited, Call, clear, count, after, since, sumOver, totals}
-use Rattle.logging.specs.WorstList.{countOf, worstWords}
+use Rattle.logging.specs.WorstList.{Counts, countOf, isBefore, worstWords}
 
 -- ---- counters
 
@@ -47,16 +47,20 @@ pub record CounterLaws : Type 0 where
 
 -- ---- worst list
 
--- inner word j stands before inner word k: its count is larger, or equal and its number lower
-abbrev pub Before : List ℕ → ℕ → ℕ → Type 0
-Before counts j k = (countOf counts k < countOf counts j) ⊎ ((countOf counts j ≡ countOf counts k) × (j < k))
+-- inner word j stands before inner word k
+abbrev pub Before : Counts → ℕ → ℕ → Type 0
+Before counts j k = isBefore counts j k ≡ true
+
+-- document 01 puts inner word j before inner word k: its count is larger, or equal and its number lower
+abbrev pub PutFirst : Counts → ℕ → ℕ → Type 0
+PutFirst counts j k = (countOf counts k < countOf counts j) ⊎ ((countOf counts j ≡ countOf counts k) × (j < k))
 
 -- place i of a list
 abbrev pub placeOf : List ℕ → ℕ → ℕ
 placeOf list i = getD list i 64
 
 -- what document 01 asks of the worst list of counts
-pub record Worst (counts list : List ℕ) : Type 0 where
+pub record Worst (counts : Counts) (list : List ℕ) : Type 0 where
   -- eight places, each empty or with an inner word whose count is above 0
   pub eight : length list ≡ 8
   pub named : (i : ℕ) → i < 8 → (placeOf list i ≡ 64) ⊎ ((placeOf list i < 64) × (0 < countOf counts (placeOf list i)))
@@ -64,14 +68,21 @@ pub record Worst (counts list : List ℕ) : Type 0 where
   pub sorted : (i j : ℕ) → i < j → j < 8 → placeOf list j < 64 → (placeOf list i < 64) × Before counts (placeOf list i) (placeOf list j)
   -- no repeats: two places that hold the same are empty
   pub once : (i j : ℕ) → i < j → j < 8 → placeOf list i ≡ placeOf list j → placeOf list i ≡ 64
-  -- no larger count is left out: if an inner word with a count above 0 is not listed, every place has one that stands before it
+  -- nothing worse is left out: if an inner word with a count above 0 is not listed, every place has one that stands before it
   pub complete : (k : ℕ) → k < 64 → 0 < countOf counts k → ((i : ℕ) → i < 8 → placeOf list i ≡ k → ⊥) →
       (i : ℕ) → i < 8 → (placeOf list i < 64) × Before counts (placeOf list i) k
 
 pub record WorstLaws : Type 0 where
-  pub worst : (counts : List ℕ) → Worst counts (worstWords counts)
+  -- the order is document 01's: what stands before is what it puts first, and nothing else
+  pub order : (counts : Counts) (j k : ℕ) → (Before counts j k → PutFirst counts j k) × (PutFirst counts j k → Before counts j k)
+  -- it is a strict total order: nothing stands before itself, what stands before one stands before all that follow it, and of any two one stands before the other
+  pub irreflexive : (counts : Counts) (k : ℕ) → Before counts k k → ⊥
+  pub transitive : (counts : Counts) (i j k : ℕ) → Before counts i j → Before counts j k → Before counts i k
+  pub comparable : (counts : Counts) (j k : ℕ) → (j ≡ k → ⊥) → Before counts j k ⊎ Before counts k j
+  -- the list is what document 01 asks for
+  pub worst : (counts : Counts) → Worst counts (worstWords counts)
   -- and there is no other such list
-  pub only : (counts list : List ℕ) → Worst counts list → list ≡ worstWords counts
+  pub only : (counts : Counts) (list : List ℕ) → Worst counts list → list ≡ worstWords counts
 
 pub record Logging : Type 0 where
   pub counters : CounterLaws

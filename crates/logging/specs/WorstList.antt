@@ -1,32 +1,40 @@
--- The worst list of a report: up to eight inner words with a count above 0, the largest count first, equal counts by the lower number. A list has eight places;
--- empty places hold 64.
-use mathlib.Core.Bool.{cond}
+-- The worst list of a report: up to eight inner words with a count above 0, in one order. A list has eight places; empty places hold 64.
+use mathlib.Core.Bool.{Bool, true, false, not, _&&_, _||_, cond}
 use mathlib.Core.List.{List, [], _∷_}
 use Prim.Native.Nat.{ℕ, zero, suc}
-use lib.Dec.{ltb}
-use lib.ListN.{getD, set}
+use lib.Dec.{eqb, ltb}
+use lib.ListN.{getD, set, replicate}
+
+-- the counts of a report: one for each inner word
+abbrev pub Counts : Type 0
+Counts = List ℕ
 
 -- the count of inner word k; 64, an empty place, has none
-unfoldable pub countOf : List ℕ → ℕ → ℕ
+unfoldable pub countOf : Counts → ℕ → ℕ
 countOf counts k = cond (ltb k 64) (getD counts k 0) 0
 
--- the one of j and k with the larger count; j, if they are equal
-unfoldable pub worse : List ℕ → ℕ → ℕ → ℕ
-worse counts j k = cond (ltb (countOf counts j) (countOf counts k)) k j
+-- the order: inner word j stands before inner word k if its count is larger, or equal and its number lower
+unfoldable pub isBefore : Counts → ℕ → ℕ → Bool
+isBefore counts j k = ltb (countOf counts k) (countOf counts j) || (eqb (countOf counts j) (countOf counts k) && ltb j k)
 
--- the worst of the first n inner words, taken in the order of their numbers; 64, if no count is above 0
-unfoldable pub worst : List ℕ → ℕ → ℕ
-worst counts zero = 64
-worst counts (suc n) = worse counts (worst counts n) n
+-- inner word k can be listed next: its count is above 0, and it is not listed yet
+unfoldable pub isOpen : Counts → List Bool → ℕ → Bool
+isOpen counts listed k = ltb 0 (countOf counts k) && not (getD listed k false)
 
--- the counts with inner word k left out
-unfoldable pub without : List ℕ → ℕ → List ℕ
-without counts k = cond (ltb k 64) (set counts k 0) counts
+-- what a place that holds j holds once k is looked at: k, if it can be listed and the place is empty or k stands before j; else j
+unfoldable pub earlier : Counts → List Bool → ℕ → ℕ → ℕ
+earlier counts listed j k = cond (isOpen counts listed k && (eqb j 64 || isBefore counts k j)) k j
 
--- n places: the worst of all inner words, then the worst of the others, and so on
-unfoldable pub worstFrom : ℕ → List ℕ → List ℕ
-worstFrom zero counts = []
-worstFrom (suc n) counts = worst counts 64 ∷ worstFrom n (without counts (worst counts 64))
+-- of the first n inner words the first in the order that can be listed; 64, if none can
+unfoldable pub firstOpen : Counts → List Bool → ℕ → ℕ
+firstOpen counts listed zero = 64
+firstOpen counts listed (suc n) = earlier counts listed (firstOpen counts listed n) n
 
-unfoldable pub worstWords : List ℕ → List ℕ
-worstWords counts = worstFrom 8 counts
+-- n places: the first in the order that can be listed, then the first of those that are left, and so on
+unfoldable pub worstFrom : ℕ → Counts → List Bool → List ℕ
+worstFrom zero counts listed = []
+worstFrom (suc n) counts listed = firstOpen counts listed 64 ∷ worstFrom n counts (set listed (firstOpen counts listed 64) true)
+
+-- eight places; at the start nothing is listed, of 64 inner words and 64, the empty place
+unfoldable pub worstWords : Counts → List ℕ
+worstWords counts = worstFrom 8 counts (replicate 65 false)

@@ -1,7 +1,7 @@
 // Logging of corrections, for a user of the corrector who knows its report and its contract, and nothing inside it.
 //
 //     counters     what the corrector's answers add up to: cleared at the start, then counted once an answer
-//     worst list   the inner word with the most wrong bits, then the worst of the others, up to eight
+//     worst list   the first inner word in the order of the list, then the first of the others, up to eight
 use frames::Frame;
 use frames::Report;
 ghost use mathlib.Core.Path.{_≡_};
@@ -9,7 +9,7 @@ ghost use mathlib.Core.Bool.{cond};
 ghost use Prim.Native.Nat.{_+_, _≤_};
 ghost use lib.Dec.{eqb};
 ghost use Rattle.logging.specs.Counting.{limited, cleared, counted};
-ghost use Rattle.logging.specs.WorstList.{countOf, worse, worst, without, worstWords};
+ghost use Rattle.logging.specs.WorstList.{countOf, isBefore, isOpen, earlier, firstOpen, worstWords};
 
 // What the corrector's answers since the last clearing add up to ("tally"). Each number stops at the largest that it can be.
 pub struct Counters {
@@ -78,6 +78,9 @@ pub const LISTED: usize = 8;
 
 pub const EMPTY: usize = Frame::INNER_WORDS;
 
+// Marks of what is listed: one for each inner word, and one for an empty place.
+const MARKS: usize = EMPTY + 1;
+
 // The count of inner word k; an empty place has none.
 fn count(counts: &[u16; Frame::INNER_WORDS], k: usize) -> u16
     ensures { λ r. ⌜ r ≡ countOf (now (counts .entry)) k ⌝ }
@@ -85,50 +88,75 @@ fn count(counts: &[u16; Frame::INNER_WORDS], k: usize) -> u16
     if k < Frame::INNER_WORDS { counts[k] } else { 0 }
 }
 
-// The order of the list: the inner word with the larger count; j, which is the lower number or an empty place, if the counts are equal.
-fn worse(counts: &[u16; Frame::INNER_WORDS], j: usize, k: usize) -> usize
-    ensures { λ r. ⌜ r ≡ worse (now (counts .entry)) j k ⌝ }
+// The order of the list: inner word j stands before inner word k if its count is larger, or equal and its number lower.
+fn is_before(counts: &[u16; Frame::INNER_WORDS], j: usize, k: usize) -> bool
+    ensures { λ r. ⌜ r ≡ isBefore (now (counts .entry)) j k ⌝ }
 {
-    if count(counts, j) < count(counts, k) {
-        k
-    } else {
-        j
+    let of_j = count(counts, j);
+    let of_k = count(counts, k);
+    if of_k < of_j {
+        return true;
     }
+    if of_j == of_k {
+        return j < k;
+    }
+    false
 }
 
-// The worst of all inner words; an empty place, if no count is above 0.
-fn worst(counts: &[u16; Frame::INNER_WORDS]) -> usize
-    ensures { λ r. ⌜ (r ≤ 64) × (r ≡ worst (now (counts .entry)) 64) ⌝ }
+// Inner word k can be listed next: its count is above 0, and it is not listed yet.
+fn is_open(counts: &[u16; Frame::INNER_WORDS], listed: &[bool; MARKS], k: usize) -> bool
+    ensures { λ r. ⌜ r ≡ isOpen (now (counts .entry)) (now (listed .entry)) k ⌝ }
+{
+    if Frame::INNER_WORDS <= k {
+        return false;
+    }
+    if listed[k] {
+        return false;
+    }
+    0 < count(counts, k)
+}
+
+// What a place that holds j holds once k is looked at: k, if it can be listed and the place is empty or k stands before j; else j.
+fn earlier(counts: &[u16; Frame::INNER_WORDS], listed: &[bool; MARKS], j: usize, k: usize) -> usize
+    ensures { λ r. ⌜ r ≡ earlier (now (counts .entry)) (now (listed .entry)) j k ⌝ }
+{
+    if is_open(counts, listed, k) {
+        if j == EMPTY {
+            return k;
+        }
+        if is_before(counts, k, j) {
+            return k;
+        }
+        return j;
+    }
+    j
+}
+
+// The first in the order of the inner words that can be listed; an empty place, if none can.
+fn first_open(counts: &[u16; Frame::INNER_WORDS], listed: &[bool; MARKS]) -> usize
+    ensures { λ r. ⌜ (r ≤ 64) × (r ≡ firstOpen (now (counts .entry)) (now (listed .entry)) 64) ⌝ }
 {
     let mut j = EMPTY;
     let mut k: usize = 0;
     while k < Frame::INNER_WORDS {
-        j = worse(counts, j, k);
+        j = earlier(counts, listed, j, k);
         k += 1;
     }
     j
 }
 
-// Leaves inner word k out of the search; an empty place leaves out none.
-fn leave_out(counts: &mut [u16; Frame::INNER_WORDS], k: usize)
-    ensures { λ _. ⌜ now (counts .exit) ≡ without (now (counts .entry)) k ⌝ }
-{
-    if k < Frame::INNER_WORDS {
-        counts[k] = 0;
-    }
-}
-
-// The inner words of a report with the largest counts above 0, the largest first, equal counts by the lower number ("worst list"); empty places hold 64.
+// The inner words of a report with a count above 0, the first eight in the order of the list ("worst list"); empty places hold 64.
 pub fn worst_words(report: Report) -> [u8; LISTED]
     ensures { λ r. ⌜ r ≡ worstWords (report .counts) ⌝ }
 {
-    let mut counts = report.counts;
+    let counts = report.counts;
+    let mut listed = [false; MARKS];
     let mut list = [EMPTY as u8; LISTED];
     let mut i: usize = 0;
     while i < LISTED {
-        let k = worst(&counts);
+        let k = first_open(&counts, &listed);
         list[i] = k as u8;
-        leave_out(&mut counts, k);
+        listed[k] = true;
         i += 1;
     }
     list

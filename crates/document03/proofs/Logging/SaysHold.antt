@@ -6,11 +6,11 @@ use Prim.Native.Nat.{ℕ, _+_}
 use native.Mathlib.Omega.{arith}
 use borrow.Author.Tests.{leb-false, leb-true}
 use lib.Dec.{eqb, leb}
+use lib.ListN.{replicate, length-replicate, getD-replicate}
 use Rattle.frames.specs.declared.Report.{Report}
 use Rattle.logging.specs.declared.Counters.{Counters}
 use Rattle.logging.specs.Counting.{framesOf, uncorrectableOf, correctedBitsOf, limited, cleared, counted}
 use Rattle.logging.specs.WorstList.{worstWords}
-use Rattle.logging.proofs.Order.{count-inside}
 use Rattle.document03.proofs.Fields.{pick}
 use Rattle.document03.proofs.Words.Statements.{when}
 use Rattle.document03.proofs.Logging.WorstListAgrees.{list-agrees}
@@ -53,4 +53,5 @@ count-says t r u e =
 
 pub worst-says : (r : Report) (ws : List ℕ) → ws ≡ worstWords (r .counts) → WorstSays r ws
 unfolding worstWords
-worst-says r ws e = e ∙ sym (list-agrees 8 (r .counts) [] (r .counts) (λ k l. sym (count-inside (r .counts) k l)))
+worst-says r ws e =
+    e ∙ sym (list-agrees 8 (r .counts) [] (replicate 65 false) (length-replicate 65 false, λ k l. getD-replicate 65 k false false (omega arith)))

@@ -6,10 +6,10 @@ use Rattle.logging.proofs.worst_words.Statement.{statement}
 use Rattle.logging.proofs.worst_words.Tie as tie
 
 abbrev Inv-loop : tie.InvT-loop
-Inv-loop counts₀ list₀ i₀ counts list i = Listed counts₀ i counts list
+Inv-loop counts listed₀ list₀ i₀ listed list i = Listed counts i listed list
 
 abbrev μ-loop : tie.MeasureT-loop
-μ-loop counts₀ list₀ i₀ counts list i = 8 - i
+μ-loop counts listed₀ list₀ i₀ listed list i = 8 - i
 
 cast-list : tie.Need-cast-list Inv-loop μ-loop
 cast-list c = search needs
@@ -17,8 +17,8 @@ cast-list c = search needs
 loop-holds : tie.Need-loop-holds Inv-loop μ-loop
 loop-holds c = search (needs, listed-start)
 
-worst-requires : tie.Need-worst-requires Inv-loop μ-loop
-worst-requires c κs = search needs
+first-open-requires : tie.Need-first-open-requires Inv-loop μ-loop
+first-open-requires c κs = search needs
 
 cast-list-2 : tie.Need-cast-list-2 Inv-loop μ-loop
 cast-list-2 c = search needs
@@ -26,8 +26,8 @@ cast-list-2 c = search needs
 array-write-list : tie.Need-array-write-list Inv-loop μ-loop
 array-write-list c = search needs
 
-leave-out-requires : tie.Need-leave-out-requires Inv-loop μ-loop
-leave-out-requires c κs = search needs
+array-write-listed : tie.Need-array-write-listed Inv-loop μ-loop
+array-write-listed c = search needs
 
 add-i : tie.Need-add-i Inv-loop μ-loop
 add-i c = search needs
@@ -49,10 +49,10 @@ worst-words-spec =
     μ-loop
     cast-list
     loop-holds
-    worst-requires
+    first-open-requires
     cast-list-2
     array-write-list
-    leave-out-requires
+    array-write-listed
     add-i
     loop-less
     loop-again

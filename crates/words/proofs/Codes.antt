@@ -1,9 +1,11 @@
--- The two codes: division, parity, roots, distance 17, bounded-distance decoding.
+-- Reed-Solomon codes and the two codes: division, parity, roots, distance, bounded-distance decoding.
 pub mod Horner
 pub mod ShiftedBits
 pub mod BinaryRegister
 pub mod TableValues
 pub mod Division
+pub mod Nearest
+pub mod ReedSolomon
 pub mod OuterWords
 pub mod Packing
 pub mod UnitParities
@@ -12,5 +14,4 @@ pub mod LeastPolynomials
 pub mod InnerWords
 pub mod InnerParity
 pub mod InnerRoots
-pub mod Nearest
 pub mod Proved

@@ -1,4 +1,4 @@
 -- What the decoder finds for a word of each code is the nearest code word.
-pub mod Outer
+pub mod ReedSolomon
 pub mod InnerSyndromes
 pub mod Inner

@@ -1,5 +1,6 @@
--- Single words: bits, the outer code, the inner code, the 64 inner words of a frame, what the entries answer, and what is proved of the codes.
+-- Single words: bits, Reed-Solomon codes, the outer code, the inner code, the 64 inner words of a frame, what the entries answer, and what is proved of the codes.
 pub mod Bits
+pub mod ReedSolomon
 pub mod OuterCode
 pub mod InnerCode
 pub mod Nearest

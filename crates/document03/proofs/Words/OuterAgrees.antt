@@ -1,8 +1,9 @@
 -- Document 03's outer code agrees with ours: its code words, its generator and its parity symbols. Assumes nothing.
-use mathlib.Core.Path.{_≡_, refl, ap, ap₂, _∙_}
+use mathlib.Core.Path.{_≡_, refl, sym, ap, ap₂, _∙_}
 use mathlib.Core.Bool.{Bool, true, false, _&&_, and-comm}
 use mathlib.Core.List.{List, [], _∷_}
 use Prim.Native.Nat.{ℕ, zero, suc, _≤_, _<_}
+use native.Mathlib.Nat.{zero-add}
 use native.Mathlib.Omega.{arith}
 use lib.Dec.{eqb, lit<, lit≤}
 use lib.ListN.{length, drop, replicate, length-drop}
@@ -11,7 +12,9 @@ use Rattle.fields.specs.Lists.{tabulate}
 use Rattle.fields.specs.Places.{at, every, allBelow, value}
 use Rattle.fields.proofs.Instances.{field-a}
 use Rattle.fields.proofs.Places.Tests.{below-at}
-use Rattle.words.specs.OuterCode.{powerA, outerValue, divided, outerParity}
+use Rattle.words.specs.ReedSolomon.{valueAtRoot, isCodeWord, generatorOf, divided, parityOf}
+use Rattle.words.specs.ReedSolomon as Code
+use Rattle.words.specs.OuterCode.{powerA, outerValue, outerParity}
 use Rattle.words.specs.OuterCode as Outer
 use Rattle.words.proofs.Codes.TableValues.{divided-lt}
 use Rattle.words.proofs.Codes.Division.{divided-length}
@@ -25,12 +28,12 @@ symbols-agree = all-below 1024 allSymbols refl (λ s ss. refl)
 
 -- code words
 roots-agree : (w : List ℕ) → ((i : ℕ) → at w i < 1024) → (n : ℕ) → n ≤ 1023 → rootsFrom n w ≡ every n (λ j. eqb (outerValue w j) 0)
-unfolding every outerValue
+unfolding every valueAtRoot
 roots-agree w h zero l = refl
 roots-agree w h (suc n) l =
     ap₂ (λ (v : ℕ) (t : Bool). eqb v 0 && t)
     (value-agrees 10 1033 field-a (lit< tt) timesA timesA-agrees (powA n) (valueAt (powA n)) (λ v. refl) (λ v s ss. refl) w h
-    ∙ ap (λ (x : ℕ). value 10 1033 x (at w) (length w)) (powA-agrees n l))
+    ∙ ap (λ (x : ℕ). value 10 1033 x (at w) (length w)) (powA-agrees n l ∙ ap powerA (sym (zero-add n))))
     (roots-agree w h n (omega arith))
     ∙ and-comm (eqb (outerValue w n) 0) (every n (λ j. eqb (outerValue w j) 0))
 
@@ -39,7 +42,7 @@ and-same true b c h = h refl
 and-same false b c h = refl
 
 pub outer-agrees : (w : List ℕ) → isOuter w ≡ Outer.isOuter w
-unfolding Outer.isOuter
+unfolding isCodeWord
 outer-agrees w =
     ap (λ (t : Bool). t && rootsFrom 16 w) (symbols-agree w)
     ∙ and-same (allBelow 1024 w) _ _ (λ t. roots-agree w (below-at 1024 w (lit< tt) t) 16 (lit≤ tt))
@@ -59,14 +62,14 @@ generator-from zero cs h = refl
 generator-from (suc n) cs h = generator-from n (withRoot (powA n) cs) (omega arith) ∙ ap (λ (r : ℕ). rootsOf (rootPowers n) (withRoot r cs)) (powA-agrees n h)
 
 generator-computed : rootsOf (rootPowers 16) (1 ∷ []) ≡ Outer.generator
-unfolding rootsOf rootPowers E.power E.doubled E.xor E.scale E.times E.timesFrom tabulate Outer.generator Outer.withRoots Outer.withRoot
+unfolding rootsOf rootPowers E.power E.doubled E.xor E.scale E.times E.timesFrom tabulate generatorOf Code.withRoot
 generator-computed = refl
 
 generator-agrees : generator ≡ Outer.generator
 generator-agrees = generator-from 16 (1 ∷ []) (lit≤ tt) ∙ generator-computed
 
 generator-length : length Outer.generator ≡ 17
-unfolding Outer.generator Outer.withRoots Outer.withRoot tabulate
+unfolding generatorOf Code.withRoot tabulate
 generator-length = refl
 
 -- the register
@@ -80,8 +83,8 @@ scaled-length x [] = refl
 scaled-length x (c ∷ cs) = ap suc (scaled-length x cs)
 
 module _ (g : List ℕ) (long : length g ≡ 17) where
-  shifted-agrees : (reg : List ℕ) (s : ℕ) → length reg ≡ 16 → ((i : ℕ) → at reg i < 1024) → s < 1024 → shiftedIn g reg s ≡ Outer.shiftedIn E.timesA 16 (at g) reg s
-  unfolding Outer.shiftedIn
+  shifted-agrees : (reg : List ℕ) (s : ℕ) → length reg ≡ 16 → ((i : ℕ) → at reg i < 1024) → s < 1024 → shiftedIn g reg s ≡ Code.shiftedIn E.timesA 16 (at g) reg s
+  unfolding Code.shiftedIn
   shifted-agrees reg s hr h hs =
       let f = xor (at reg 0) s in
       let e : f ≡ E.xor (at reg 0) s = sum-agrees 10 (lit< tt) (at reg 0) s (h 0) hs in
@@ -99,6 +102,6 @@ module _ (g : List ℕ) (long : length g ≡ 17) where
         (λ i l. shifted-agrees (register i) (at w i) (divided-length E.timesA 16 (at g) (at w) i) (divided-lt 10 1033 field-a 16 (at g) (at w) g-lt w-lt i) (w-lt i))
 
 pub parity-agrees : (d : List ℕ) → allBelow 1024 d ≡ true → outerChecks d ≡ outerParity d
-unfolding outerParity
+unfolding parityOf
 parity-agrees d h =
     ap (λ (g : List ℕ). registerFrom g (replicate 16 0) d) generator-agrees ∙ register-agrees Outer.generator generator-length generator-lt d (below-at 1024 d (lit< tt) h)

@@ -3,7 +3,6 @@ use mathlib.Core.Path.{_≡_, refl, sym, ap, _∙_}
 use mathlib.Core.Bool.{true}
 use mathlib.Core.List.{List}
 use Prim.Native.Nat.{ℕ, _*_, _-_, _+_, _/_, _%_, _<_}
-use borrow.Author.Tests.{eq-eqb}
 use lib.Arith.{lt-one}
 use lib.Dec.{lit<}
 use lib.ListN.{length}
@@ -13,13 +12,15 @@ use Rattle.fields.specs.Places.{at, allBelow}
 use Rattle.fields.proofs.Doubling.{doubled-sum}
 use Rattle.fields.proofs.Instances.{field-a}
 use Rattle.fields.proofs.Lists.{tabulate-length, tabulate-lt}
-use Rattle.fields.proofs.Places.Tests.{below-all, every-true}
+use Rattle.fields.proofs.Places.Tests.{below-all}
 use Rattle.words.specs.Bits.{bitOf, bitAt}
-use Rattle.words.specs.OuterCode.{powerA, outerValue, isOuter}
+use Rattle.words.specs.ReedSolomon.{valueAtRoot}
+use Rattle.words.specs.OuterCode.{powerA, isOuter}
 use Rattle.words.specs.InnerCode.{divisor, isInner}
 use Rattle.words.specs.InnerWords.{innerWord}
 use Rattle.words.proofs.Bits.Numbers.{bitOf-zero, numberOf-bits, numberOf-same}
 use Rattle.words.proofs.Codes.Horner.{horner-zero}
+use Rattle.words.proofs.Codes.ReedSolomon.{is-code}
 use Rattle.words.proofs.Bits.Bytes.{bytes-same}
 use Rattle.frames.specs.Frames.{symbolAt, isBlock, dataIn, frameOf, payloadPlace, payloadOf}
 use Rattle.frames.specs.Correction.{receivedBit, receivedSymbol, receivedWord}
@@ -36,10 +37,10 @@ zero-below : (q : ℕ) (w : List ℕ) → 0 < q → Zero w → allBelow q w ≡ 
 zero-below q w h z = below-all q w (λ i l. rw (z i) h)
 
 zero-outer : (w : List ℕ) → Zero w → isOuter w ≡ true
-unfolding isOuter outerValue
+unfolding valueAtRoot
 zero-outer w z =
-    rw (zero-below 1024 w (lit< tt) z)
-    (every-true 16 _ (λ j l. eq-eqb (outerValue w j) 0 (horner-zero (λ v. timesA v (powerA j)) (λ u v. field-a .sum-times u v (powerA j)) (at w) z (length w))))
+    is-code 10 1033 0 16 w (zero-below 1024 w (lit< tt) z)
+    (λ j l. horner-zero (λ v. timesA v (powerA (0 + j))) (λ u v. field-a .sum-times u v (powerA (0 + j))) (at w) z (length w))
 
 zero-inner : (w : List ℕ) → length w ≡ 2040 → Zero w → isInner w ≡ true
 unfolding isInner

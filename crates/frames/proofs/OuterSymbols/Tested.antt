@@ -20,6 +20,7 @@ use Rattle.fields.proofs.Lists.{tabulate-lt}
 use Rattle.fields.proofs.Xor.{xor-shifted}
 use Rattle.fields.proofs.Places.Tests.{every-false, below-at, below-all}
 use Rattle.words.specs.Bits.{bitOf, numberOf, bitAt}
+use Rattle.words.specs.ReedSolomon.{parityOf}
 use Rattle.words.specs.OuterCode.{isOuter, generator, divided, outerParity}
 use Rattle.words.specs.Steps.SixSymbols.{joined, joinedFrom, six, Packs, sixParity}
 use Rattle.words.proofs.Bits.Bytes.{bitAt-lt, number-of-bits}
@@ -208,7 +209,7 @@ module _ (bytes : List ℕ) (w h m l : ℕ) where
   division-end n i en lo hi p = let e : i ≡ dataIn w = omega arith in rw e at p
 
   division-all : (i : ℕ) → i ≡ dataIn w → Packs h m l (dividedTo (bitAt bytes) w i) → Packs h m l (outerParity (take (dataIn w) (receivedWord (bitAt bytes) w)))
-  unfolding dividedTo outerParity
+  unfolding dividedTo parityOf
   division-all i e p =
       let long : length (take (dataIn w) d) ≡ dataIn w = length-take-le (dataIn w) d (omega (arith, received-length (bitAt bytes) w)) in
       let same : divided timesA 16 (at generator) (at (take (dataIn w) d)) (length (take (dataIn w) d)) ≡ divided timesA 16 (at generator) (at d) i =

@@ -15,7 +15,7 @@ use Rattle.fields.proofs.Xor.{xor-zero-r, xor-comm, additive-zero}
 use Rattle.fields.proofs.Doubling.{doubled-sum, doubled-below}
 use Rattle.fields.proofs.Lists.{tabulate-length, tabulate-at, tabulate-same}
 use Rattle.words.specs.Bits.{bitOf}
-use Rattle.words.specs.OuterCode.{shiftedIn, divided}
+use Rattle.words.specs.ReedSolomon.{shiftedIn, divided}
 use Rattle.words.specs.InnerCode.{remainder}
 use Rattle.words.proofs.Bits.Numbers.{bitOf-zero, bitOf-last}
 use Rattle.words.proofs.Codes.Horner.{iter, iter-in, iter-sum}

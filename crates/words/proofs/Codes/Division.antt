@@ -12,7 +12,7 @@ use Rattle.fields.specs.Places.{at, horner, value}
 use Rattle.fields.proofs.Lists.{tabulate-at, tabulate-length}
 use Rattle.fields.proofs.Xor.{xor-zero-r, xor-comm, xor-assoc, xor-self, xor-cancel, additive-zero}
 use Rattle.decoding.proofs.Algebra.Values.{value-lt}
-use Rattle.words.specs.OuterCode.{shiftedIn, divided}
+use Rattle.words.specs.ReedSolomon.{shiftedIn, divided}
 use Rattle.words.proofs.Codes.Horner.{Additive, iter, iter-sum, iter-in, horner-same, horner-sum, horner-front, horner-append, horner-zero, horner-zeros}
 use Rattle.words.proofs.Codes.TableValues.{divided-lt}
 
@@ -51,7 +51,7 @@ module _ (m p : ℕ) (F : Field m p) (x : ℕ) (hx : x < 2 ^ m) where
   f-sum u v = F .sum-times u v x
 
   -- the value of a multiple of a word
-  value-times : (a : ℕ) → a < 2 ^ m → (b : ℕ → ℕ) → ((i : ℕ) → b i < 2 ^ m) → (n : ℕ) → value m p x (λ i. times m p a (b i)) n ≡ times m p a (value m p x b n)
+  pub value-times : (a : ℕ) → a < 2 ^ m → (b : ℕ → ℕ) → ((i : ℕ) → b i < 2 ^ m) → (n : ℕ) → value m p x (λ i. times m p a (b i)) n ≡ times m p a (value m p x b n)
   unfolding horner
   value-times a ha b h zero = sym (F .times-zero a)
   value-times a ha b h (suc n) =

@@ -1,19 +1,20 @@
--- What is proved of the two codes, in one record. Assumes nothing.
+-- What is proved of the codes, in one record. Assumes nothing.
 use mathlib.Core.Path.{_≡_, sym, _∙_}
 use mathlib.Core.Bool.{true}
 use mathlib.Core.List.{List}
 use Prim.Native.Nat.{ℕ, _+_, _≤_, _<_}
 use native.Mathlib.Omega.{arith}
+use lib.Dec.{lit≤}
 use lib.ListN.{length}
 use Rattle.fields.specs.Places.{at, apart, value}
 use Rattle.fields.proofs.Instances.{field-b}
 use Rattle.fields.proofs.Places.Tests.{below-all}
 use Rattle.decoding.proofs.Algebra.MinimumDistance.{far-lists}
-use Rattle.words.specs.OuterCode.{isOuter}
 use Rattle.words.specs.InnerCode.{powerB, isInner}
 use Rattle.words.specs.Nearest.{Decodes}
 use Rattle.words.specs.Codes.{Codes}
-use Rattle.words.proofs.Codes.OuterWords.{outer-is, outer-length, outer-made, outer-only, outer-far}
+use Rattle.words.proofs.Codes.ReedSolomon.{reed-solomon}
+use Rattle.words.proofs.Codes.OuterWords.{outer-code}
 use Rattle.words.proofs.Codes.LeastPolynomials.{factor-vanishes, none-lower}
 use Rattle.words.proofs.Codes.InnerWords.{Inner, inner-is, inner-roots}
 use Rattle.words.proofs.Codes.InnerParity.{inner-length, inner-made, inner-only}
@@ -30,21 +31,18 @@ inner-far c d hc hd =
     zero : (w : List ℕ) → Inner w → (j : ℕ) → j < 16 → value 11 2053 (powerB (1 + j)) (at w) (length w) ≡ 0
     zero w i j l = rw (i .long) (inner-roots w i (1 + j) (omega arith) (omega arith))
 
-outer-nearest : (n : ℕ) → n ≤ 1023 → Decodes isOuter 1024 8 n
-outer-nearest n short =
-    decodes isOuter 1024 8 n (λ c h. below-all 1024 c (λ i l. outer-is c h .symbols i)) (λ c d hc hd lc ld. outer-far c d hc hd (lc ∙ sym ld) (omega arith))
-
 inner-nearest : Decodes isInner 2 8 2040
 inner-nearest = decodes isInner 2 8 2040 (λ c h. below-all 2 c (λ i l. inner-is c h .bits i)) (λ c d hc hd lc ld. inner-far c d hc hd)
 
 pub codes : Codes
 codes =
     record {
-      outer-length = outer-length;
-      outer-made = outer-made;
-      outer-only = outer-only;
-      outer-far = outer-far;
-      outer-nearest = outer-nearest;
+      reed-solomon = reed-solomon;
+      outer-length = outer-code .parity-length;
+      outer-made = outer-code .parity-made;
+      outer-only = λ d q short. outer-code .parity-only d q (omega arith);
+      outer-far = λ c d hc hd same short. outer-code .code-far c d hc hd same (omega arith);
+      outer-nearest = λ n short. outer-code .code-nearest 8 n (lit≤ tt) (omega arith);
       factor-vanishes = factor-vanishes;
       none-lower = none-lower;
       inner-length = inner-length;

@@ -14,7 +14,7 @@ use Rattle.fields.proofs.ByTables.{table-product}
 use Rattle.fields.proofs.Lists.{tabulate-lt}
 use Rattle.decoding.specs.Steps.ByTables.{tableValue}
 use Rattle.decoding.proofs.Algebra.Values.{value-lt}
-use Rattle.words.specs.OuterCode.{shiftedIn, divided}
+use Rattle.words.specs.ReedSolomon.{shiftedIn, divided}
 
 module _ (m p : ℕ) (F : Field m p) where
   pub product-same : (x y : ℕ) → x < 2 ^ m → y < 2 ^ m → tableProduct (powers m p) (exponents m p) x y ≡ times m p x y

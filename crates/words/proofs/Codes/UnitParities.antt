@@ -17,7 +17,8 @@ use Rattle.fields.proofs.Lists.{tabulate-at, tabulate-is, tabulate-same}
 use Rattle.fields.proofs.Pieces.{pieces, look, look-is, once, once-is}
 use Rattle.fields.proofs.Xor.{xor-zero-l, additive-zero}
 use Rattle.fields.proofs.Places.Tests.{every-at}
-use Rattle.words.specs.OuterCode.{withRoot, withRoots, generator, shiftedIn, divided}
+use Rattle.words.specs.ReedSolomon.{withRoot, generatorOf}
+use Rattle.words.specs.OuterCode.{generator, shiftedIn, divided}
 use Rattle.words.specs.Steps.SixSymbols.{joined, joinedFrom, symbolOf, six, sixParity, unitParities}
 use Rattle.words.proofs.Codes.TableValues.{divided-lt}
 use Rattle.words.proofs.Codes.Packing.{symbol-at, divided-same, divided-late, parity-joined, no-cells}
@@ -28,7 +29,7 @@ abbrev coefficients : List ℕ
 coefficients = 1 ∷ 568 ∷ 550 ∷ 748 ∷ 724 ∷ 650 ∷ 1005 ∷ 744 ∷ 27 ∷ 204 ∷ 617 ∷ 218 ∷ 595 ∷ 461 ∷ 746 ∷ 960 ∷ 888 ∷ []
 
 coefficients-are : coefficients ≡ generator
-unfolding generator withRoots withRoot tabulate xor scale doubled times timesFrom power
+unfolding generatorOf withRoot tabulate xor scale doubled times timesFrom power
 coefficients-are = refl
 
 -- a step of the division

@@ -27,7 +27,7 @@ use Rattle.words.specs.declared.Correction.the-variants.{Corrected, Refu
 use Rattle.words.specs.Answers.{refusal, within, found, corrected, outerCorrected}
 use Rattle.words.specs.Steps.Division.{outerRemainder}
 use Rattle.words.specs.Steps.SixSymbols.{Packs, unpacked}
-use Rattle.words.proofs.Decoding.Outer.{tables-a, outer-changes, outer-found, outer-lost}
+use Rattle.words.proofs.Decoding.ReedSolomon.{tables-of, symbols-changed, symbols-found, symbols-lost}
 use Rattle.words.proofs.Steps.Joining.{root-values-made}
 use Rattle.words.proofs.Steps.Entries.{passed}
 
@@ -77,7 +77,7 @@ module _ (w places values out : List ℕ) where
 -- ---- outer words
 
 pub tables-given : (es ls : List ℕ) → es ≡ powersA → ls ≡ exponentsA → Tables es ls
-tables-given es ls exp log = rw (exp, log) tables-a
+tables-given es ls exp log = rw (exp, log) (tables-of 10 1033 field-a)
 
 module _ (w o : List ℕ) (r : ℕ) (told : r ≡ refusal (within 17 1023 (length w)) (eqb (length o) (length w)) (allBelow 1024 w)) where
   pub correct-outer-refused : (r ≡ 0 → ⊥) → _≡_ {A = Correction × List ℕ} (Refused r, o) (outerCorrected w o)
@@ -112,11 +112,11 @@ module _ (w o : List ℕ) (least : 17 ≤ length w) (most : length w ≤ 1023) (
 
       pub correct-outer-lost : (q : ℕ) → 0 < q → b ≡ allBelow q left → length left ≡ 16 → not b ≡ true → _≡_ {A = Correction × List ℕ} (Refused 5, o) (outerCorrected w o)
       unfolding outerCorrected corrected found
-      correct-outer-lost q h test long n = rw (accepted, outer-lost w symbols places values count left D′ long (some-left q h (sym test ∙ not-true b n)))
+      correct-outer-lost q h test long n = rw (accepted, symbols-lost 10 1033 field-a w symbols places values count left D′ long (some-left q h (sym test ∙ not-true b n)))
 
       pub correct-outer-found : b ≡ allBelow 1 left → not b ≡ false → (out : List ℕ) → out ≡ withErrors (at w) places values count (length w) → (changed : ℕ) → changed ≡ weightOf values count →
           _≡_ {A = Correction × List ℕ} (Corrected changed, out) (outerCorrected w o)
       unfolding outerCorrected corrected found
       correct-outer-found test n out e changed c =
           let zero : allBelow 1 left ≡ true = sym test ∙ not-false b n in
-          rw (accepted, outer-found w symbols places values count left D′ zero most, outer-changes w symbols places values count left D′ zero, e, c)
+          rw (accepted, symbols-found 10 1033 field-a w symbols places values count left D′ zero (omega arith), symbols-changed 10 1033 field-a w symbols places values count left D′ zero, e, c)

@@ -10,10 +10,12 @@ use lib.ListN.{length}
 use Rattle.fields.specs.Elements.{doubled, powersA, exponentsA}
 use Rattle.fields.specs.Lists.{tabulate}
 use Rattle.fields.specs.Places.{at, every, allBelow}
+use Rattle.fields.proofs.Instances.{field-a}
 use Rattle.fields.proofs.Lists.{tabulate-at, tabulate-length, tabulate-same}
 use Rattle.fields.proofs.Places.Tests.{every-same}
 use Rattle.decoding.specs.Steps.ByTables.{rootValue, rootValues}
 use Rattle.words.specs.Bits.{bitOf, numberOf, bitAt, bitsOf, bytesOf}
+use Rattle.words.specs.ReedSolomon.{isCodeWord}
 use Rattle.words.specs.OuterCode.{outerValue, isOuter, outerParity}
 use Rattle.words.specs.InnerCode.{divisor, remainder, isInner, innerRemainder, innerParity}
 use Rattle.words.specs.Answers.{refusal, within, answered, firstOf, outerChecked, outerEncoded, innerChecked, innerEncoded}
@@ -23,7 +25,7 @@ use Rattle.words.specs.Steps.Limbs.{number, Represents}
 use Rattle.words.proofs.Bits.Numbers.{numberOf-same}
 use Rattle.words.proofs.Bits.Bytes.{bits-at, bits-below, bits-length}
 use Rattle.words.proofs.Codes.Horner.{horner-same}
-use Rattle.words.proofs.Codes.OuterWords.{root-is}
+use Rattle.words.proofs.Codes.ReedSolomon.{root-is}
 use Rattle.words.proofs.Steps.Joining.{root-values-made}
 
 -- what no refusal tells: the length is right, the buffer fits, and the symbols are below 1,024
@@ -49,7 +51,7 @@ roots-tested : (w : List ℕ) → allBelow 1024 w ≡ true → allBelow 1 (rootV
 unfolding allBelow rootValues
 roots-tested w h =
     let f = rootValue powersA exponentsA w in
-    rw (tabulate-length 16 f) (every-same 16 _ _ (λ j l. below-one (at (tabulate 16 f) j) ∙ ap (λ (v : ℕ). eqb v 0) (tabulate-at 16 f j 0 l ∙ root-is w h j)))
+    rw (tabulate-length 16 f) (every-same 16 _ _ (λ j l. below-one (at (tabulate 16 f) j) ∙ ap (λ (v : ℕ). eqb v 0) (tabulate-at 16 f j 0 l ∙ root-is 10 1033 field-a w h j)))
 
 -- a word that is not refused
 module _ (w : List ℕ) (fits : Bool) (r : ℕ) (told : r ≡ refusal (within 17 1023 (length w)) fits (allBelow 1024 w)) (none : r ≡ 0) where
@@ -77,7 +79,7 @@ module _ (w : List ℕ) (r : ℕ) (told : r ≡ refusal (within 17 1023 (length 
   module _ (none : r ≡ 0) (es ls : List ℕ) (exp : es ≡ powersA) (log : ls ≡ exponentsA) (h m l : ℕ) (p : Packs h m l (outerRemainder w)) (values : List ℕ)
       (v : values ≡ rootValues es ls (unpacked h m l)) (b : Bool) (test : b ≡ allBelow 1 values) where
     code-tested : b ≡ isOuter w
-    unfolding isOuter
+    unfolding isCodeWord
     code-tested =
         let symbols = word-symbols w true r told none in
         let made = root-values-made w (word-parity w true r told none) symbols h m l p es ls values exp log v in

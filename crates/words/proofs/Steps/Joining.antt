@@ -20,10 +20,11 @@ use Rattle.fields.proofs.Xor.{xor-lt, xor-comm, xor-shifted, additive-zero}
 use Rattle.fields.proofs.Places.Tests.{tests-agree, below-at}
 use Rattle.fields.proofs.Places.Filling.{Filled, filled-next, filled-end}
 use Rattle.decoding.specs.Steps.ByTables.{rootValues}
+use Rattle.words.specs.ReedSolomon.{parityOf}
 use Rattle.words.specs.OuterCode.{isOuter, generator, divided, outerParity}
 use Rattle.words.specs.Steps.Division.{outerRemainder}
 use Rattle.words.specs.Steps.SixSymbols.{joined, joinedFrom, symbolOf, six, Packs, packedNumber, unpacked, sixParity, parityEntry, digitParities, unitParities, Stored}
-use Rattle.words.proofs.Codes.OuterWords.{outer-length, parity-below, remainder-cell, remainder-length, remainder-below, zero-code, code-zero, remainder-roots}
+use Rattle.words.proofs.Codes.OuterWords.{outer-length, outer-below, remainder-cell, remainder-length, remainder-below, zero-code, code-zero, remainder-roots}
 use Rattle.words.proofs.Codes.Packing.{shift-sum, parity-sum, joined-same, joined-lt, parity-joined, high-lt, packs-more, entry-is, six-digit, six-sum, unpacked-is, cells-zero, numbers-zero, joined-last}
 use Rattle.words.proofs.Steps.Loops.{dividedUpTo}
 
@@ -219,7 +220,7 @@ module _ (d : List ℕ) (h m l i : ℕ) where
         record { high-six = ea ∙ p .high-six; middle-six = eb ∙ p .middle-six; low-six = ec ∙ p .low-six }
 
     pub packs-end : i ≤ length d → length d ≤ i → Packs h m l (outerParity d)
-    unfolding dividedUpTo outerParity
+    unfolding dividedUpTo parityOf
     packs-end lo hi = let e : i ≡ length d = omega arith in rw e at so-far
 
 -- a symbol of six, and the numbers of a register
@@ -265,7 +266,7 @@ cells-valued es ls cells r h m l e v = v ∙ ap (rootValues es ls) e
 
 module _ (d : List ℕ) (small : allBelow 1024 d ≡ true) (h m l : ℕ) (p : Packs h m l (outerParity d)) where
   pub parity-unpacked : (r : List ℕ) → r ≡ unpacked h m l → r ≡ outerParity d
-  parity-unpacked r e = e ∙ unpacked-is h m l (outerParity d) (outer-length d) (below-at 1024 (outerParity d) (lit< tt) (parity-below d small)) p
+  parity-unpacked r e = e ∙ unpacked-is h m l (outerParity d) (outer-length d) (below-at 1024 (outerParity d) (lit< tt) (outer-below d small)) p
 
 -- the remainder of a word, all but sixteen symbols of which are divided
 module _ (w : List ℕ) (least : 16 ≤ length w) (small : allBelow 1024 w ≡ true) where

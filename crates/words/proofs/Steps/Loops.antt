@@ -16,6 +16,7 @@ use Rattle.fields.proofs.Instances.{field-a}
 use Rattle.fields.proofs.Places.Tests.{below-at}
 use Rattle.fields.proofs.Places.Filling.{Filled, filled-next, filled-end}
 use Rattle.decoding.specs.Steps.ByTables.{tableValue, rootValue, rootValues}
+use Rattle.words.specs.ReedSolomon.{parityOf}
 use Rattle.words.specs.OuterCode.{generator, shiftedIn, divided, outerParity}
 use Rattle.words.proofs.Codes.TableValues.{divided-lt}
 use Rattle.words.proofs.Codes.OuterWords.{generator-lt}
@@ -62,7 +63,7 @@ module _ (d reg : List ℕ) where
     divided-next next e = rw (add-one, ← so-far) e
 
     pub divided-end : i ≤ length d → length d ≤ i → reg ≡ outerParity d
-    unfolding dividedUpTo outerParity
+    unfolding dividedUpTo parityOf
     divided-end l h = let e : i ≡ length d = omega arith in rw e at so-far
 
     -- the first cell is an element

@@ -4,8 +4,6 @@ use mathlib.Core.List.{List}
 use Prim.Native.Nat.{ℕ}
 use Rattle.fields.specs.Elements.{power}
 use Rattle.words.specs.ReedSolomon.{valueAtRoot, isCodeWord, generatorOf, parityOf}
--- the division register is that of every such code
-unfoldable pub use Rattle.words.specs.ReedSolomon.{shiftedIn, divided}
 
 -- a to the i-th in field A
 abbrev pub powerA : ℕ → ℕ

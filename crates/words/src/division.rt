@@ -9,7 +9,8 @@ ghost use Prim.Native.Nat.{_≤_, _<_};
 ghost use Rattle.fields.specs.Lists.{tabulate};
 ghost use Rattle.fields.specs.Elements.{timesA};
 ghost use Rattle.fields.specs.Places.{at, allBelow};
-ghost use Rattle.words.specs.OuterCode.{generator, shiftedIn, outerParity};
+ghost use Rattle.words.specs.ReedSolomon.{shiftedIn};
+ghost use Rattle.words.specs.OuterCode.{generator, outerParity};
 ghost use Rattle.words.specs.Steps.Division.{multiples};
 
 // A digit has so many values.

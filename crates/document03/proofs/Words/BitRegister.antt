@@ -15,7 +15,7 @@ use Rattle.fields.proofs.Doubling.{scale-lt, doubled-sum}
 use Rattle.fields.proofs.Lists.{tabulate-is, tabulate-lt}
 use Rattle.fields.proofs.Places.Filling.{zeros-at}
 use Rattle.words.specs.Bits.{bitOf}
-use Rattle.words.specs.OuterCode.{shiftedIn, divided}
+use Rattle.words.specs.ReedSolomon.{shiftedIn, divided}
 use Rattle.words.specs.InnerCode.{remainder}
 use Rattle.words.proofs.Bits.Numbers.{bitOf-lt}
 use Rattle.words.proofs.Codes.Horner.{iter, horner-zeros}

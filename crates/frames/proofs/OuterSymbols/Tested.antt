@@ -20,8 +20,8 @@ use Rattle.fields.proofs.Lists.{tabulate-lt}
 use Rattle.fields.proofs.Xor.{xor-shifted}
 use Rattle.fields.proofs.Places.Tests.{every-false, below-at, below-all}
 use Rattle.words.specs.Bits.{bitOf, numberOf, bitAt}
-use Rattle.words.specs.ReedSolomon.{parityOf}
-use Rattle.words.specs.OuterCode.{isOuter, generator, divided, outerParity}
+use Rattle.words.specs.ReedSolomon.{parityOf, divided}
+use Rattle.words.specs.OuterCode.{isOuter, generator, outerParity}
 use Rattle.words.specs.Steps.SixSymbols.{joined, joinedFrom, six, Packs, sixParity}
 use Rattle.words.proofs.Bits.Bytes.{bitAt-lt, number-of-bits}
 use Rattle.words.proofs.Bits.Numbers.{numberOf-lt, numberOf-same, number-parts}

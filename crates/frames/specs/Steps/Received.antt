@@ -5,7 +5,8 @@ use Prim.Native.Nat.{ℕ}
 use Rattle.fields.specs.Lists.{tabulate}
 use Rattle.fields.specs.Elements.{timesA}
 use Rattle.fields.specs.Places.{at, every}
-use Rattle.words.specs.OuterCode.{generator, divided, isOuter}
+use Rattle.words.specs.ReedSolomon.{divided}
+use Rattle.words.specs.OuterCode.{generator, isOuter}
 use Rattle.frames.specs.Correction.{receivedSymbol, receivedWord}
 
 -- the outer symbols

@@ -18,7 +18,8 @@ use Rattle.fields.proofs.Instances.{field-a}
 use Rattle.fields.proofs.Lists.{tabulate-at, tabulate-is, tabulate-same, tabulate-length}
 use Rattle.fields.proofs.Xor.{xor-zero-l, xor-zero-r, xor-self, xor-assoc, xor-comm, xor-four, xor-lt, xor-high, xor-shifted, additive-zero}
 use Rattle.fields.proofs.Places.Tests.{below-at}
-use Rattle.words.specs.OuterCode.{generator, shiftedIn, divided}
+use Rattle.words.specs.ReedSolomon.{shiftedIn, divided}
+use Rattle.words.specs.OuterCode.{generator}
 use Rattle.words.specs.Steps.SixSymbols.{joined, joinedFrom, symbolOf, six, Packs, packedNumber, unpacked, sixParity, parityEntry, digitParities}
 use Rattle.words.proofs.Codes.Horner.{Additive, horner-same, horner-sum, horner-zero}
 use Rattle.words.proofs.Codes.TableValues.{divided-lt}

@@ -17,8 +17,8 @@ use Rattle.fields.proofs.Lists.{tabulate-at, tabulate-is, tabulate-same}
 use Rattle.fields.proofs.Pieces.{pieces, look, look-is, once, once-is}
 use Rattle.fields.proofs.Xor.{xor-zero-l, additive-zero}
 use Rattle.fields.proofs.Places.Tests.{every-at}
-use Rattle.words.specs.ReedSolomon.{withRoot, generatorOf}
-use Rattle.words.specs.OuterCode.{generator, shiftedIn, divided}
+use Rattle.words.specs.ReedSolomon.{withRoot, generatorOf, shiftedIn, divided}
+use Rattle.words.specs.OuterCode.{generator}
 use Rattle.words.specs.Steps.SixSymbols.{joined, joinedFrom, symbolOf, six, sixParity, unitParities}
 use Rattle.words.proofs.Codes.TableValues.{divided-lt}
 use Rattle.words.proofs.Codes.Packing.{symbol-at, divided-same, divided-late, parity-joined, no-cells}

@@ -20,8 +20,8 @@ use Rattle.fields.proofs.Xor.{xor-lt, xor-comm, xor-shifted, additive-zero}
 use Rattle.fields.proofs.Places.Tests.{tests-agree, below-at}
 use Rattle.fields.proofs.Places.Filling.{Filled, filled-next, filled-end}
 use Rattle.decoding.specs.Steps.ByTables.{rootValues}
-use Rattle.words.specs.ReedSolomon.{parityOf}
-use Rattle.words.specs.OuterCode.{isOuter, generator, divided, outerParity}
+use Rattle.words.specs.ReedSolomon.{parityOf, divided}
+use Rattle.words.specs.OuterCode.{isOuter, generator, outerParity}
 use Rattle.words.specs.Steps.Division.{outerRemainder}
 use Rattle.words.specs.Steps.SixSymbols.{joined, joinedFrom, symbolOf, six, Packs, packedNumber, unpacked, sixParity, parityEntry, digitParities, unitParities, Stored}
 use Rattle.words.proofs.Codes.OuterWords.{outer-length, outer-below, remainder-cell, remainder-length, remainder-below, zero-code, code-zero, remainder-roots}

@@ -16,8 +16,8 @@ use Rattle.fields.proofs.Instances.{field-a}
 use Rattle.fields.proofs.Places.Tests.{below-at}
 use Rattle.fields.proofs.Places.Filling.{Filled, filled-next, filled-end}
 use Rattle.decoding.specs.Steps.ByTables.{tableValue, rootValue, rootValues}
-use Rattle.words.specs.ReedSolomon.{parityOf}
-use Rattle.words.specs.OuterCode.{generator, shiftedIn, divided, outerParity}
+use Rattle.words.specs.ReedSolomon.{parityOf, shiftedIn, divided}
+use Rattle.words.specs.OuterCode.{generator, outerParity}
 use Rattle.words.proofs.Codes.TableValues.{divided-lt}
 use Rattle.words.proofs.Codes.OuterWords.{generator-lt}
 

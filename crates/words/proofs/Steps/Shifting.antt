@@ -9,7 +9,8 @@ use Rattle.fields.specs.Places.{at}
 use Rattle.fields.proofs.Ways.{past}
 use Rattle.fields.proofs.Xor.{xor-zero-l}
 use Rattle.fields.proofs.Places.Filling.{filled-last, FilledOver, over-next, over-after}
-use Rattle.words.specs.OuterCode.{generator, shiftedIn}
+use Rattle.words.specs.ReedSolomon.{shiftedIn}
+use Rattle.words.specs.OuterCode.{generator}
 use Rattle.words.proofs.Steps.Digits.{DigitMultiples}
 
 -- cell i of the register after reg; f is the leading coefficient

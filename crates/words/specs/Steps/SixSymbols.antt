@@ -6,7 +6,8 @@ use lib.ListN.{length}
 use Rattle.fields.specs.Lists.{tabulate}
 use Rattle.fields.specs.Elements.{timesA}
 use Rattle.fields.specs.Places.{at, horner}
-use Rattle.words.specs.OuterCode.{generator, divided}
+use Rattle.words.specs.ReedSolomon.{divided}
+use Rattle.words.specs.OuterCode.{generator}
 
 -- the number that the n symbols b 0, b 1, .. are, the first the highest; that of n symbols of a word from place i on; and symbol i of six
 unfoldable pub joined : (ℕ → ℕ) → ℕ → ℕ

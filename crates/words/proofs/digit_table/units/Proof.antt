@@ -3,7 +3,7 @@ use mathlib.Core.Path.{refl}
 use Rattle.fields.specs.Elements.{xor, scale, doubled, timesFrom, times}
 use Rattle.fields.specs.Lists.{tabulate}
 use Rattle.fields.specs.Places.{every, horner}
-use Rattle.words.specs.OuterCode.{shiftedIn}
+use Rattle.words.specs.ReedSolomon.{shiftedIn}
 use Rattle.words.specs.Steps.SixSymbols.{joined, joinedFrom, symbolOf}
 use Rattle.words.proofs.Codes.UnitParities.{units-right}
 use Rattle.words.proofs.digit_table.units.Statement.{statement}

@@ -1,7 +1,8 @@
 //! One function for each entry: it makes the call on both sides, and compares the answers and every element of every buffer, before and after.
 
 use crate::guarded::{Element, Guarded};
-use crate::random::Random;
+use cases::random::Random;
+use cases::refusals::{Code::*, Entry, Operation::*};
 use second::Corrected;
 use wrapper::{frames, words, Refusal};
 
@@ -106,6 +107,48 @@ pub fn encode_inner(random: &mut Random, data: &[u8], space: usize) -> Answer {
 pub fn correct_inner(random: &mut Random, word: &[u8], space: usize) -> Answer {
     let expected = second::correct_inner(word, space).map(|(content, changed)| (content, changed as u32));
     compare("correct_inner", word, &mut bytes_before(random, space), expected, words::correct_inner)
+}
+
+/// What an entry reads: symbols for the outer code, else bytes.
+pub enum Input {
+    Bytes(Vec<u8>),
+    Symbols(Vec<u16>),
+}
+
+use Input::*;
+
+impl Input {
+    pub fn len(&self) -> usize {
+        match self {
+            Bytes(bytes) => bytes.len(),
+            Symbols(symbols) => symbols.len(),
+        }
+    }
+
+    /// The largest symbol; bytes are none.
+    pub fn largest(&self) -> u16 {
+        match self {
+            Bytes(_) => 0,
+            Symbols(symbols) => symbols.iter().copied().max().unwrap_or(0),
+        }
+    }
+}
+
+/// The call of an entry of the table; the counts of a report are given a space for `places`.
+pub fn call(entry: &Entry, random: &mut Random, input: &Input, space: usize, places: usize) -> Answer {
+    match (entry.operation, entry.code, input) {
+        (Encode, Frame, Bytes(payload)) => encode_frame(random, payload, space),
+        (Check, Frame, Bytes(block)) => check_frame(block),
+        (Extract, Frame, Bytes(block)) => extract_payload(random, block, space),
+        (Correct, Frame, Bytes(block)) => correct_frame(random, block, space, places).map(|answer| answer.err().unwrap_or(0)),
+        (Check, Outer, Symbols(word)) => check_outer(word),
+        (Encode, Outer, Symbols(data)) => encode_outer(random, data, space),
+        (Correct, Outer, Symbols(word)) => correct_outer(random, word, space),
+        (Check, Inner, Bytes(word)) => check_inner(word),
+        (Encode, Inner, Bytes(data)) => encode_inner(random, data, space),
+        (Correct, Inner, Bytes(word)) => correct_inner(random, word, space),
+        _ => Err(format!("{} reads something else", entry.name)),
+    }
 }
 
 #[cfg(test)]

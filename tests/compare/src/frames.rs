@@ -1,36 +1,21 @@
 //! Cases on whole frames.
 
 use crate::calls::{self, Answer};
-use crate::layout::*;
-use crate::light;
-use crate::random::Random;
 use crate::Done;
-
-fn payload(random: &mut Random) -> Vec<u8> {
-    match random.below(10) {
-        0 => vec![0; PAYLOAD],
-        1 => vec![255; PAYLOAD],
-        2 => vec![random.next() as u8; PAYLOAD],
-        3 => {
-            let mut one_bit = vec![0; PAYLOAD];
-            flip(&mut one_bit, random.below(8 * PAYLOAD));
-            one_bit
-        }
-        _ => random.bytes(PAYLOAD),
-    }
-}
-
-fn frame_of(payload: &[u8]) -> Vec<u8> {
-    second::encode_frame(payload, BLOCK).expect("a payload has a frame")
-}
+use cases::damage::{self, in_symbols_of_lost, in_word, in_words, invert, inverted};
+use cases::layout::*;
+use cases::light;
+use cases::payloads;
+use cases::random::Random;
+use cases::refusals::UNCORRECTABLE;
 
 fn sent(random: &mut Random) -> Vec<u8> {
-    frame_of(&payload(random))
+    payloads::frame(&payloads::any(random))
 }
 
 pub fn encode(random: &mut Random, _: u64) -> Result<Done, String> {
-    let payload = payload(random);
-    let answer = calls::encode_frame(random, &payload, BLOCK)?;
+    let payload = payloads::any(random);
+    let answer = calls::encode_frame(random, &payload, FRAME)?;
     Ok(Done { answer, damaged: false })
 }
 
@@ -38,11 +23,11 @@ pub fn encode(random: &mut Random, _: u64) -> Result<Done, String> {
 pub fn check_and_extract(random: &mut Random, number: u64) -> Result<Done, String> {
     let mut block = sent(random);
     let frame = block.clone();
+    let few = if number % 6 == 2 { random.from(2, 20) } else { 1 };
     match number % 6 {
         0 => {}
-        1 => flip(&mut block, random.below(BITS)),
-        2 => (0..random.from(2, 20)).for_each(|_| flip(&mut block, random.below(BITS))),
-        3 => flip(&mut block, random.from(OUTER_BITS, BITS - 1)),
+        1 | 2 => invert(&mut block, damage::scattered(random, few, 0..FRAME_BITS)),
+        3 => invert(&mut block, damage::scattered(random, few, OUTER_BITS..FRAME_BITS)),
         4 => exchange(random, &mut block, true),
         _ => exchange(random, &mut block, false),
     }
@@ -63,18 +48,18 @@ fn check_both(random: &mut Random, block: &[u8]) -> Answer {
 /// symbols with a wrong bit from one of them. Gives the wrong bits of each inner word, where it holds.
 fn premise(sent: &[u8], block: &[u8]) -> Option<[u16; INNER_WORDS]> {
     let wrong = wrong_bits(sent, block);
-    let mut counts = [0u16; INNER_WORDS];
-    wrong.iter().for_each(|i| counts[i % INNER_WORDS] += 1);
-    let mut symbols: Vec<_> = wrong.iter().filter(|&&i| i < OUTER_BITS && counts[i % INNER_WORDS] > 8).map(|&i| symbol_of(i)).collect();
+    let counts = counts(&wrong);
+    let lost = |k: usize| usize::from(counts[k]) > RADIUS;
+    let mut symbols: Vec<_> = wrong.iter().filter(|&&i| i < OUTER_BITS && lost(i % INNER_WORDS)).map(|&i| symbol_of(i)).collect();
     symbols.dedup();
-    let within = (0..OUTER_WORDS).all(|w| symbols.iter().filter(|s| s.0 == w).count() <= 8);
-    let far = |k: usize| counts[k] <= 8 || second::correct_inner(&inner_word(block, k), 255).is_err();
+    let within = (0..OUTER_WORDS).all(|w| symbols.iter().filter(|s| s.0 == w).count() <= RADIUS);
+    let far = |k: usize| !lost(k) || second::correct_inner(&inner_word(block, k), INNER_BYTES).is_err();
     (within && (0..INNER_WORDS).all(far)).then_some(counts)
 }
 
 /// Corrected on both sides; and within demand 3's premise the answer is the sent frame with exact counts.
 fn correct(random: &mut Random, sent: &[u8], block: &[u8]) -> Result<Done, String> {
-    let answer = calls::correct_frame(random, block, BLOCK, INNER_WORDS)?;
+    let answer = calls::correct_frame(random, block, FRAME, INNER_WORDS)?;
     if let Some(counts) = premise(sent, block) {
         match &answer {
             Ok(c) if c.frame == sent && c.counts == counts => {}
@@ -90,50 +75,28 @@ fn correct(random: &mut Random, sent: &[u8], block: &[u8]) -> Result<Done, Strin
 /// Any number of wrong bits, anywhere.
 pub fn scattered(random: &mut Random, _: u64) -> Result<Done, String> {
     let sent = sent(random);
-    let mut block = sent.clone();
     let most = [8, 64, 300, 600, 2_000, 20_000][random.below(6)];
-    for _ in 0..random.from(0, most) {
-        flip(&mut block, random.below(BITS));
-    }
+    let several = random.from(0, most);
+    let block = inverted(&sent, damage::scattered(random, several, 0..FRAME_BITS));
     correct(random, &sent, &block)
 }
 
 /// Neighbouring bits, all inverted or in any pattern; up to 512 they are within demand 3's premise.
 pub fn burst(random: &mut Random, number: u64) -> Result<Done, String> {
     let sent = sent(random);
-    let mut block = sent.clone();
     let length = match number % 4 {
         0 => 512,
         1 => random.from(1, 511),
         2 => random.from(513, 520),
         _ => random.from(513, 1_100),
     };
-    let from = random.below(BITS - length + 1);
+    let from = random.below(FRAME_BITS - length + 1);
     let whole = random.chance(2);
-    for i in from..from + length {
-        if whole || random.chance(2) {
-            flip(&mut block, i);
-        }
-    }
+    let block = inverted(&sent, damage::run(random, from..from + length, whole));
     if length <= 512 && premise(&sent, &block).is_none() {
         return Err(format!("{length} neighbouring bits from {from} on break demand 3's premise"));
     }
     correct(random, &sent, &block)
-}
-
-fn damage_word(random: &mut Random, block: &mut [u8], k: usize, n: usize) {
-    for p in random.choose(n, PLACES) {
-        flip(block, place(k, p));
-    }
-}
-
-/// So many inner words with so many wrong bits each; the numbers are the least and the most.
-fn damage_words(random: &mut Random, block: &mut [u8], words: (usize, usize), bits: (usize, usize)) {
-    let several = random.from(words.0, words.1);
-    for k in random.choose(several, INNER_WORDS) {
-        let n = random.from(bits.0, bits.1);
-        damage_word(random, block, k, n);
-    }
 }
 
 /// Every inner word with the same number of wrong bits, 0 to 10 by turns.
@@ -141,7 +104,7 @@ pub fn each_word(random: &mut Random, number: u64) -> Result<Done, String> {
     let sent = sent(random);
     let mut block = sent.clone();
     for k in 0..INNER_WORDS {
-        damage_word(random, &mut block, k, (number % 11) as usize);
+        invert(&mut block, in_word(random, k, (number % 11) as usize));
     }
     correct(random, &sent, &block)
 }
@@ -153,7 +116,7 @@ pub fn mixed(random: &mut Random, _: u64) -> Result<Done, String> {
     let past = random.below(13);
     for k in 0..INNER_WORDS {
         let n = if k < past { random.from(9, 10) } else { random.below(9) };
-        damage_word(random, &mut block, (k * 37) % INNER_WORDS, n);
+        invert(&mut block, in_word(random, (k * 37) % INNER_WORDS, n));
     }
     correct(random, &sent, &block)
 }
@@ -163,9 +126,9 @@ pub fn few_words(random: &mut Random, _: u64) -> Result<Done, String> {
     let sent = sent(random);
     let mut block = sent.clone();
     let most = [12, 25, 50, 200][random.below(4)];
-    damage_words(random, &mut block, (1, 9), (9, most));
+    invert(&mut block, in_words(random, (1, 9), (9, most)));
     if random.chance(2) {
-        damage_words(random, &mut block, (0, 39), (0, 8));
+        invert(&mut block, in_words(random, (0, 39), (0, 8)));
     }
     correct(random, &sent, &block)
 }
@@ -179,11 +142,7 @@ pub fn outer_limit(random: &mut Random, _: u64) -> Result<Done, String> {
     let chosen = random.below(OUTER_WORDS);
     for w in 0..OUTER_WORDS {
         let n = if w == chosen { random.from(7, 10) } else { random.from(0, 8) };
-        let of_lost = |s: usize| symbol(w, s).filter(|i| lost.contains(&(i % INNER_WORDS))).collect::<Vec<_>>();
-        let symbols: Vec<Vec<usize>> = (0..data_symbols(w) + 16).map(of_lost).filter(|bits| !bits.is_empty()).collect();
-        for s in random.choose(n, symbols.len()) {
-            symbols[s].iter().for_each(|&i| flip(&mut block, i));
-        }
+        invert(&mut block, in_symbols_of_lost(random, w, n, &lost));
     }
     correct(random, &sent, &block)
 }
@@ -191,17 +150,14 @@ pub fn outer_limit(random: &mut Random, _: u64) -> Result<Done, String> {
 /// Around the end of word 15: its last data symbol, the parity symbols after it and the first parity bits of inner words, or around its start.
 pub fn last_word(random: &mut Random, _: u64) -> Result<Done, String> {
     let sent = sent(random);
-    let mut block = sent.clone();
-    let middle = [117_150, 124_767, OUTER_BITS, BITS - 1][random.below(4)];
+    let middle = [117_150, 124_767, OUTER_BITS, FRAME_BITS - 1][random.below(4)];
     let around = [4, 20, 100, 300][random.below(4)];
-    let (from, to) = (middle - around, (middle + around).min(BITS - 1));
-    for _ in 0..random.from(1, 3 * around) {
-        flip(&mut block, random.from(from, to));
-    }
+    let several = random.from(1, 3 * around);
+    let mut block = inverted(&sent, damage::scattered(random, several, middle - around..(middle + around + 1).min(FRAME_BITS)));
     if random.chance(2) {
         let k = random.below(INNER_WORDS);
         let n = random.from(9, 30);
-        damage_word(random, &mut block, k, n);
+        invert(&mut block, in_word(random, k, n));
     }
     correct(random, &sent, &block)
 }
@@ -209,15 +165,16 @@ pub fn last_word(random: &mut Random, _: u64) -> Result<Done, String> {
 /// Blocks that no frame stands behind: constant bytes, with a few bits inverted or none, and random ones.
 pub fn no_frame(random: &mut Random, number: u64) -> Result<Done, String> {
     let mut block = match number % 4 {
-        0 => vec![0; BLOCK],
-        1 => vec![255; BLOCK],
-        2 => vec![random.next() as u8; BLOCK],
-        _ => random.bytes(BLOCK),
+        0 => vec![0; FRAME],
+        1 => vec![255; FRAME],
+        2 => vec![random.next() as u8; FRAME],
+        _ => random.bytes(FRAME),
     };
     if number >= 8 {
-        (0..random.below(20)).for_each(|_| flip(&mut block, random.below(BITS)));
+        let few = random.below(20);
+        invert(&mut block, damage::scattered(random, few, 0..FRAME_BITS));
     }
-    let zeros = vec![0; BLOCK];
+    let zeros = vec![0; FRAME];
     let done = correct(random, &zeros, &block)?;
     check_both(random, &block)?;
     Ok(Done { damaged: false, ..done })
@@ -226,20 +183,10 @@ pub fn no_frame(random: &mut Random, number: u64) -> Result<Done, String> {
 /// One outer word becomes another code word, whose padding bits are zero; parity bits afresh, so that the block is a frame, or as they were.
 fn exchange(random: &mut Random, block: &mut [u8], afresh: bool) {
     let w = random.below(OUTER_WORDS);
-    put_code_word(random, block, w, 0);
+    damage::exchange(random, block, w, 0);
     if afresh {
         renew_parity(block);
     }
-}
-
-fn put_code_word(random: &mut Random, block: &mut [u8], w: usize, padding: u16) {
-    let mut word = random.symbols(data_symbols(w));
-    if w == 15 {
-        word[761] = word[761] & !3 | padding;
-    }
-    let parity = second::encode_outer(&word, 16).expect("data has parity");
-    word.extend(parity);
-    put_outer(block, w, &word);
 }
 
 /// An outer word exchanged, and damage on top.
@@ -247,7 +194,7 @@ pub fn exchanged(random: &mut Random, number: u64) -> Result<Done, String> {
     let sent = sent(random);
     let mut block = sent.clone();
     exchange(random, &mut block, number % 2 == 0);
-    damage_words(random, &mut block, (0, 19), (0, 9));
+    invert(&mut block, in_words(random, (0, 19), (0, 9)));
     correct(random, &sent, &block)
 }
 
@@ -255,11 +202,11 @@ pub fn exchanged(random: &mut Random, number: u64) -> Result<Done, String> {
 pub fn padding(random: &mut Random, number: u64) -> Result<Done, String> {
     let sent = sent(random);
     let mut block = sent.clone();
-    put_code_word(random, &mut block, 15, 1 + (number % 3) as u16);
+    damage::exchange(random, &mut block, LAST_WORD, 1 + (number % 3) as u16);
     renew_parity(&mut block);
-    damage_words(random, &mut block, (0, 9), (0, 8));
+    invert(&mut block, in_words(random, (0, 9), (0, 8)));
     let done = correct(random, &sent, &block)?;
-    if done.answer != 5 {
+    if done.answer != UNCORRECTABLE {
         return Err(format!("word 15 with padding bits that are not zero: answer {}", done.answer));
     }
     Ok(done)
@@ -267,24 +214,22 @@ pub fn padding(random: &mut Random, number: u64) -> Result<Done, String> {
 
 /// Two frames whose payloads differ in one symbol differ in 17 symbols of one outer word; some of these as in the other frame, parity bits afresh, and a few wrong bits.
 pub fn between_frames(random: &mut Random, _: u64) -> Result<Done, String> {
-    let first = payload(random);
+    let payload = payloads::any(random);
     let w = random.below(OUTER_WORDS);
-    let mut other = first.clone();
     let s = random.below(data_symbols(w));
-    let width = symbol(w, s).len();
-    (0..random.from(1, 3)).for_each(|_| flip(&mut other, 7_650 * w + 10 * s + random.below(width)));
-    let (sent, other) = (frame_of(&first), frame_of(&other));
+    let (first, few) = (WORD_DATA_BITS * w + 10 * s, random.from(1, 3));
+    let other = inverted(&payload, damage::scattered(random, few, first..first + symbol(w, s).len()));
+    let (sent, other) = (payloads::frame(&payload), payloads::frame(&other));
     let different = |s: &usize| symbol(w, *s).any(|i| bit(&sent, i) != bit(&other, i));
-    let symbols: Vec<usize> = (0..data_symbols(w) + 16).filter(different).collect();
+    let symbols: Vec<usize> = (0..symbols_in(w)).filter(different).collect();
     let mut block = sent.clone();
     let several = random.from(6, 11).min(symbols.len());
     for s in random.choose(several, symbols.len()) {
         symbol(w, symbols[s]).for_each(|i| put(&mut block, i, bit(&other, i)));
     }
     renew_parity(&mut block);
-    for _ in 0..random.below(40) {
-        flip(&mut block, random.below(BITS));
-    }
+    let few = random.below(40);
+    invert(&mut block, damage::scattered(random, few, 0..FRAME_BITS));
     correct(random, &sent, &block)
 }
 
@@ -296,9 +241,7 @@ pub fn towards_code_words(random: &mut Random, _: u64) -> Result<Done, String> {
     for k in random.choose(several, INNER_WORDS) {
         let places = light::code_word(random);
         let n = random.from(7, 11);
-        for p in random.choose(n, places.len()) {
-            flip(&mut block, place(k, places[p]));
-        }
+        invert(&mut block, random.choose(n, places.len()).into_iter().map(|p| place(k, places[p])));
     }
     correct(random, &sent, &block)
 }
@@ -310,9 +253,9 @@ pub fn omitted_places(random: &mut Random, _: u64) -> Result<Done, String> {
     let several = random.from(1, 7);
     for k in random.choose(several, INNER_WORDS) {
         let (places, front) = light::with_ones_in_front(random);
-        places.iter().for_each(|&p| flip(&mut block, place(k, p)));
-        let n = random.from(0, 8 - front);
-        damage_word(random, &mut block, k, n);
+        invert(&mut block, places.into_iter().map(|p| place(k, p)));
+        let n = random.from(0, RADIUS - front);
+        invert(&mut block, in_word(random, k, n));
     }
     correct(random, &sent, &block)
 }

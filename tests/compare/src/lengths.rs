@@ -1,109 +1,68 @@
-//! Cases on lengths: the number of the case is the length of one buffer, while the others are as they should be; and any lengths together.
+//! Cases on lengths, of every entry of the table: the number of the case is the length of one buffer, while the other is as it should be; and any lengths
+//! together. Where the table says that a call is refused for its lengths or symbols, that has to be the answer of both sides.
 
-use crate::calls;
-use crate::layout::{BLOCK, INNER_WORDS, PAYLOAD};
-use crate::random::Random;
+use crate::calls::{self, Input};
 use crate::Done;
+use cases::damage::invert;
+use cases::layout::{data_symbols, symbols_in, FRAME, INNER_WORDS};
+use cases::payloads;
+use cases::random::Random;
+use cases::refusals::{entry_of, Code, Content, Entry, Given, Operation, Written, ENTRIES};
 
-fn done(answer: u8) -> Result<Done, String> {
+/// The length of an outer word or its data where another length is the case's.
+const SOME_SYMBOLS: usize = 100;
+
+fn answered(entry: &Entry, random: &mut Random, input: &Input, space: usize, places: usize) -> Result<Done, String> {
+    let answer = calls::call(entry, random, input, space, places)?;
+    let refused = entry.answer(&Given { largest: input.largest(), ..Given::of_length(input.len(), space, Content::AsSent) });
+    if refused != 0 && refused != answer {
+        return Err(format!("{}: both sides answer {answer}, and its lengths and symbols are refused by {refused}", entry.name));
+    }
     Ok(Done { answer, damaged: false })
 }
 
-/// The zero frame with a few bits inverted, cut or continued with random bytes to n.
+/// The zero frame with a bit inverted or none, cut or continued with random bytes to n.
 fn block(random: &mut Random, n: usize) -> Vec<u8> {
-    let mut block = vec![0; n.min(BLOCK)];
+    let mut block = payloads::zero_frame()[..n.min(FRAME)].to_vec();
     if n > 0 && random.chance(2) {
-        block[random.below(n.min(BLOCK))] = 1;
+        let i = random.below(block.len());
+        invert(&mut block, [8 * i + 7]);
     }
     block.extend(random.bytes(n - block.len()));
     block
 }
 
-pub fn encode_frame_payload(random: &mut Random, n: u64) -> Result<Done, String> {
-    let payload = random.bytes(n as usize);
-    done(calls::encode_frame(random, &payload, BLOCK)?)
+/// A word of n zeros but for a 1 somewhere.
+fn single_one(random: &mut Random, n: usize) -> Vec<u16> {
+    let mut word = vec![0; n];
+    word[random.below(n)] = 1;
+    word
 }
 
-pub fn encode_frame_out(random: &mut Random, n: u64) -> Result<Done, String> {
-    let payload = random.bytes(PAYLOAD);
-    done(calls::encode_frame(random, &payload, n as usize)?)
+fn input(entry: &Entry, random: &mut Random, n: usize) -> Input {
+    match (entry.operation, entry.code) {
+        (_, Code::Outer) => Input::Symbols(random.symbols(n)),
+        (_, Code::Inner) => Input::Bytes(random.bytes(n)),
+        (Operation::Encode, Code::Frame) => Input::Bytes(payloads::random(random, n)),
+        (_, Code::Frame) => Input::Bytes(block(random, n)),
+    }
 }
 
-pub fn check_frame_block(random: &mut Random, n: u64) -> Result<Done, String> {
-    let block = block(random, n as usize);
-    done(calls::check_frame(&block)?)
+/// The entry with input of a length.
+pub fn of_input(entry: &Entry, random: &mut Random, n: usize) -> Result<Done, String> {
+    let input = input(entry, random, n);
+    answered(entry, random, &input, entry.space(n), INNER_WORDS)
 }
 
-pub fn extract_payload_block(random: &mut Random, n: u64) -> Result<Done, String> {
-    let block = block(random, n as usize);
-    done(calls::extract_payload(random, &block, PAYLOAD)?)
-}
-
-pub fn extract_payload_out(random: &mut Random, n: u64) -> Result<Done, String> {
-    let block = block(random, BLOCK);
-    done(calls::extract_payload(random, &block, n as usize)?)
-}
-
-pub fn correct_frame_block(random: &mut Random, n: u64) -> Result<Done, String> {
-    let block = block(random, n as usize);
-    done(calls::correct_frame(random, &block, BLOCK, INNER_WORDS)?.err().unwrap_or(0))
-}
-
-pub fn correct_frame_out(random: &mut Random, n: u64) -> Result<Done, String> {
-    let block = block(random, BLOCK);
-    done(calls::correct_frame(random, &block, n as usize, INNER_WORDS)?.err().unwrap_or(0))
-}
-
-pub fn check_outer_word(random: &mut Random, n: u64) -> Result<Done, String> {
-    let word = random.symbols(n as usize);
-    done(calls::check_outer(&word)?)
-}
-
-pub fn encode_outer_data(random: &mut Random, n: u64) -> Result<Done, String> {
-    let data = random.symbols(n as usize);
-    done(calls::encode_outer(random, &data, 16)?)
-}
-
-pub fn encode_outer_out(random: &mut Random, n: u64) -> Result<Done, String> {
-    let data = random.symbols(100);
-    done(calls::encode_outer(random, &data, n as usize)?)
-}
-
-pub fn correct_outer_word(random: &mut Random, n: u64) -> Result<Done, String> {
-    let word = random.symbols(n as usize);
-    done(calls::correct_outer(random, &word, n as usize)?)
-}
-
-pub fn correct_outer_out(random: &mut Random, n: u64) -> Result<Done, String> {
-    let mut word = vec![0; 100];
-    word[random.below(100)] = 1;
-    done(calls::correct_outer(random, &word, n as usize)?)
-}
-
-pub fn check_inner_word(random: &mut Random, n: u64) -> Result<Done, String> {
-    let word = random.bytes(n as usize);
-    done(calls::check_inner(&word)?)
-}
-
-pub fn encode_inner_data(random: &mut Random, n: u64) -> Result<Done, String> {
-    let data = random.bytes(n as usize);
-    done(calls::encode_inner(random, &data, 11)?)
-}
-
-pub fn encode_inner_out(random: &mut Random, n: u64) -> Result<Done, String> {
-    let data = random.bytes(244);
-    done(calls::encode_inner(random, &data, n as usize)?)
-}
-
-pub fn correct_inner_word(random: &mut Random, n: u64) -> Result<Done, String> {
-    let word = random.bytes(n as usize);
-    done(calls::correct_inner(random, &word, 255)?)
-}
-
-pub fn correct_inner_out(random: &mut Random, n: u64) -> Result<Done, String> {
-    let mut word = vec![0; 255];
-    word[random.below(255)] = 1;
-    done(calls::correct_inner(random, &word, n as usize)?)
+/// The entry with a space for what it writes; single words that it corrects have one wrong symbol or bit.
+pub fn of_space(entry: &Entry, random: &mut Random, space: usize) -> Result<Done, String> {
+    let n = if entry.takes_one_length() { *entry.lengths.start() } else { SOME_SYMBOLS };
+    let input = match (entry.operation, entry.code) {
+        (Operation::Correct, Code::Outer) => Input::Symbols(single_one(random, n)),
+        (Operation::Correct, Code::Inner) => Input::Bytes(payloads::to_bytes(&single_one(random, n))),
+        _ => input(entry, random, n),
+    };
+    answered(entry, random, &input, space, INNER_WORDS)
 }
 
 /// A length that is right, near to it, or any up to 20,000.
@@ -115,52 +74,40 @@ fn near(random: &mut Random, right: usize) -> usize {
     }
 }
 
+/// A length that the entry takes: the only one, or the least, the most or that of a frame's outer words.
+fn right_length(entry: &Entry, random: &mut Random) -> usize {
+    if entry.takes_one_length() {
+        return *entry.lengths.start();
+    }
+    let in_frame = if entry.operation == Operation::Encode { data_symbols(0) } else { symbols_in(0) };
+    [*entry.lengths.start(), in_frame, *entry.lengths.end()][random.below(3)]
+}
+
+/// Zeros and a few other bytes, or symbols, in some of which one is too large.
+fn mixed_input(entry: &Entry, random: &mut Random, n: usize) -> Input {
+    if entry.code != Code::Outer {
+        let bytes = block(random, n);
+        return Input::Bytes(if entry.operation == Operation::Encode && entry.code == Code::Frame { payloads::of_bytes(&bytes) } else { bytes });
+    }
+    let mut symbols = random.symbols(n);
+    if n > 0 && random.chance(2) {
+        symbols[random.below(n)] = 1_024;
+    }
+    Input::Symbols(symbols)
+}
+
 /// Two lengths at once, so that the order of refusals shows; outer words and data with a symbol above 1,023 in some.
 pub fn together(random: &mut Random, number: u64) -> Result<Done, String> {
-    let symbols = |random: &mut Random, right: usize| {
-        let n = near(random, right);
-        let mut symbols = random.symbols(n);
-        if n > 0 && random.chance(2) {
-            symbols[random.below(n)] = 1_024;
-        }
-        symbols
-    };
-    let bytes = |random: &mut Random, right: usize| {
-        let n = near(random, right);
-        block(random, n)
-    };
-    done(match number % 7 {
-        0 => {
-            let (payload, space) = (bytes(random, PAYLOAD), near(random, BLOCK));
-            calls::encode_frame(random, &payload, space)?
-        }
-        1 => {
-            let (block, space) = (bytes(random, BLOCK), near(random, PAYLOAD));
-            calls::extract_payload(random, &block, space)?
-        }
-        2 => {
-            let (block, space, places) = (bytes(random, BLOCK), near(random, BLOCK), near(random, INNER_WORDS));
-            calls::correct_frame(random, &block, space, places)?.err().unwrap_or(0)
-        }
-        3 => {
-            let right = [1, 765, 1_007][random.below(3)];
-            let (data, space) = (symbols(random, right), near(random, 16));
-            calls::encode_outer(random, &data, space)?
-        }
-        4 => {
-            let right = [17, 781, 1_023][random.below(3)];
-            let (word, space) = (symbols(random, right), near(random, right));
-            calls::check_outer(&word)?;
-            calls::correct_outer(random, &word, space)?
-        }
-        5 => {
-            let (data, space) = (bytes(random, 244), near(random, 11));
-            calls::encode_inner(random, &data, space)?
-        }
-        _ => {
-            let (word, space) = (bytes(random, 255), near(random, 255));
-            calls::check_inner(&word)?;
-            calls::correct_inner(random, &word, space)?
-        }
-    })
+    let writing: Vec<&Entry> = ENTRIES.iter().filter(|entry| entry.written != Written::Nothing).collect();
+    let entry = writing[number as usize % writing.len()];
+    let right = right_length(entry, random);
+    let length = near(random, right);
+    let input = mixed_input(entry, random, length);
+    let space = near(random, entry.space(right));
+    if entry.operation != Operation::Correct {
+        return answered(entry, random, &input, space, INNER_WORDS);
+    }
+    let places = if entry.code == Code::Frame { near(random, INNER_WORDS) } else { INNER_WORDS };
+    answered(entry_of(Operation::Check, entry.code), random, &input, 0, INNER_WORDS)?;
+    answered(entry, random, &input, space, places)
 }

@@ -9,13 +9,12 @@
 mod calls;
 mod frames;
 mod guarded;
-mod layout;
 mod lengths;
-mod light;
-mod random;
 mod words;
 
-use random::Random;
+use cases::random::Random;
+use cases::refusals::{Entry, Written, ENTRIES};
+use std::collections::BTreeMap;
 use std::panic::{catch_unwind, AssertUnwindSafe};
 use std::process::ExitCode;
 use std::sync::atomic::{AtomicU64, Ordering::Relaxed};
@@ -28,79 +27,81 @@ pub struct Done {
     pub damaged: bool,
 }
 
+type Case = Box<dyn Fn(&mut Random, u64) -> Result<Done, String> + Sync>;
+
 struct Group {
-    name: &'static str,
+    name: String,
     quick: u64,
     long: u64,
-    case: fn(&mut Random, u64) -> Result<Done, String>,
+    case: Case,
 }
 
-const fn group(name: &'static str, quick: u64, long: u64, case: fn(&mut Random, u64) -> Result<Done, String>) -> Group {
-    Group { name, quick, long, case }
+fn group(name: &str, quick: u64, long: u64, case: impl Fn(&mut Random, u64) -> Result<Done, String> + Sync + 'static) -> Group {
+    Group { name: name.into(), quick, long, case: Box::new(case) }
 }
 
-/// Lengths from 0 to 20,000, every one of them in both sets.
-const fn sweep(name: &'static str, case: fn(&mut Random, u64) -> Result<Done, String>) -> Group {
-    group(name, 20_001, 20_001, case)
+/// Lengths from 0 to 20,000, every one of them in both sets: of what an entry reads, and of the space for what it writes.
+const LENGTHS: u64 = 20_001;
+
+fn sweeps(entry: &'static Entry) -> Vec<Group> {
+    let (read, space) = (format!("{}-{}-length", entry.name, entry.input), format!("{}-out-length", entry.name));
+    let mut groups = vec![group(&read, LENGTHS, LENGTHS, |random, n| lengths::of_input(entry, random, n as usize))];
+    if entry.written != Written::Nothing {
+        groups.push(group(&space, LENGTHS, LENGTHS, |random, n| lengths::of_space(entry, random, n as usize)));
+    }
+    groups
 }
 
-const GROUPS: &[Group] = &[
-    group("encode", 2_000, 24_000, frames::encode),
-    group("check-and-extract", 2_400, 28_800, frames::check_and_extract),
-    group("scattered", 1_200, 14_400, frames::scattered),
-    group("burst", 1_600, 19_200, frames::burst),
-    group("each-word", 1_100, 13_200, frames::each_word),
-    group("mixed", 800, 9_600, frames::mixed),
-    group("few-words", 1_600, 19_200, frames::few_words),
-    group("outer-limit", 1_600, 19_200, frames::outer_limit),
-    group("last-word", 1_600, 19_200, frames::last_word),
-    group("no-frame", 400, 4_800, frames::no_frame),
-    group("exchanged", 800, 9_600, frames::exchanged),
-    group("padding", 600, 7_200, frames::padding),
-    group("between-frames", 800, 9_600, frames::between_frames),
-    group("towards-code-words", 800, 9_600, frames::towards_code_words),
-    group("omitted-places", 800, 9_600, frames::omitted_places),
-    group("encode-outer", 20_000, 200_000, words::encode_outer),
-    group("correct-outer", 44_000, 440_000, words::correct_outer),
-    group("between-outer", 20_000, 200_000, words::between_outer),
-    group("any-outer", 20_000, 200_000, words::any_outer),
-    group("omitted-outer", 20_000, 200_000, words::omitted_outer),
-    group("encode-inner", 20_000, 200_000, words::encode_inner),
-    group("correct-inner", 44_000, 440_000, words::correct_inner),
-    group("between-inner", 20_000, 200_000, words::between_inner),
-    group("omitted-inner", 20_000, 200_000, words::omitted_inner),
-    group("any-inner", 20_000, 200_000, words::any_inner),
-    sweep("encode-frame-payload-length", lengths::encode_frame_payload),
-    sweep("encode-frame-out-length", lengths::encode_frame_out),
-    sweep("check-frame-block-length", lengths::check_frame_block),
-    sweep("extract-payload-block-length", lengths::extract_payload_block),
-    sweep("extract-payload-out-length", lengths::extract_payload_out),
-    sweep("correct-frame-block-length", lengths::correct_frame_block),
-    sweep("correct-frame-out-length", lengths::correct_frame_out),
-    sweep("check-outer-word-length", lengths::check_outer_word),
-    sweep("encode-outer-data-length", lengths::encode_outer_data),
-    sweep("encode-outer-out-length", lengths::encode_outer_out),
-    sweep("correct-outer-word-length", lengths::correct_outer_word),
-    sweep("correct-outer-out-length", lengths::correct_outer_out),
-    sweep("check-inner-word-length", lengths::check_inner_word),
-    sweep("encode-inner-data-length", lengths::encode_inner_data),
-    sweep("encode-inner-out-length", lengths::encode_inner_out),
-    sweep("correct-inner-word-length", lengths::correct_inner_word),
-    sweep("correct-inner-out-length", lengths::correct_inner_out),
-    group("lengths-together", 14_000, 140_000, lengths::together),
-];
+fn groups() -> Vec<Group> {
+    let mut groups = vec![
+        group("encode", 2_000, 24_000, frames::encode),
+        group("check-and-extract", 2_400, 28_800, frames::check_and_extract),
+        group("scattered", 1_200, 14_400, frames::scattered),
+        group("burst", 1_600, 19_200, frames::burst),
+        group("each-word", 1_100, 13_200, frames::each_word),
+        group("mixed", 800, 9_600, frames::mixed),
+        group("few-words", 1_600, 19_200, frames::few_words),
+        group("outer-limit", 1_600, 19_200, frames::outer_limit),
+        group("last-word", 1_600, 19_200, frames::last_word),
+        group("no-frame", 400, 4_800, frames::no_frame),
+        group("exchanged", 800, 9_600, frames::exchanged),
+        group("padding", 600, 7_200, frames::padding),
+        group("between-frames", 800, 9_600, frames::between_frames),
+        group("towards-code-words", 800, 9_600, frames::towards_code_words),
+        group("omitted-places", 800, 9_600, frames::omitted_places),
+        group("encode-outer", 20_000, 200_000, words::encode_outer),
+        group("correct-outer", 44_000, 440_000, words::correct_outer),
+        group("between-outer", 20_000, 200_000, words::between_outer),
+        group("any-outer", 20_000, 200_000, words::any_outer),
+        group("omitted-outer", 20_000, 200_000, words::omitted_outer),
+        group("encode-inner", 20_000, 200_000, words::encode_inner),
+        group("correct-inner", 44_000, 440_000, words::correct_inner),
+        group("between-inner", 20_000, 200_000, words::between_inner),
+        group("omitted-inner", 20_000, 200_000, words::omitted_inner),
+        group("any-inner", 20_000, 200_000, words::any_inner),
+    ];
+    groups.extend(ENTRIES.iter().flat_map(sweeps));
+    groups.push(group("lengths-together", 14_000, 140_000, lengths::together));
+    groups
+}
 
 /// One case; a panic of either side counts as a difference.
 fn run_case(group: &Group, seed: u64, number: u64) -> Result<Done, String> {
-    let mut random = Random::of_case(seed, group.name, number);
+    let mut random = Random::of_case(seed, &group.name, number);
     catch_unwind(AssertUnwindSafe(|| (group.case)(&mut random, number))).unwrap_or_else(|_| Err("a panic".into()))
 }
 
 /// How many cases had each answer, and how many were damaged frames or words.
 #[derive(Default)]
 struct Outcomes {
-    answers: [u64; 8],
+    answers: BTreeMap<u8, u64>,
     damaged: u64,
+}
+
+impl Outcomes {
+    fn add(&mut self, answer: u8, cases: u64) {
+        *self.answers.entry(answer).or_default() += cases;
+    }
 }
 
 /// The cases of a group, shared out among the processors; the first difference, by number.
@@ -118,15 +119,12 @@ fn run_group(group: &Group, seed: u64, cases: u64, progress: bool) -> Result<Out
             }
             match run_case(group, seed, number) {
                 Ok(done) => {
-                    own.answers[done.answer as usize] += 1;
+                    own.add(done.answer, 1);
                     own.damaged += done.damaged as u64;
                 }
                 Err(text) => {
                     next.store(cases, Relaxed);
-                    let mut first = difference.lock().unwrap();
-                    if first.as_ref().map_or(true, |(n, _)| number < *n) {
-                        *first = Some((number, text));
-                    }
+                    keep_first(&mut difference.lock().unwrap(), number, text);
                 }
             }
             if progress {
@@ -134,7 +132,7 @@ fn run_group(group: &Group, seed: u64, cases: u64, progress: bool) -> Result<Out
             }
         }
         let mut all = outcomes.lock().unwrap();
-        (0..8).for_each(|i| all.answers[i] += own.answers[i]);
+        own.answers.iter().for_each(|(&answer, &cases)| all.add(answer, cases));
         all.damaged += own.damaged;
     };
     let workers = std::thread::available_parallelism().map_or(1, |n| n.get());
@@ -142,6 +140,13 @@ fn run_group(group: &Group, seed: u64, cases: u64, progress: bool) -> Result<Out
     match difference.into_inner().unwrap() {
         Some(found) => Err(found),
         None => Ok(outcomes.into_inner().unwrap()),
+    }
+}
+
+/// The difference with the lowest number is kept.
+fn keep_first(first: &mut Option<(u64, String)>, number: u64, text: String) {
+    if first.as_ref().map_or(true, |(n, _)| number < *n) {
+        *first = Some((number, text));
     }
 }
 
@@ -162,18 +167,17 @@ fn tell_difference(group: &str, seed: u64, number: u64, text: &str) -> ExitCode 
 }
 
 fn tell_group(group: &Group, outcomes: &Outcomes, took: Duration) {
-    let number = |i: usize| format!("{} refused by {i}", outcomes.answers[i]);
-    let mut answers = vec![format!("{} accepted", outcomes.answers[0])];
-    answers.extend((1..8).filter(|&i| outcomes.answers[i] > 0).map(number));
+    let mut answers = vec![format!("{} accepted", outcomes.answers.get(&0).unwrap_or(&0))];
+    answers.extend(outcomes.answers.iter().filter(|(&number, _)| number != 0).map(|(number, cases)| format!("{cases} refused by {number}")));
     println!("{:30} {:5.1} s: {}", group.name, took.as_secs_f64(), answers.join(", "));
 }
 
 fn run_set(name: &str, seed: u64, cases: fn(&Group) -> u64) -> ExitCode {
     let (start, mut all, mut damaged) = (Instant::now(), 0, 0);
-    for group in GROUPS {
+    for group in &groups() {
         let since = Instant::now();
         match run_group(group, seed, cases(group), name == "long") {
-            Err((number, text)) => return tell_difference(group.name, seed, number, &text),
+            Err((number, text)) => return tell_difference(&group.name, seed, number, &text),
             Ok(outcomes) => {
                 all += cases(group);
                 damaged += outcomes.damaged;
@@ -187,8 +191,8 @@ fn run_set(name: &str, seed: u64, cases: fn(&Group) -> u64) -> ExitCode {
 }
 
 fn run_again(name: &str, seed: u64, number: u64) -> ExitCode {
-    let Some(group) = GROUPS.iter().find(|g| g.name == name) else { return usage() };
-    match run_case(group, seed, number) {
+    let Some(group) = groups().into_iter().find(|g| g.name == name) else { return usage() };
+    match run_case(&group, seed, number) {
         Err(text) => tell_difference(name, seed, number, &text),
         Ok(done) => {
             println!("compare: {name}, seed {seed}, case {number}: both sides answer {}", done.answer);

@@ -4,7 +4,7 @@ use crate::layout::PLACES;
 use crate::random::Random;
 
 /// Powers at which a code word has its 17 ones: found by correcting words with nine ones, until one was within eight places of a code word.
-const POWERS: [[usize; 17]; 6] = [
+pub const POWERS: [[usize; 17]; 6] = [
     [34, 51, 58, 106, 146, 205, 244, 307, 628, 883, 1027, 1157, 1470, 1612, 1693, 1836, 1990],
     [50, 171, 175, 263, 343, 437, 609, 611, 940, 977, 1079, 1219, 1355, 1513, 1583, 1824, 1945],
     [87, 133, 225, 335, 533, 823, 883, 920, 1067, 1173, 1256, 1405, 1658, 1727, 1847, 1889, 1978],
@@ -33,15 +33,14 @@ pub fn with_ones_in_front(random: &mut Random) -> (Vec<usize>, usize) {
 #[cfg(test)]
 mod tests {
     use super::*;
-    use crate::layout::flip;
+    use crate::damage::inverted;
+    use crate::layout::INNER_BYTES;
 
     #[test]
     fn they_are_code_words() {
         let mut random = Random::of_case(1, "light", 0);
         for _ in 0..1_000 {
-            let places = code_word(&mut random);
-            let mut word = vec![0; 255];
-            places.iter().for_each(|&p| flip(&mut word, p));
+            let word = inverted(&[0; INNER_BYTES], code_word(&mut random));
             assert_eq!(second::check_inner(&word), Ok(()));
         }
     }

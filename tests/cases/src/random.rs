@@ -1,6 +1,6 @@
 //! Random numbers that depend on nothing but their seed (splitmix64).
 
-pub struct Random(u64);
+pub struct Random(pub u64);
 
 impl Random {
     /// The numbers of one case: its seed, the name of its group and its own number.

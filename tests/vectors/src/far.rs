@@ -1,16 +1,13 @@
 //! That no code word is near, known from nine errors themselves and with no decoder.
 
-use crate::calls::Code;
-use crate::damage::{counts, Errors};
-use second::{Field, FieldA, FieldB, INNER_WORDS};
+use crate::errors::Errors;
+use cases::layout::{counts, symbol, symbol_of, symbols_in, INNER_WORDS, LAST_WORD, PLACES, RADIUS};
+use cases::refusals::Code;
+use second::{Field, FieldA, FieldB};
 
 /// The roots of the outer generator are a^0 to a^15, and those of the inner one have a^1 to a^16 among them.
 const FIRST_OUTER_ROOT: usize = 0;
 const FIRST_INNER_ROOT: usize = 1;
-const INNER_PLACES: usize = 2_040;
-/// Symbols and frame bits of an outer word other than the last.
-const OUTER_SYMBOLS: usize = 781;
-const OUTER_BITS: usize = 10 * OUTER_SYMBOLS;
 
 /// Is a single word with nine errors too far from every code word? Its length is given in symbols or bytes.
 pub fn nine_in_word(code: Code, length: usize, errors: &Errors) -> bool {
@@ -26,13 +23,13 @@ pub fn nine_in_word(code: Code, length: usize, errors: &Errors) -> bool {
 /// code word; each other inner word has at most eight, and is corrected to what was sent.
 pub fn nine_in_frame(inverted: &[usize]) -> bool {
     let counts = counts(inverted);
-    let nine_of: Vec<usize> = inverted.iter().copied().filter(|i| counts[i % INNER_WORDS] > 8).collect();
-    let w = nine_of[0] / OUTER_BITS;
-    assert!(w < 15 && nine_of.iter().all(|i| i / OUTER_BITS == w), "all in an outer word other than the last");
+    let nine_of: Vec<usize> = inverted.iter().copied().filter(|i| usize::from(counts[i % INNER_WORDS]) > RADIUS).collect();
+    let w = symbol_of(nine_of[0]).0;
+    assert!(w < LAST_WORD && nine_of.iter().all(|&i| symbol_of(i).0 == w), "all in an outer word other than the last");
     let places: Vec<usize> = nine_of.iter().map(|i| i / INNER_WORDS).collect();
-    let symbols: Vec<usize> = nine_of.iter().map(|i| i % OUTER_BITS / 10).collect();
-    let values: Vec<u16> = nine_of.iter().map(|i| 512 >> (i % OUTER_BITS % 10)).collect();
-    nine::<FieldB>(FIRST_INNER_ROOT, INNER_PLACES, &places, &[1; 9]) && nine::<FieldA>(FIRST_OUTER_ROOT, OUTER_SYMBOLS, &symbols, &values)
+    let symbols: Vec<usize> = nine_of.iter().map(|&i| symbol_of(i).1).collect();
+    let values: Vec<u16> = nine_of.iter().zip(&symbols).map(|(i, &s)| 512 >> (i - symbol(w, s).start)).collect();
+    nine::<FieldB>(FIRST_INNER_ROOT, PLACES, &places, &[1; 9]) && nine::<FieldA>(FIRST_OUTER_ROOT, symbols_in(w), &symbols, &values)
 }
 
 /// Is a word with nine errors more than eight places from every code word?
@@ -61,7 +58,10 @@ fn nine<F: Field>(first_root: usize, length: usize, places: &[usize], values: &[
 #[cfg(test)]
 mod tests {
     use super::*;
-    use crate::calls::sent;
+    use cases::damage::add;
+    use cases::light::POWERS;
+    use cases::payloads::outer_code_word;
+    use cases::refusals::UNCORRECTABLE;
 
     /// Nine of the seventeen places in which two code words differ: the second one is within eight.
     #[test]
@@ -69,7 +69,7 @@ mod tests {
         for n in [17, 18, 781, 1_023] {
             let mut data = vec![0; n - 16];
             data[(n - 16) / 2] = 77;
-            let word = sent(Code::Outer, &data);
+            let word = outer_code_word(&data);
             let places: Vec<usize> = (0..n).filter(|&i| word[i] != 0).collect();
             assert_eq!(places.len(), 17);
             for from in 0..=8 {
@@ -85,11 +85,10 @@ mod tests {
     /// An inner code word with seventeen ones, by their powers: with nine of them it is within eight, with eight of them and another place it is not.
     #[test]
     fn towards_an_inner_code_word_it_is_near() {
-        let powers = [34, 51, 58, 106, 146, 205, 244, 307, 628, 883, 1_027, 1_157, 1_470, 1_612, 1_693, 1_836, 1_990];
-        let mut places = powers.map(|power| INNER_PLACES - 1 - power);
-        assert!(!nine::<FieldB>(FIRST_INNER_ROOT, INNER_PLACES, &places[8..], &[1; 9]));
+        let mut places = POWERS[0].map(|power| PLACES - 1 - power);
+        assert!(!nine::<FieldB>(FIRST_INNER_ROOT, PLACES, &places[8..], &[1; 9]));
         places[8] += 1;
-        assert!(nine::<FieldB>(FIRST_INNER_ROOT, INNER_PLACES, &places[8..], &[1; 9]));
+        assert!(nine::<FieldB>(FIRST_INNER_ROOT, PLACES, &places[8..], &[1; 9]));
     }
 
     /// Nine errors at places a step apart: the decoder says the same.
@@ -99,8 +98,8 @@ mod tests {
             let places: Vec<usize> = (0..9).map(|k| (k * step + step * step) % n).collect();
             let values: Vec<u16> = (1..=9).map(|k| (k * k * step % 1_023) as u16 + 1).collect();
             let mut word = vec![0; n];
-            places.iter().zip(&values).for_each(|(&i, &value)| word[i] = value);
-            assert_eq!(nine::<FieldA>(FIRST_OUTER_ROOT, n, &places, &values), second::correct_outer(&word, n) == Err(5));
+            add(&mut word, &places, &values);
+            assert_eq!(nine::<FieldA>(FIRST_OUTER_ROOT, n, &places, &values), second::correct_outer(&word, n) == Err(UNCORRECTABLE));
         }
     }
 }

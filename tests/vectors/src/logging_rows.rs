@@ -1,9 +1,13 @@
 //! Rows on the logging of corrections, of zero frames with inverted bits: the three counters after each answer, and worst lists.
 
-use crate::damage::{apart, counts, inverted};
 use crate::lines::list;
+use cases::damage::{apart, inverted};
+use cases::layout::{counts, FRAME, INNER_WORDS};
+use cases::payloads::zero_frame;
+use cases::refusals::Content::{self, AsSent, Correctable, Lost};
+use cases::refusals::{entry_of, Code, Given, Operation};
 use second::logging::{worst_words, Counters};
-use second::{correct_frame, Corrected, FRAME_BYTES as FRAME, INNER_WORDS};
+use second::{correct_frame, Corrected};
 
 pub fn print() {
     counters();
@@ -13,30 +17,31 @@ pub fn print() {
 /// Each answer once; cleared again; then from numbers just below the largest, which they reach or stop at, and where they stay.
 fn counters() {
     let mut counters = Counters::default();
-    for (count, step, n, space, number) in [
-        (0, 1, FRAME, FRAME, 0),
-        (8, 64, FRAME, FRAME, 0),
-        (512, 1, FRAME, FRAME, 0),
-        (513, 1, FRAME, FRAME, 5),
-        (0, 1, FRAME - 1, FRAME, 2),
-        (0, 1, FRAME, FRAME - 1, 3),
+    for (count, step, n, space, content) in [
+        (0, 1, FRAME, FRAME, AsSent),
+        (8, 64, FRAME, FRAME, Correctable),
+        (512, 1, FRAME, FRAME, Correctable),
+        (513, 1, FRAME, FRAME, Lost),
+        (0, 1, FRAME - 1, FRAME, AsSent),
+        (0, 1, FRAME, FRAME - 1, AsSent),
     ] {
-        counted(&mut counters, (count, step), n, space, number);
+        counted(&mut counters, (count, step), n, space, content);
     }
     println!("cleared, {}", read(Counters::default()));
     let mut counters = Counters { frames: 4_294_967_294, uncorrectable: 4_294_967_294, bits: 4_294_967_290 };
     println!("set, {}", read(counters));
-    for (count, step, number) in [(8, 64, 0), (513, 1, 5), (8, 64, 0), (513, 1, 5)] {
-        counted(&mut counters, (count, step), FRAME, FRAME, number);
+    for (count, step, content) in [(8, 64, Correctable), (513, 1, Lost), (8, 64, Correctable), (513, 1, Lost)] {
+        counted(&mut counters, (count, step), FRAME, FRAME, content);
     }
 }
 
-/// A row on the counters after one more answer, to the first n bytes of a block with bits inverted from bit 0 on.
-fn counted(counters: &mut Counters, (count, step): (usize, usize), n: usize, space: usize, number: u8) {
-    let answer = corrected(&apart(count, 0, step), n, space);
-    assert_eq!(answer.as_ref().err().copied().unwrap_or(0), number);
+/// A row on the counters after one more answer, to so many bytes of a block with bits inverted from bit 0 on.
+fn counted(counters: &mut Counters, (count, step): (usize, usize), length: usize, space: usize, content: Content) {
+    let answer = corrected(&apart(count, 0, step), length, space);
+    let number = answer.as_ref().err().copied().unwrap_or(0);
+    assert_eq!(number, entry_of(Operation::Correct, Code::Frame).answer(&Given::of_length(length, space, content)));
     counters.count(&answer);
-    println!("counted, length {n}, errors {count} from 0 apart {step}, buffer of {space}, refusal {number}, {}", read(*counters));
+    println!("counted, length {length}, errors {count} from 0 apart {step}, buffer of {space}, refusal {number}, {}", read(*counters));
 }
 
 fn read(counters: Counters) -> String {
@@ -60,9 +65,9 @@ fn worst_list(told: &str, bits: &[usize]) {
 
 /// The answer to the first n bytes of the zero frame with these bits inverted. If it is not refused, it is the zero frame, with the counts of these bits.
 fn corrected(bits: &[usize], n: usize, space: usize) -> Result<Corrected, u8> {
-    let answer = correct_frame(&inverted(&[0; FRAME], bits)[..n], space);
+    let answer = correct_frame(&inverted(zero_frame(), bits.iter().copied())[..n], space);
     if let Ok(corrected) = &answer {
-        assert_eq!(*corrected, Corrected { frame: vec![0; FRAME], counts: counts(bits), sum: bits.len() as u32 });
+        assert_eq!(*corrected, Corrected { frame: zero_frame().to_vec(), counts: counts(bits), sum: bits.len() as u32 });
     }
     answer
 }

@@ -3,16 +3,15 @@
 //!     vectors           prints the rows
 //!     vectors FOLDER    writes the samples into the folder
 //!
-//! A row gives data (`data`) to a call, or what is received when the word or frame of the data is sent (`damage`); the call is made (`calls`), and what goes in
-//! and what comes out are printed (`rows`, `lines`). The rows themselves: `word_rows`, `frame_rows`, `logging_rows`.
+//! A row gives data to a call, or what is received when the word or frame of the data is sent (`errors`); the call is made, and what goes in and what comes out
+//! are printed (`rows`, `lines`). The rows themselves: `word_rows`, `frame_rows`, `logging_rows`. Payloads, damage and the table of refusals are those of the
+//! crate `cases`.
 //!
-//! What comes out is held to how the row is made. A row states the number that it is answered by. Where a correction is not refused, the sent word or frame has
-//! to come back, with the counts of the errors that were made. Where nine errors are refused, that no code word is near follows from the errors (`far`); where
-//! there are more, the decoder alone says so.
+//! What comes out is held to how the row is made. The number of the answer follows, by the table, from the lengths and from what the row says its content is.
+//! Where a correction is not refused, the sent word or frame has to come back, with the counts of the errors that were made. Where nine errors are refused,
+//! that no code word is near follows from the errors (`far`); where there are more, the decoder alone says so.
 
-mod calls;
-mod damage;
-mod data;
+mod errors;
 mod far;
 mod frame_rows;
 mod lines;

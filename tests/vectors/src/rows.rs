@@ -1,37 +1,81 @@
-//! A row: a line that names the call and what goes in, and gives the answer with the buffer, refused or not. A row states the number that is answered.
+//! A row: a line that names the call and what goes in, and gives the answer with the buffer, refused or not. The number that has to be answered follows from
+//! the lengths, and from what the row says its content is.
 
-use crate::calls::{report, sent, Answer, Call, Code, Operation};
-use crate::damage::Errors;
-use crate::data::Data;
+use crate::errors::Errors;
 use crate::far;
-use crate::lines::{buffer, list};
+use crate::lines::{buffer, digest, list};
+use cases::calls;
+use cases::layout::{counts, INNER_WORDS};
+use cases::payloads::{self, from_bytes, inner_code_word, outer_code_word, to_bytes, Data};
+use cases::refusals::{Code, Content, Entry, Given, Operation};
 
 /// A row on n values of the data; gives the buffer.
-pub fn given(call: Call, n: usize, data: Data, space: usize, number: u8) -> Vec<u16> {
-    print!("{call}, length {n}, {data}");
-    answered(call, &data.values(n), space, number).buffer
+pub fn given(entry: &Entry, n: usize, data: Data, space: usize, content: Content) -> Vec<u16> {
+    print!("{}, length {n}, {data}", name(entry));
+    let values = if entry.operation == Operation::Encode { encoded(entry.code, data, n) } else { data.values(n) };
+    answered(entry, &values, space, content).buffer
 }
 
 /// A row on what is received when the word or frame of d values of the data is sent; gives the buffer. A correction that is not refused gives the sent one, and
 /// reports the errors; a word that is refused has nine.
-pub fn received(call: Call, d: usize, data: Data, errors: &Errors, space: usize, number: u8) -> Vec<u16> {
-    let Call(operation, code) = call;
-    let sent = sent(code, &data.values(d));
-    print!("{call}, length {d}, {data}, encoded to {}: 0, {errors}", sent.len());
-    let answer = answered(call, &errors.in_sent(code, &sent), space, number);
-    if operation == Operation::Correct && number == 0 {
+pub fn received(entry: &Entry, d: usize, data: Data, errors: &Errors, space: usize, content: Content) -> Vec<u16> {
+    let sent = sent(entry.code, &encoded(entry.code, data, d));
+    print!("{}, length {d}, {data}, encoded to {}: 0, {errors}", name(entry), sent.len());
+    let answer = answered(entry, &errors.in_sent(entry.code, &sent), space, content);
+    if entry.operation == Operation::Correct && answer.number == 0 {
         assert!(answer.buffer == sent, "the sent word or frame comes back");
-        assert_eq!(answer.report, report(code, &errors.places));
-    } else if operation == Operation::Correct && code != Code::Frame {
-        assert!(far::nine_in_word(code, sent.len(), errors), "no code word is near");
+        assert_eq!(answer.report, report(entry, errors.places.len() as u32, &counts(&errors.places)));
+    } else if entry.operation == Operation::Correct && entry.code != Code::Frame {
+        assert!(far::nine_in_word(entry.code, sent.len(), errors), "no code word is near");
     }
     answer.buffer
 }
 
+fn name(entry: &Entry) -> String {
+    format!("{:?} {:?}", entry.operation, entry.code).to_lowercase()
+}
+
+/// What is encoded: a payload, or the data of a word.
+fn encoded(code: Code, data: Data, n: usize) -> Vec<u16> {
+    if code == Code::Frame {
+        from_bytes(payloads::of(data, n))
+    } else {
+        data.values(n)
+    }
+}
+
+/// The code word or frame that is sent.
+fn sent(code: Code, data: &[u16]) -> Vec<u16> {
+    match code {
+        Code::Outer => outer_code_word(data),
+        Code::Inner => from_bytes(inner_code_word(&to_bytes(data))),
+        Code::Frame => from_bytes(payloads::frame(&to_bytes(data))),
+    }
+}
+
+/// 0 or the refusal's number, what a correction reports, and the buffer, which holds nines before the call.
+struct Answer {
+    number: u8,
+    report: Vec<u64>,
+    buffer: Vec<u16>,
+}
+
 /// The rest of the line.
-fn answered(call: Call, values: &[u16], space: usize, number: u8) -> Answer {
-    let answer = call.answer(values, space);
+fn answered(entry: &Entry, values: &[u16], space: usize, content: Content) -> Answer {
+    let answer = match calls::call(entry, values, space) {
+        Ok(done) => Answer { number: 0, report: report(entry, done.changed, &done.counts), buffer: done.written },
+        Err(number) => Answer { number, report: report(entry, 0, &[0; INNER_WORDS]), buffer: vec![9; space] },
+    };
     println!(", buffer of {space}: {}{}{}", answer.number, list(&answer.report), buffer(&answer.buffer));
-    assert_eq!(answer.number, number);
+    assert_eq!(answer.number, entry.answer(&Given::of(values, space, content)));
     answer
+}
+
+/// What a correction reports: how many symbols or bits it changed, and for a frame the digest of the counts.
+fn report(entry: &Entry, changed: u32, counts: &[u16; INNER_WORDS]) -> Vec<u64> {
+    match (entry.operation, entry.code) {
+        (Operation::Correct, Code::Frame) => vec![u64::from(changed), digest(counts)],
+        (Operation::Correct, _) => vec![u64::from(changed)],
+        _ => vec![],
+    }
 }

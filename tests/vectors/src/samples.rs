@@ -1,55 +1,56 @@
 //! Blocks to try the report program on, each with its report. A report is made from the bits that are inverted, and has to be that of the decoder's answer.
 
-use crate::damage::{counts, inverted};
-use crate::data::{to_bytes, Data};
 use crate::far;
+use cases::damage::{apart, inverted};
+use cases::layout::{counts, place, FRAME, INNER_WORDS, PAYLOAD, PLACES};
+use cases::payloads::{self, Data};
+use cases::refusals::{BLOCK_LENGTH, UNCORRECTABLE};
+use second::correct_frame;
 use second::logging::{worst_words, EMPTY};
-use second::{correct_frame, encode_frame, FRAME_BYTES, INNER_WORDS, PAYLOAD_BYTES};
 use std::fs;
 use std::path::Path;
 
 pub fn write_all(folder: &Path) {
-    let payload = to_bytes(&Data::Counted.values(PAYLOAD_BYTES));
-    let sent = encode_frame(&payload, FRAME_BYTES).expect("a payload has a frame");
+    let sent = payloads::frame(&payloads::of(Data::Counted, PAYLOAD));
     correctable(folder, "undamaged", &sent, &[]);
     correctable(folder, "burst", &sent, &burst(512));
     correctable(folder, "worst_list", &sent, &twelve_words());
     correctable(folder, "outer_pass", &sent, &spread());
     // nine wrong bits of inner word 37 stand in nine symbols of outer word 7
     assert!(far::nine_in_frame(&burst(513)));
-    refusal(folder, "uncorrectable", &inverted(&sent, &burst(513)), 5);
-    refusal(folder, "short", &sent[..FRAME_BYTES - 1], 2);
-    refusal(folder, "empty", &[], 2);
-    refusal(folder, "long", &[&sent[..], &[0]].concat(), 2);
+    refusal(folder, "uncorrectable", &inverted(&sent, burst(513)), UNCORRECTABLE);
+    refusal(folder, "short", &sent[..FRAME - 1], BLOCK_LENGTH);
+    refusal(folder, "empty", &[], BLOCK_LENGTH);
+    refusal(folder, "long", &[&sent[..], &[0]].concat(), BLOCK_LENGTH);
 }
 
 /// A run of wrong bits within outer word 7.
 fn burst(length: usize) -> Vec<usize> {
-    (60_005..60_005 + length).collect()
+    apart(length, 60_005, 1)
 }
 
 /// Twelve inner words with their numbers of wrong bits, which stand 251 places apart. Three words have equal counts where the list of eight ends.
 fn twelve_words() -> Vec<usize> {
     let words = [(0, 2), (5, 7), (9, 4), (12, 1), (17, 5), (22, 3), (30, 5), (33, 1), (40, 7), (51, 3), (58, 3), (63, 8)];
-    words.into_iter().flat_map(|(k, n)| (0..n).map(move |j| 64 * ((31 * k + 251 * j) % 2_040) + k)).collect()
+    words.into_iter().flat_map(|(k, n)| (0..n).map(move |j| place(k, (31 * k + 251 * j) % PLACES))).collect()
 }
 
 /// 24 places of inner word 37, at most two of them in the same outer word.
 fn spread() -> Vec<usize> {
-    (0..24).map(|j| 64 * 81 * j + 37).collect()
+    apart(24, place(37, 0), place(0, 81))
 }
 
 /// A frame with wrong bits that the two passes correct.
 fn correctable(folder: &Path, name: &str, sent: &[u8], wrong: &[usize]) {
-    let block = inverted(sent, wrong);
-    let answer = correct_frame(&block, FRAME_BYTES).expect(name);
+    let block = inverted(sent, wrong.iter().copied());
+    let answer = correct_frame(&block, FRAME).expect(name);
     assert!(answer.frame == sent, "{name}");
     assert_eq!((answer.counts, answer.sum as usize), (counts(wrong), wrong.len()), "{name}");
     write(folder, name, &block, &report(&counts(wrong)));
 }
 
 fn refusal(folder: &Path, name: &str, block: &[u8], number: u8) {
-    assert_eq!(correct_frame(block, FRAME_BYTES).err(), Some(number), "{name}");
+    assert_eq!(correct_frame(block, FRAME).err(), Some(number), "{name}");
     write(folder, name, block, &format!("refused {number}\n"));
 }
 

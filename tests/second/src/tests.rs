@@ -4,43 +4,8 @@
 
 use crate::field::{Field, FieldA, FieldB};
 use crate::{inner, outer, poly};
-
-/// A deterministic source of numbers (splitmix64).
-struct Random(u64);
-
-impl Random {
-    fn next(&mut self) -> u64 {
-        self.0 = self.0.wrapping_add(0x9e37_79b9_7f4a_7c15);
-        let mut z = self.0;
-        z = (z ^ (z >> 30)).wrapping_mul(0xbf58_476d_1ce4_e5b9);
-        z = (z ^ (z >> 27)).wrapping_mul(0x94d0_49bb_1331_11eb);
-        z ^ (z >> 31)
-    }
-
-    fn below(&mut self, bound: usize) -> usize {
-        (self.next() % bound as u64) as usize
-    }
-
-    fn bits(&mut self, count: usize) -> Vec<bool> {
-        (0..count).map(|_| self.next() & 1 == 1).collect()
-    }
-
-    fn symbols(&mut self, count: usize) -> Vec<u16> {
-        (0..count).map(|_| self.below(1024) as u16).collect()
-    }
-
-    /// Different indices below a bound.
-    fn places(&mut self, count: usize, bound: usize) -> Vec<usize> {
-        let mut places = Vec::new();
-        while places.len() < count {
-            let place = self.below(bound);
-            if !places.contains(&place) {
-                places.push(place);
-            }
-        }
-        places
-    }
-}
+use cases::damage::{symbol_error, wrong_symbols};
+use cases::random::Random;
 
 /// The product by doubling and adding, with the whole field polynomial.
 fn slow_product(x: u32, y: u32, polynomial: u32, size: u32) -> u32 {
@@ -214,9 +179,9 @@ fn derivative_of_a_product() {
 fn search_finds_places() {
     fn test<F: Field>(random: &mut Random, length: usize) {
         for count in 0..=8 {
-            let mut places = random.places(count, length);
+            let mut places = random.choose(count, length);
             if count > 1 {
-                places = [&[0, length - 1], &random.places(count - 2, length - 2)[..]].concat();
+                places = [&[0, length - 1], &random.choose(count - 2, length - 2)[..]].concat();
                 places[2..].iter_mut().for_each(|place| *place += 1);
             }
             let powers = places.iter().map(|place| length - 1 - place);
@@ -250,7 +215,7 @@ fn inner_omitted_front_is_uncorrectable() {
     let mut random = Random(5);
     for front in 1u32..128 {
         let front_bits: Vec<bool> = (0..7).map(|i| (front >> i) & 1 == 1).collect();
-        let data = random.bits(inner::DATA);
+        let data: Vec<bool> = (0..inner::DATA).map(|_| random.chance(2)).collect();
         let all = front_bits.iter().chain(&data).copied();
         let rest = inner::remainder(all.chain([false; inner::PARITY]));
         let parity = (0..inner::PARITY).rev().map(|i| (rest >> i) & 1 == 1);
@@ -259,7 +224,7 @@ fn inner_omitted_front_is_uncorrectable() {
         assert_eq!(inner::remainder(longer), 0);
         for errors in 0..=8 - front.count_ones() as usize {
             let mut received = word.clone();
-            for place in random.places(errors, inner::LENGTH) {
+            for place in random.choose(errors, inner::LENGTH) {
                 received[place] = !received[place];
             }
             assert_eq!(inner::correct(&received), None);
@@ -275,17 +240,15 @@ fn outer_omitted_front_is_uncorrectable() {
         for wrong_in_front in 1..=8.min(longer - length) {
             let mut data = random.symbols(longer - outer::PARITY);
             data[..longer - length].fill(0);
-            for place in random.places(wrong_in_front, longer - length) {
-                data[place] = 1 + random.below(1023) as u16;
+            for place in random.choose(wrong_in_front, longer - length) {
+                data[place] = symbol_error(&mut random);
             }
             let parity = outer::parity(&data);
             let full = [&data[..], &parity].concat();
             assert!(outer::is_code_word(&full));
             for errors in 0..=8 - wrong_in_front {
                 let mut received = full[longer - length..].to_vec();
-                for place in random.places(errors, length) {
-                    received[place] ^= 1 + random.below(1023) as u16;
-                }
+                wrong_symbols(&mut random, &mut received, errors);
                 assert_eq!(outer::correct(&received), None);
             }
         }

@@ -2,7 +2,13 @@
 //! Rows 1 to 4 are about the fields and stand with the inner tests.
 
 mod common;
-use common::*;
+use cases::calls;
+use cases::damage::{apart, inverted};
+use cases::layout::{bit, counts, inner_word, put, wrong_bits, DATA_PLACES, FRAME, INNER_BYTES, INNER_DATA, INNER_PARITY, PAYLOAD};
+use cases::payloads::{self, zero_frame, Data};
+use cases::random::Random;
+use cases::refusals::{entry_of, Code, Content, Given, Operation, ENTRIES, NO_CODE_WORD, UNCORRECTABLE};
+use common::assert_corrected;
 use second::*;
 
 /// Is a frame bit below the inner parity outside all outer parity?
@@ -10,20 +16,18 @@ fn holds_payload(i: usize) -> bool {
     i < 124_768 && (i >= 117_150 || i % 7_810 < 7_650)
 }
 
-/// Rows 5 to 9: of the frame bits that hold payload, a payload bit sets one.
+/// Rows 5 to 9: of the frame bits that hold payload, a payload bit sets one that the zero frame does not.
 #[test]
 fn payload_bits_stand_where_the_rows_say() {
     let rows = [(0, 0), (7_649, 7_649), (7_650, 7_810), (114_749, 116_989), (114_750, 117_150), (122_367, 124_767)];
     for (payload_bit, frame_bit) in rows {
-        let mut payload = vec![0; PAYLOAD];
-        invert(&mut payload, payload_bit);
-        let frame = encode_frame(&payload, FRAME).unwrap();
-        let set = (0..124_928).filter(|&i| holds_payload(i) && bit(&frame, i));
-        assert_eq!(set.collect::<Vec<_>>(), [frame_bit]);
+        let frame = payloads::frame(&payloads::of(Data::Bit(payload_bit), PAYLOAD));
+        let set: Vec<usize> = wrong_bits(zero_frame(), &frame).into_iter().filter(|&i| i < 124_928).collect();
+        assert_eq!(set.iter().copied().filter(|&i| holds_payload(i)).collect::<Vec<_>>(), [frame_bit]);
         // All else below the inner parity is the parity of that outer word.
         let start = 7_810 * (frame_bit / 7_810).min(15);
         let end = (start + 7_810).min(124_928);
-        assert!((0..124_928).all(|i| !bit(&frame, i) || (start..end).contains(&i)));
+        assert!(set.iter().all(|i| (start..end).contains(i)));
     }
 }
 
@@ -35,9 +39,9 @@ fn inner_parity_stands_where_the_rows_say() {
     for _ in 0..12 {
         let frame = random.frame();
         for k in 0..64 {
-            let mut data = vec![0; 244];
-            (0..1_952).for_each(|p| put(&mut data, p, bit(&frame, 64 * p + k)));
-            let parity = encode_inner(&data, 11).unwrap();
+            let mut data = vec![0; INNER_DATA];
+            (0..DATA_PLACES).for_each(|p| put(&mut data, p, bit(&frame, 64 * p + k)));
+            let parity = encode_inner(&data, INNER_PARITY).unwrap();
             for p in 0..88 {
                 assert_eq!(bit(&frame, 124_928 + 64 * p + k), bit(&parity, p));
             }
@@ -63,93 +67,86 @@ fn zero_payload_has_the_zero_frame() {
     assert_corrected(&[0; FRAME], &[0; FRAME]);
 }
 
+/// The frame that the runs on zeros are about, with these bits inverted, is restored, with the counts of these bits.
+fn restored(bits: &[usize]) {
+    let answer = correct_frame(&inverted(zero_frame(), bits.iter().copied()), FRAME);
+    assert_eq!(answer, Ok(Corrected { frame: zero_frame().to_vec(), counts: counts(bits), sum: bits.len() as u32 }));
+}
+
 /// The example of the report program.
 #[test]
 fn bytes_0_and_8() {
-    let mut block = vec![0; FRAME];
-    (block[0], block[8]) = (0x80, 0x80);
-    let answer = correct_frame(&block, FRAME).unwrap();
-    let mut counts = [0; 64];
-    counts[0] = 2;
-    assert_eq!(answer, Corrected { frame: vec![0; FRAME], counts, sum: 2 });
+    restored(&[0, 64]);
 }
 
 #[test]
 fn one_bit_in_zeros() {
     for i in [0, 1, 63, 64, 7_649, 7_650, 117_149, 124_767, 124_768, 124_927, 124_928, 130_559] {
-        let mut block = vec![0; FRAME];
-        invert(&mut block, i);
-        assert_eq!(check_frame(&block), Err(4));
-        assert_eq!(extract_payload(&block, PAYLOAD), Err(4));
-        let mut counts = [0; 64];
-        counts[i % 64] = 1;
-        let expected = Corrected { frame: vec![0; FRAME], counts, sum: 1 };
-        assert_eq!(correct_frame(&block, FRAME), Ok(expected));
+        let block = inverted(zero_frame(), [i]);
+        assert_eq!(check_frame(&block), Err(NO_CODE_WORD));
+        assert_eq!(extract_payload(&block, PAYLOAD), Err(NO_CODE_WORD));
+        restored(&[i]);
     }
 }
 
 #[test]
 fn eight_bits_of_one_inner_word() {
-    let mut block = vec![0; FRAME];
-    (0..=448).step_by(64).for_each(|i| invert(&mut block, i));
-    assert_corrected(&block, &[0; FRAME]);
-    assert_eq!(correct_frame(&block, FRAME).unwrap().sum, 8);
+    restored(&apart(8, 0, 64));
 }
 
 #[test]
 fn bits_0_to_511() {
-    let mut block = vec![0; FRAME];
-    (0..512).for_each(|i| invert(&mut block, i));
-    let expected = Corrected { frame: vec![0; FRAME], counts: [8; 64], sum: 512 };
-    assert_eq!(correct_frame(&block, FRAME), Ok(expected));
+    let run = apart(512, 0, 1);
+    assert_eq!(counts(&run), [8; 64]);
+    restored(&run);
 }
 
 /// Inner word 0 then has nine wrong bits, at frame bits 0, 64 and so on to 512.
 /// They are in nine symbols of outer word 0, so the block is uncorrectable.
 #[test]
 fn bits_0_to_512() {
-    let mut block = vec![0; FRAME];
-    (0..513).for_each(|i| invert(&mut block, i));
-    assert_eq!(correct_inner(&inner_word(&block, 0), 255), Err(5));
-    assert_eq!(check_frame(&block), Err(4));
-    assert_eq!(correct_frame(&block, FRAME), Err(5));
+    let block = inverted(zero_frame(), 0..513);
+    assert_eq!(correct_inner(&inner_word(&block, 0), INNER_BYTES), Err(UNCORRECTABLE));
+    assert_eq!(check_frame(&block), Err(NO_CODE_WORD));
+    assert_eq!(correct_frame(&block, FRAME), Err(UNCORRECTABLE));
+}
+
+/// Zeros of the lengths at the limits and just past them, at every entry of a code.
+fn zeros_at_and_past_the_limits(code: Code) {
+    for entry in ENTRIES.iter().filter(|entry| entry.code == code) {
+        for length in entry.at_and_past() {
+            let (zeros, space) = (vec![0; length], entry.space(length));
+            let expected = entry.answer(&Given::of(&zeros, space, Content::AsSent));
+            assert_eq!(calls::number(entry, &zeros, space), expected, "{} of {length}", entry.name);
+        }
+    }
 }
 
 #[test]
 fn outer_words_of_boundary_lengths() {
-    for (length, refusal) in [(16, Some(6)), (17, None), (1_023, None), (1_024, Some(6))] {
-        let word = vec![0; length];
-        assert_eq!(check_outer(&word).err(), refusal);
-        assert_eq!(correct_outer(&word, length).err(), refusal);
-        let data = &word[16..];
-        let data_refusal = if data.is_empty() { Some(6) } else { refusal };
-        assert_eq!(encode_outer(data, 16).err(), data_refusal);
-    }
+    zeros_at_and_past_the_limits(Code::Outer);
 }
 
 #[test]
 fn blocks_of_wrong_length() {
-    for length in [0, 16_319, 16_321] {
-        let block = vec![0; length];
-        assert_eq!(check_frame(&block), Err(2));
-        assert_eq!(extract_payload(&block, PAYLOAD), Err(2));
-        assert_eq!(correct_frame(&block, FRAME), Err(2));
-    }
+    zeros_at_and_past_the_limits(Code::Frame);
 }
 
 #[test]
 fn symbols_of_1023_and_1024() {
     let data = [1_023; 5];
-    let word = outer_code_word(&data);
+    let word = payloads::outer_code_word(&data);
     assert_eq!(check_outer(&word), Ok(()));
     assert_eq!(correct_outer(&word, 21), Ok((word.clone(), 0)));
     for i in 0..21 {
         let mut wrong = word.clone();
         wrong[i] = 1_024;
-        assert_eq!(check_outer(&wrong), Err(7));
-        assert_eq!(correct_outer(&wrong, 21), Err(7));
-        if i < 5 {
-            assert_eq!(encode_outer(&wrong[..5], 16), Err(7));
+        for (operation, read) in [(Operation::Check, 21), (Operation::Correct, 21), (Operation::Encode, 5)] {
+            let entry = entry_of(operation, Code::Outer);
+            let (values, space) = (&wrong[..read], entry.space(read));
+            if i < read {
+                assert_eq!(calls::number(entry, values, space), entry.answer(&Given::of(values, space, Content::Correctable)));
+            }
         }
     }
 }

@@ -1,26 +1,29 @@
 //! Whole frames.
 
 mod common;
-use common::*;
-use second::*;
+use cases::damage::{exchange, in_symbols, in_symbols_of_lost, in_word, invert, inverted, run, scattered};
+use cases::layout::*;
+use cases::payloads::{self, inner_code_word};
+use cases::random::Random;
+use cases::refusals::{NO_CODE_WORD, UNCORRECTABLE};
+use common::assert_corrected;
+use second::{check_frame, check_inner, check_outer, correct_frame, correct_inner, correct_outer, extract_payload};
 
 /// The frame of a payload, word by word from the stated places.
 #[test]
 fn frames_are_made_of_code_words() {
     let mut random = Random(50);
     for _ in 0..5 {
-        let payload = random.bytes(PAYLOAD);
-        let frame = encode_frame(&payload, FRAME).unwrap();
+        let payload = payloads::random(&mut random, PAYLOAD);
+        let frame = payloads::frame(&payload);
         assert_eq!(check_frame(&frame), Ok(()));
         assert_eq!(extract_payload(&frame, PAYLOAD).as_ref(), Ok(&payload));
         assert_corrected(&frame, &frame);
         for i in 0..8 * PAYLOAD {
-            let w = i / 7_650;
-            let place = outer_bit(w, i - 7_650 * w).unwrap();
-            assert_eq!(bit(&frame, place), bit(&payload, i));
+            assert_eq!(bit(&frame, payload_place(i)), bit(&payload, i));
         }
-        (0..16).for_each(|w| assert_eq!(check_outer(&outer_word(&frame, w)), Ok(())));
-        (0..64).for_each(|k| assert_eq!(check_inner(&inner_word(&frame, k)), Ok(())));
+        (0..OUTER_WORDS).for_each(|w| assert_eq!(check_outer(&outer_word(&frame, w)), Ok(())));
+        (0..INNER_WORDS).for_each(|k| assert_eq!(check_inner(&inner_word(&frame, k)), Ok(())));
     }
 }
 
@@ -29,10 +32,9 @@ fn every_place_counts_in_the_check() {
     let mut random = Random(51);
     let frame = random.frame();
     for _ in 0..100 {
-        let mut block = frame.clone();
-        invert(&mut block, random.below(FRAME_BITS));
-        assert_eq!(check_frame(&block), Err(4));
-        assert_eq!(extract_payload(&block, PAYLOAD), Err(4));
+        let block = inverted(&frame, [random.below(FRAME_BITS)]);
+        assert_eq!(check_frame(&block), Err(NO_CODE_WORD));
+        assert_eq!(extract_payload(&block, PAYLOAD), Err(NO_CODE_WORD));
         assert_corrected(&block, &frame);
     }
 }
@@ -42,16 +44,14 @@ fn every_place_counts_in_the_check() {
 fn both_codes_count_in_the_check() {
     let mut random = Random(52);
     let frame = random.frame();
-    let mut block = frame.clone();
-    invert(&mut block, 7_700);
-    renew_inner_parity(&mut block);
-    (0..64).for_each(|k| assert_eq!(check_inner(&inner_word(&block, k)), Ok(())));
-    assert_eq!(check_frame(&block), Err(4));
+    let mut block = inverted(&frame, [7_700]);
+    renew_parity(&mut block);
+    (0..INNER_WORDS).for_each(|k| assert_eq!(check_inner(&inner_word(&block, k)), Ok(())));
+    assert_eq!(check_frame(&block), Err(NO_CODE_WORD));
     assert_corrected(&block, &frame);
 
-    let mut block = frame.clone();
-    (124_928..FRAME_BITS).for_each(|i| put(&mut block, i, random.next() & 1 == 1));
-    assert_eq!(check_frame(&block), Err(4));
+    let block = inverted(&frame, run(&mut random, OUTER_BITS..FRAME_BITS, false));
+    assert_eq!(check_frame(&block), Err(NO_CODE_WORD));
     assert_corrected(&block, &frame);
 }
 
@@ -61,11 +61,9 @@ fn up_to_eight_errors_in_every_inner_word() {
     for round in 0..12 {
         let frame = random.frame();
         let mut block = frame.clone();
-        for k in 0..64 {
-            let errors = if round < 6 { 8 } else { random.below(9) };
-            for p in random.places(errors, 2_040) {
-                invert(&mut block, 64 * p + k);
-            }
+        for k in 0..INNER_WORDS {
+            let errors = if round < 6 { RADIUS } else { random.below(RADIUS + 1) };
+            invert(&mut block, in_word(&mut random, k, errors));
         }
         assert_corrected(&block, &frame);
     }
@@ -77,11 +75,9 @@ fn bursts_of_512() {
     let frame = random.frame();
     let starts = [0, 1, 7_300, 117_000, 124_500, 124_928, FRAME_BITS - 512];
     for start in starts.into_iter().chain((0..20).map(|_| random.below(FRAME_BITS - 511))) {
-        let mut block = frame.clone();
-        (start..start + 512).for_each(|i| invert(&mut block, i));
-        let answer = correct_frame(&block, FRAME).unwrap();
-        assert!(answer.frame == frame);
-        assert_eq!((answer.counts, answer.sum), ([8; 64], 512));
+        let run = start..start + 512;
+        assert_eq!(counts(&run.clone().collect::<Vec<_>>()), [8; INNER_WORDS]);
+        assert_corrected(&inverted(&frame, run), &frame);
     }
 }
 
@@ -93,37 +89,20 @@ fn outer_pass_alone() {
     for round in 0..12 {
         let frame = random.frame();
         let mut block = frame.clone();
-        for w in 0..16 {
-            let mut word = outer_word(&frame, w);
-            let errors = if round < 6 { 8 } else { random.below(9) };
-            for place in random.places(errors, word.len()) {
-                word[place] ^= wrong_symbol(&mut random, w, place);
-            }
-            put_outer_word(&mut block, w, &word);
+        for w in 0..OUTER_WORDS {
+            let errors = if round < 6 { RADIUS } else { random.below(RADIUS + 1) };
+            invert(&mut block, in_symbols(&mut random, w, errors, 0..symbols_in(w)));
         }
-        renew_inner_parity(&mut block);
+        renew_parity(&mut block);
         assert_corrected(&block, &frame);
 
-        let w = random.below(16);
-        let mut word = outer_word(&frame, w);
-        for place in random.places(9, word.len()) {
-            word[place] ^= wrong_symbol(&mut random, w, place);
+        let w = random.below(OUTER_WORDS);
+        put_outer_word(&mut block, w, &outer_word(&frame, w));
+        invert(&mut block, in_symbols(&mut random, w, RADIUS + 1, 0..symbols_in(w)));
+        renew_parity(&mut block);
+        if correct_outer(&outer_word(&block, w), symbols_in(w)).is_err() {
+            assert_eq!(correct_frame(&block, FRAME), Err(UNCORRECTABLE));
         }
-        let nearer = correct_outer(&word, word.len());
-        put_outer_word(&mut block, w, &word);
-        renew_inner_parity(&mut block);
-        if nearer.is_err() {
-            assert_eq!(correct_frame(&block, FRAME), Err(5));
-        }
-    }
-}
-
-/// A non-zero change of a symbol that leaves padding bits alone.
-fn wrong_symbol(random: &mut Random, w: usize, place: usize) -> u16 {
-    if (w, place) == (15, 761) {
-        4 * (1 + random.below(255) as u16)
-    } else {
-        random.non_zero_symbol()
     }
 }
 
@@ -136,22 +115,17 @@ fn some_inner_words_destroyed() {
     for round in 0..20 {
         let frame = random.frame();
         let mut block = frame.clone();
-        let destroyed = random.places(1 + round % 5, 64);
-        for k in (0..64).filter(|k| !destroyed.contains(k)) {
-            let errors = random.below(9);
-            for p in random.places(errors, 2_040) {
-                invert(&mut block, 64 * p + k);
-            }
+        let destroyed = random.choose(1 + round % 5, INNER_WORDS);
+        for k in (0..INNER_WORDS).filter(|k| !destroyed.contains(k)) {
+            let errors = random.below(RADIUS + 1);
+            invert(&mut block, in_word(&mut random, k, errors));
         }
-        for w in 0..16 {
-            for place in random.places(8, outer_length(w)) {
-                let places = (0..10).filter_map(|i| outer_bit(w, 10 * place + i));
-                places.filter(|i| destroyed.contains(&(i % 64))).for_each(|i| invert(&mut block, i));
-            }
+        for w in 0..OUTER_WORDS {
+            invert(&mut block, in_symbols_of_lost(&mut random, w, RADIUS, &destroyed));
         }
         for &k in &destroyed {
-            (0..88).for_each(|p| put(&mut block, 124_928 + 64 * p + k, random.next() & 1 == 1));
-            assert_eq!(correct_inner(&inner_word(&block, k), 255), Err(5));
+            invert(&mut block, run(&mut random, DATA_PLACES..PLACES, false).into_iter().map(|p| place(k, p)));
+            assert_eq!(correct_inner(&inner_word(&block, k), INNER_BYTES), Err(UNCORRECTABLE));
         }
         assert_corrected(&block, &frame);
     }
@@ -164,13 +138,11 @@ fn nine_symbols_are_uncorrectable() {
     let mut random = Random(57);
     for _ in 0..10 {
         let mut block = random.frame();
-        let (w, k) = (random.below(16), random.below(64));
-        let first_row = (7_810 * w).div_ceil(64);
-        for p in random.places(9, 119) {
-            invert(&mut block, 64 * (first_row + p) + k);
-        }
-        assert_eq!(correct_inner(&inner_word(&block, k), 255), Err(5));
-        assert_eq!(correct_frame(&block, FRAME), Err(5));
+        let (w, k) = (random.below(OUTER_WORDS), random.below(INNER_WORDS));
+        let first_row = (WORD_BITS * w).div_ceil(INNER_WORDS);
+        invert(&mut block, random.choose(RADIUS + 1, 119).into_iter().map(|p| place(k, first_row + p)));
+        assert_eq!(correct_inner(&inner_word(&block, k), INNER_BYTES), Err(UNCORRECTABLE));
+        assert_eq!(correct_frame(&block, FRAME), Err(UNCORRECTABLE));
     }
 }
 
@@ -183,17 +155,13 @@ fn wrong_inner_code_word_is_repaired_by_the_outer_pass() {
     for errors in 0..=8 {
         let frame = random.frame();
         let mut block = frame.clone();
-        let k = random.below(64);
-        let mut word = inner_word(&frame, k);
-        for w in 0..16usize {
-            // One data bit in each outer word is another one.
-            let row = (7_810 * w).div_ceil(64) + random.below(110);
-            invert(&mut word, row);
-        }
-        let wrong = inner_code_word(&word[..244]);
-        let mut received = wrong.clone();
-        random.places(errors, 2_040).into_iter().for_each(|p| invert(&mut received, p));
-        assert_eq!(correct_inner(&received, 255), Ok((wrong, errors)));
+        let k = random.below(INNER_WORDS);
+        // One data bit in each outer word is another one.
+        let rows = (0..OUTER_WORDS).map(|w| (WORD_BITS * w).div_ceil(INNER_WORDS) + random.below(110));
+        let word = inverted(&inner_word(&frame, k), rows);
+        let wrong = inner_code_word(&word[..INNER_DATA]);
+        let received = inverted(&wrong, random.choose(errors, PLACES));
+        assert_eq!(correct_inner(&received, INNER_BYTES), Ok((wrong, errors)));
         put_inner_word(&mut block, k, &received);
         assert_corrected(&block, &frame);
     }
@@ -206,22 +174,15 @@ fn padding_bits_of_one_are_uncorrectable() {
     let mut random = Random(59);
     for padding in 1..4 {
         for more in 0..8 {
-            let frame = random.frame();
-            let mut data = outer_word(&frame, 15)[..762].to_vec();
-            data[761] |= padding;
-            let code_word = outer_code_word(&data);
-            let mut received = code_word.clone();
-            for place in random.places(more, 761) {
-                received[place] ^= random.non_zero_symbol();
-            }
-            received[761] &= 0x3fc;
-            assert_eq!(correct_outer(&received, 778), Ok((code_word, more + 1)));
-            let mut block = frame.clone();
-            put_outer_word(&mut block, 15, &received);
-            renew_inner_parity(&mut block);
-            assert_eq!(outer_word(&block, 15), received);
-            assert_eq!(check_frame(&block), Err(4));
-            assert_eq!(correct_frame(&block, FRAME), Err(5));
+            let mut block = random.frame();
+            let code_word = exchange(&mut random, &mut block, LAST_WORD, padding);
+            invert(&mut block, in_symbols(&mut random, LAST_WORD, more, 0..PADDED_SYMBOL));
+            renew_parity(&mut block);
+            let received = outer_word(&block, LAST_WORD);
+            assert_eq!(received[PADDED_SYMBOL], code_word[PADDED_SYMBOL] - padding);
+            assert_eq!(correct_outer(&received, received.len()), Ok((code_word, more + 1)));
+            assert_eq!(check_frame(&block), Err(NO_CODE_WORD));
+            assert_eq!(correct_frame(&block, FRAME), Err(UNCORRECTABLE));
         }
     }
 }
@@ -232,14 +193,9 @@ fn last_data_symbol_is_corrected() {
     let mut random = Random(60);
     for more in 0..8 {
         let frame = random.frame();
-        let mut received = outer_word(&frame, 15);
-        received[761] ^= 4 * (1 + random.below(255) as u16);
-        for place in random.places(more, 761) {
-            received[place] ^= random.non_zero_symbol();
-        }
-        let mut block = frame.clone();
-        put_outer_word(&mut block, 15, &received);
-        renew_inner_parity(&mut block);
+        let mut block = inverted(&frame, in_symbols(&mut random, LAST_WORD, 1, PADDED_SYMBOL..PADDED_SYMBOL + 1));
+        invert(&mut block, in_symbols(&mut random, LAST_WORD, more, 0..PADDED_SYMBOL));
+        renew_parity(&mut block);
         assert_corrected(&block, &frame);
     }
 }
@@ -253,20 +209,15 @@ fn any_damage_is_answered() {
     let densities = [50, 200, 300, 350, 400, 450, 500, 600, 1_000, 10_000, 65_280, 130_560];
     let mut corrected = 0;
     for wrong in densities {
-        let mut block = frame.clone();
-        for _ in 0..wrong {
-            invert(&mut block, random.below(FRAME_BITS));
-        }
-        if wrong == FRAME_BITS {
-            block = frame.iter().map(|byte| !byte).collect();
-        }
+        let all = 0..FRAME_BITS;
+        let block = if wrong == FRAME_BITS { inverted(&frame, all) } else { inverted(&frame, scattered(&mut random, wrong, all)) };
         match correct_frame(&block, FRAME) {
             Ok(answer) => {
                 assert_eq!(check_frame(&answer.frame), Ok(()));
                 assert_corrected(&block, &answer.frame);
                 corrected += 1;
             }
-            Err(refusal) => assert_eq!(refusal, 5),
+            Err(refusal) => assert_eq!(refusal, UNCORRECTABLE),
         }
     }
     assert!(corrected >= 3);

@@ -1,7 +1,9 @@
 //! Counters and worst lists.
 
-mod common;
-use common::*;
+use cases::damage::inverted;
+use cases::layout::FRAME;
+use cases::random::Random;
+use cases::refusals::UNCORRECTABLE;
 use second::logging::*;
 use second::*;
 
@@ -24,14 +26,12 @@ fn corrected_and_uncorrectable_blocks_count() {
         counters.read()
     };
     assert_eq!(after(&frame, FRAME), [1, 0, 0]);
-    let mut block = frame.clone();
-    (0..512).for_each(|i| invert(&mut block, i));
-    assert_eq!(after(&block, FRAME), [2, 0, 512]);
-    invert(&mut block, 512);
+    assert_eq!(after(&inverted(&frame, 0..512), FRAME), [2, 0, 512]);
+    let block = inverted(&frame, 0..513);
     assert_eq!(after(&block, FRAME), [2, 1, 512]);
     assert_eq!(after(&block, FRAME - 1), [2, 1, 512]);
     assert_eq!(after(&block[1..], FRAME), [2, 1, 512]);
-    for number in (0..=u8::MAX).filter(|&number| number != 5) {
+    for number in (0..=u8::MAX).filter(|&number| number != UNCORRECTABLE) {
         counters.count(&Err(number));
     }
     assert_eq!(counters.read(), [2, 1, 512]);
@@ -50,7 +50,7 @@ fn counters_stop_at_the_largest_number() {
     assert_eq!(counters.read(), [8, 6, LARGEST]);
     let mut counters = Counters { frames: u64::from(LARGEST) - 1, uncorrectable: u64::from(LARGEST) - 1, bits: 7 };
     for read in [[LARGEST, LARGEST, 8], [LARGEST, LARGEST, 9]] {
-        counters.count(&Err(5));
+        counters.count(&Err(UNCORRECTABLE));
         counters.count(&corrected(1));
         assert_eq!(counters.read(), read);
     }

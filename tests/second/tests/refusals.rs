@@ -1,110 +1,84 @@
 //! Every refusal at its boundaries, and their order.
 
-mod common;
-use common::*;
-use second::*;
+use cases::calls;
+use cases::payloads::{self, from_bytes, outer_code_word};
+use cases::random::Random;
+use cases::refusals::{all_limits, Code, Content, Entry, Given, Operation, ENTRIES};
+
+/// An input of this length: a frame or code word if there is one so long, else something like it.
+fn as_sent(random: &mut Random, entry: &Entry, length: usize) -> Vec<u16> {
+    let taken = entry.lengths.contains(&length);
+    let mut values = match (entry.operation, entry.code) {
+        (Operation::Encode, Code::Outer) => random.symbols(length),
+        (Operation::Encode, Code::Inner) => from_bytes(random.bytes(length)),
+        (Operation::Encode, Code::Frame) => from_bytes(payloads::random(random, length)),
+        (_, Code::Frame) => from_bytes(random.frame()),
+        (_, Code::Outer) if taken => random.outer_code_word(length),
+        (_, Code::Outer) => outer_code_word(&[1]),
+        (_, Code::Inner) => from_bytes(random.inner_code_word()),
+    };
+    values.resize(length, 0);
+    values
+}
+
+/// Inputs of this length of every kind: as sent, with one wrong bit, noise; data are as sent in any case.
+fn inputs(random: &mut Random, entry: &Entry, length: usize) -> Vec<(Vec<u16>, Content)> {
+    let sent = as_sent(random, entry, length);
+    if entry.operation == Operation::Encode {
+        return vec![(sent, Content::AsSent)];
+    }
+    let mut wrong = sent.clone();
+    if length > 0 {
+        wrong[random.below(length)] ^= 1;
+    }
+    let noise = if entry.code == Code::Outer { random.symbols(length) } else { from_bytes(random.bytes(length)) };
+    vec![(sent, Content::AsSent), (wrong, Content::Correctable), (noise, Content::Lost)]
+}
+
+/// The input as it is and, for symbols, with one that is too large by 1, one that is as large as can be, and none but such.
+fn with_large_symbols(entry: &Entry, values: Vec<u16>) -> Vec<Vec<u16>> {
+    if entry.code != Code::Outer || values.is_empty() {
+        return vec![values];
+    }
+    let last = |symbol| [&values[..values.len() - 1], &[symbol]].concat();
+    vec![values.clone(), last(1_024), last(65_535), vec![1_024; values.len()]]
+}
+
+/// The input with spaces at, below and above all limits, and as large as can be: each call is answered by the first refusal that applies.
+fn refused_in_order(entry: &Entry, values: &[u16], content: Content) {
+    for space in all_limits().into_iter().chain([usize::MAX, (1 << 61) + 11]) {
+        let given = Given::of(values, space, content);
+        assert_eq!(calls::number(entry, values, space), entry.answer(&given), "{}, {given:?}", entry.name);
+    }
+}
+
+/// The chosen entries with inputs of lengths at, below and above all limits.
+fn all_refused_in_order(seed: u64, chosen: impl Fn(&Entry) -> bool) {
+    let mut random = Random(seed);
+    for entry in ENTRIES.iter().filter(|entry| chosen(entry)) {
+        let inputs = all_limits().into_iter().flat_map(|length| inputs(&mut random, entry, length));
+        for (values, content) in inputs {
+            with_large_symbols(entry, values).iter().for_each(|values| refused_in_order(entry, values, content));
+        }
+    }
+}
 
 #[test]
 fn payload_length_then_space() {
-    for (length, space, refusal) in [
-        (0, FRAME, Some(1)),
-        (PAYLOAD - 1, FRAME, Some(1)),
-        (PAYLOAD + 1, FRAME, Some(1)),
-        (PAYLOAD + 1, 0, Some(1)),
-        (FRAME, FRAME, Some(1)),
-        (PAYLOAD, 0, Some(3)),
-        (PAYLOAD, FRAME - 1, Some(3)),
-        (PAYLOAD, FRAME + 1, Some(3)),
-        (PAYLOAD, FRAME, None),
-    ] {
-        assert_eq!(encode_frame(&vec![7; length], space).err(), refusal);
-    }
+    all_refused_in_order(19, |entry| (entry.operation, entry.code) == (Operation::Encode, Code::Frame));
 }
 
 #[test]
 fn block_length_then_space_then_the_rest() {
-    let mut random = Random(20);
-    let noise = random.bytes(FRAME + 1);
-    for length in [0, 1, FRAME - 1, FRAME + 1] {
-        assert_eq!(check_frame(&noise[..length]), Err(2));
-        for space in [0, PAYLOAD, FRAME] {
-            assert_eq!(extract_payload(&noise[..length], space), Err(2));
-            assert_eq!(correct_frame(&noise[..length], space), Err(2));
-        }
-    }
-    let noise = &noise[..FRAME];
-    let frame = random.frame();
-    for space in [0, PAYLOAD - 1, PAYLOAD + 1, FRAME] {
-        assert_eq!(extract_payload(noise, space), Err(3));
-        assert_eq!(extract_payload(&frame, space), Err(3));
-    }
-    for space in [0, PAYLOAD, FRAME - 1, FRAME + 1] {
-        assert_eq!(correct_frame(noise, space), Err(3));
-        assert_eq!(correct_frame(&frame, space), Err(3));
-    }
-    assert_eq!(check_frame(noise), Err(4));
-    assert_eq!(extract_payload(noise, PAYLOAD), Err(4));
-    assert_eq!(correct_frame(noise, FRAME), Err(5));
-    assert_eq!(check_frame(&frame), Ok(()));
+    all_refused_in_order(20, |entry| entry.operation != Operation::Encode && entry.code == Code::Frame);
 }
 
 #[test]
 fn outer_refusals_in_order() {
-    let too_large = vec![1_024; 1_030];
-    for length in [0, 1, 15, 16, 1_024, 1_030] {
-        assert_eq!(check_outer(&too_large[..length]), Err(6));
-        assert_eq!(correct_outer(&too_large[..length], length), Err(6));
-        assert_eq!(correct_outer(&too_large[..length], length + 1), Err(6));
-    }
-    for length in [0, 1_008, 1_023] {
-        assert_eq!(encode_outer(&too_large[..length], 16), Err(6));
-        assert_eq!(encode_outer(&too_large[..length], 15), Err(6));
-    }
-    for length in [17, 18, 1_022, 1_023] {
-        for space in [0, 16, length - 1, length + 1] {
-            assert_eq!(correct_outer(&too_large[..length], space), Err(3));
-        }
-        assert_eq!(check_outer(&too_large[..length]), Err(7));
-        assert_eq!(correct_outer(&too_large[..length], length), Err(7));
-    }
-    for length in [1, 2, 1_006, 1_007] {
-        for space in [0, 15, 17, length + 16] {
-            assert_eq!(encode_outer(&too_large[..length], space), Err(3));
-        }
-        assert_eq!(encode_outer(&too_large[..length], 16), Err(7));
-        assert_eq!(encode_outer(&[vec![0; length - 1], vec![65_535]].concat(), 16), Err(7));
-        assert_eq!(encode_outer(&vec![1_023; length], 16).unwrap().len(), 16);
-    }
-    for length in [17, 18, 781, 1_023] {
-        let noise = Random(21).symbols(length);
-        assert_eq!(check_outer(&noise), Err(4));
-        assert_eq!(correct_outer(&noise, length), Err(5));
-        let mut symbol_as_well = noise.clone();
-        symbol_as_well[length - 1] = 1_024;
-        assert_eq!(check_outer(&symbol_as_well), Err(7));
-        assert_eq!(correct_outer(&symbol_as_well, length), Err(7));
-    }
+    all_refused_in_order(21, |entry| entry.code == Code::Outer);
 }
 
 #[test]
 fn inner_refusals_in_order() {
-    let noise = Random(22).bytes(260);
-    for length in [0, 11, 244, 254, 256, 260] {
-        assert_eq!(check_inner(&noise[..length]), Err(6));
-        assert_eq!(correct_inner(&noise[..length], length), Err(6));
-        assert_eq!(correct_inner(&noise[..length], 255), Err(6));
-    }
-    for length in [0, 11, 243, 245, 255] {
-        assert_eq!(encode_inner(&noise[..length], 11), Err(6));
-        assert_eq!(encode_inner(&noise[..length], 12), Err(6));
-    }
-    for space in [0, 10, 12, 255, usize::MAX, (1 << 61) + 11] {
-        assert_eq!(encode_inner(&noise[..244], space), Err(3));
-    }
-    for space in [0, 244, 254, 256] {
-        assert_eq!(correct_inner(&noise[..255], space), Err(3));
-    }
-    assert_eq!(encode_inner(&noise[..244], 11).unwrap().len(), 11);
-    assert_eq!(check_inner(&noise[..255]), Err(4));
-    assert_eq!(correct_inner(&noise[..255], 255), Err(5));
+    all_refused_in_order(22, |entry| entry.code == Code::Inner);
 }

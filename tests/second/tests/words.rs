@@ -1,7 +1,12 @@
 //! Single outer and inner words.
 
 mod common;
-use common::*;
+use cases::damage::{inverted, symbol_error, wrong_symbols};
+use cases::layout::{wrong_bits, INNER_BYTES, INNER_DATA, INNER_PARITY, PLACES, RADIUS};
+use cases::payloads::outer_code_word;
+use cases::random::Random;
+use cases::refusals::{NO_CODE_WORD, UNCORRECTABLE};
+use common::symbol_differences;
 use second::*;
 
 const LENGTHS: [usize; 9] = [17, 18, 24, 25, 100, 778, 781, 1_022, 1_023];
@@ -15,10 +20,8 @@ fn outer_encoding_gives_the_only_code_word() {
         for _ in 0..30 {
             let mut other = word.clone();
             let errors = 1 + random.below(16);
-            for place in random.places(errors, length) {
-                other[place] ^= random.non_zero_symbol();
-            }
-            assert_eq!(check_outer(&other), Err(4));
+            wrong_symbols(&mut random, &mut other, errors);
+            assert_eq!(check_outer(&other), Err(NO_CODE_WORD));
         }
     }
 }
@@ -41,9 +44,7 @@ fn outer_up_to_eight_errors() {
             for _ in 0..40 {
                 let word = random.outer_code_word(length);
                 let mut received = word.clone();
-                for place in random.places(errors, length) {
-                    received[place] ^= random.non_zero_symbol();
-                }
+                wrong_symbols(&mut random, &mut received, errors);
                 assert_eq!(correct_outer(&received, length), Ok((word, errors)));
             }
         }
@@ -76,7 +77,7 @@ fn outer_every_single_error() {
         let word = random.outer_code_word(length);
         for place in 0..length {
             let mut received = word.clone();
-            received[place] ^= random.non_zero_symbol();
+            received[place] ^= symbol_error(&mut random);
             assert_eq!(correct_outer(&received, length), Ok((word.clone(), 1)));
         }
     }
@@ -88,11 +89,11 @@ fn assert_sound_outer(received: &[u16]) -> bool {
         Ok((word, changed)) => {
             assert_eq!(check_outer(&word), Ok(()));
             assert_eq!(symbol_differences(&word, received), changed);
-            assert!(changed <= 8);
+            assert!(changed <= RADIUS);
             true
         }
         Err(refusal) => {
-            assert_eq!(refusal, 5);
+            assert_eq!(refusal, UNCORRECTABLE);
             false
         }
     }
@@ -106,9 +107,7 @@ fn outer_more_than_eight_errors() {
             for _ in 0..40 {
                 let word = random.outer_code_word(length);
                 let mut received = word.clone();
-                for place in random.places(errors, length) {
-                    received[place] ^= random.non_zero_symbol();
-                }
+                wrong_symbols(&mut random, &mut received, errors);
                 if assert_sound_outer(&received) {
                     assert_ne!(correct_outer(&received, length).unwrap().0, word);
                 }
@@ -131,11 +130,11 @@ fn outer_against_all_code_words_of_17_symbols() {
         let (p, q) = (&code[random.below(1_024)], &code[random.below(1_024)]);
         let from_p = random.below(12);
         let mut received: Vec<u16> = (0..17).map(|i| if i < from_p { p[i] } else { q[i] }).collect();
-        for place in random.places(round % 5, 17) {
+        for place in random.choose(round % 5, 17) {
             received[place] = random.below(1_024) as u16;
         }
         let near = code.iter().map(|word| (word, symbol_differences(word, &received)));
-        let near: Vec<_> = near.filter(|&(_, distance)| distance <= 8).collect();
+        let near: Vec<_> = near.filter(|&(_, distance)| distance <= RADIUS).collect();
         assert!(near.len() <= 1);
         match near.first() {
             Some(&(word, distance)) => {
@@ -143,7 +142,7 @@ fn outer_against_all_code_words_of_17_symbols() {
                 found += 1;
             }
             None => {
-                assert_eq!(correct_outer(&received, 17), Err(5));
+                assert_eq!(correct_outer(&received, 17), Err(UNCORRECTABLE));
                 refused += 1;
             }
         }
@@ -160,14 +159,14 @@ fn outer_between_two_code_words() {
         let p = random.outer_code_word(length);
         let mut step = vec![0; length];
         let offset = random.below(length - 16);
-        let generator = outer_code_word(&[random.non_zero_symbol()]);
+        let generator = outer_code_word(&[symbol_error(&mut random)]);
         step[offset..offset + 17].copy_from_slice(&generator);
         let q: Vec<u16> = p.iter().zip(&step).map(|(x, y)| x ^ y).collect();
         assert_eq!(check_outer(&q), Ok(()));
         assert_eq!(symbol_differences(&p, &q), 17);
         for from_q in 0..=17 {
             let mut received = p.clone();
-            for place in random.places(from_q, 17) {
+            for place in random.choose(from_q, 17) {
                 received[offset + place] = q[offset + place];
             }
             let expected = if from_q <= 8 { (p.clone(), from_q) } else { (q.clone(), 17 - from_q) };
@@ -183,13 +182,12 @@ fn inner_encoding_gives_the_only_code_word() {
         let word = random.inner_code_word();
         assert_eq!(check_inner(&word), Ok(()));
         for errors in 1..=16 {
-            let mut other = word.clone();
-            random.places(errors, 2_040).into_iter().for_each(|i| invert(&mut other, i));
-            assert_eq!(check_inner(&other), Err(4));
+            let other = inverted(&word, random.choose(errors, PLACES));
+            assert_eq!(check_inner(&other), Err(NO_CODE_WORD));
         }
     }
-    let zero = vec![0; 244];
-    assert_eq!(encode_inner(&zero, 11), Ok(vec![0; 11]));
+    let zero = vec![0; INNER_DATA];
+    assert_eq!(encode_inner(&zero, INNER_PARITY), Ok(vec![0; INNER_PARITY]));
 }
 
 #[test]
@@ -198,9 +196,8 @@ fn inner_up_to_eight_errors() {
     for errors in 0..=8 {
         for _ in 0..300 {
             let word = random.inner_code_word();
-            let mut received = word.clone();
-            random.places(errors, 2_040).into_iter().for_each(|i| invert(&mut received, i));
-            assert_eq!(correct_inner(&received, 255), Ok((word, errors)));
+            let received = inverted(&word, random.choose(errors, PLACES));
+            assert_eq!(correct_inner(&received, INNER_BYTES), Ok((word, errors)));
         }
     }
 }
@@ -209,11 +206,10 @@ fn inner_up_to_eight_errors() {
 fn inner_errors_side_by_side() {
     let mut random = Random(42);
     for errors in 1..=8 {
-        for start in [0, 1, 1_948, 1_952, 2_040 - errors] {
+        for start in [0, 1, 1_948, 1_952, PLACES - errors] {
             let word = random.inner_code_word();
-            let mut received = word.clone();
-            (start..start + errors).for_each(|i| invert(&mut received, i));
-            assert_eq!(correct_inner(&received, 255), Ok((word, errors)));
+            let received = inverted(&word, start..start + errors);
+            assert_eq!(correct_inner(&received, INNER_BYTES), Ok((word, errors)));
         }
     }
 }
@@ -221,10 +217,9 @@ fn inner_errors_side_by_side() {
 #[test]
 fn inner_every_single_error() {
     let word = Random(43).inner_code_word();
-    for place in 0..2_040 {
-        let mut received = word.clone();
-        invert(&mut received, place);
-        assert_eq!(correct_inner(&received, 255), Ok((word.clone(), 1)));
+    for place in 0..PLACES {
+        let received = inverted(&word, [place]);
+        assert_eq!(correct_inner(&received, INNER_BYTES), Ok((word.clone(), 1)));
     }
 }
 
@@ -235,11 +230,8 @@ fn inner_errors_with_vanishing_first_syndrome() {
     let mut random = Random(44);
     for shift in [0, 1, 64, 1_000, 2_028] {
         let word = random.inner_code_word();
-        let mut received = word.clone();
-        for power in [11, 2, 0] {
-            invert(&mut received, 2_039 - shift - power);
-        }
-        assert_eq!(correct_inner(&received, 255), Ok((word, 3)));
+        let received = inverted(&word, [11, 2, 0].map(|power| PLACES - 1 - shift - power));
+        assert_eq!(correct_inner(&received, INNER_BYTES), Ok((word, 3)));
     }
 }
 
@@ -249,15 +241,14 @@ fn inner_more_than_eight_errors() {
     for errors in (9..=40).chain([500, 1_020, 2_000]) {
         for _ in 0..40 {
             let word = random.inner_code_word();
-            let mut received = word.clone();
-            random.places(errors, 2_040).into_iter().for_each(|i| invert(&mut received, i));
-            match correct_inner(&received, 255) {
+            let received = inverted(&word, random.choose(errors, PLACES));
+            match correct_inner(&received, INNER_BYTES) {
                 Ok((other, changed)) => {
                     assert_eq!(check_inner(&other), Ok(()));
-                    assert_eq!(differences(&other, &received).len(), changed);
-                    assert!(changed <= 8 && other != word);
+                    assert_eq!(wrong_bits(&other, &received).len(), changed);
+                    assert!(changed <= RADIUS && other != word);
                 }
-                Err(refusal) => assert_eq!(refusal, 5),
+                Err(refusal) => assert_eq!(refusal, UNCORRECTABLE),
             }
         }
     }

@@ -131,24 +131,26 @@ pub mod words {
 #[cfg(test)]
 mod tests {
     use super::*;
+    use cases::damage::inverted;
+    use cases::payloads::{self, zero_frame, Data};
+    use cases::refusals;
 
     #[test]
     fn frames_of_zeros() {
-        let (payload, mut frame) = ([0; frames::PAYLOAD_BYTES], [9; frames::FRAME_BYTES]);
+        let (payload, mut frame) = (payloads::of(Data::Each(0), frames::PAYLOAD_BYTES), [9; frames::FRAME_BYTES]);
         assert_eq!(frames::encode(&payload, &mut frame), Ok(()));
-        assert_eq!(frame, [0; frames::FRAME_BYTES]);
-        frame[0] = 0x80;
-        frame[8] = 0x80;
+        assert_eq!(frame, zero_frame());
+        let block = inverted(&frame, [0, 64]);
         let (mut restored, mut counts) = ([9; frames::FRAME_BYTES], [9; frames::INNER_WORDS]);
-        assert_eq!(frames::correct_with_report(&frame, &mut restored, &mut counts), Ok(2));
-        assert_eq!((restored[0], counts[0], counts[1]), (0, 2, 0));
+        assert_eq!(frames::correct_with_report(&block, &mut restored, &mut counts), Ok(2));
+        assert_eq!((restored, counts[0], counts[1]), (frame, 2, 0));
     }
 
     #[test]
     fn refusals_have_their_numbers() {
-        assert_eq!(frames::encode(&[], &mut []), Err(Refusal::PayloadLength));
-        assert_eq!(frames::correct(&[], &mut []).map_err(Refusal::number), Err(2));
-        assert_eq!(words::check_outer(&[1024; 17]).map_err(Refusal::number), Err(7));
-        assert_eq!(words::correct_inner(&[255; 254], &mut []).map_err(Refusal::number), Err(6));
+        assert_eq!(frames::encode(&[], &mut []).map_err(Refusal::number), Err(refusals::PAYLOAD_LENGTH));
+        assert_eq!(frames::correct(&[], &mut []).map_err(Refusal::number), Err(refusals::BLOCK_LENGTH));
+        assert_eq!(words::check_outer(&[1024; 17]).map_err(Refusal::number), Err(refusals::SYMBOL));
+        assert_eq!(words::correct_inner(&[255; 254], &mut []).map_err(Refusal::number), Err(refusals::WORD_LENGTH));
     }
 }

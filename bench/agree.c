@@ -11,85 +11,65 @@ static void nothing(void)
 static void up_to_8_each(void)
 {
 	for (int k = 0; k < INNER; k++)
-		damage_word(k, next_random(9), 0);
+		damage_word(block, k, next_random(9), 0);
 }
 
 // inner words that are lost, with so few wrong bits that the outer words can often be corrected
 static void some_lost(void)
 {
 	up_to_8_each();
-	damage_words(1 + next_random(4), 9 + next_random(26));
+	damage_words(block, 1 + next_random(4), 9 + next_random(26));
 }
 
 static void half_lost(void)
 {
-	damage_words(32, 9);
+	damage_words(block, 32, 9);
 }
 
 // bits that the outer words do not have
 static void lost_by_parity(void)
 {
 	for (int k = 0; k < INNER; k += 1 + next_random(16))
-		damage_word(k, 9 + next_random(40), PLACES - 88);
+		damage_word(block, k, 9 + next_random(40), PLACES - 88);
 }
 
 static void destroyed(void)
 {
 	for (int k = next_random(INNER); k < INNER; k += 1 + next_random(INNER))
-		for (int p = 0; p < PLACES; p++)
-			if (next_random(2))
-				invert_bit(INNER * p + k);
+		destroy_word(block, k);
 }
 
 static void burst(void)
 {
-	damage_burst(next_random(8 * FRAME), 1 + next_random(540));
+	damage_burst(block, next_random(8 * FRAME), 1 + next_random(540));
 }
 
 // from the last symbols of an outer word into the next one, where both can have wrong symbols enough
 static void burst_at_a_word_end(void)
 {
 	int length = 500 + next_random(40);
-	damage_burst(WORD_BITS * (1 + next_random(WORDS - 1)) - next_random(length), length);
+	damage_burst(block, WORD_BITS * (1 + next_random(WORDS - 1)) - next_random(length), length);
 }
 
 static void burst_at_the_padding(void)
 {
 	int length = 1 + next_random(540);
-	damage_burst(LAST_PARITY_BIT - next_random(length + 20), length);
-}
-
-// another symbol in word w
-static void change_symbol(int w, int s)
-{
-	int bits = bits_in(w, s), first = bit_of(w, s);
-	int change = 1 + next_random((1 << bits) - 1);
-	for (int i = 0; i < bits; i++)
-		if (change >> i & 1)
-			invert_bit(first + i);
-}
-
-static void change_symbols(int w, int n, int from)
-{
-	uint32_t chosen[SYMBOLS];
-	choose(chosen, n, symbols_in(w) - from);
-	for (int i = 0; i < n; i++)
-		change_symbol(w, from + chosen[i]);
+	damage_burst(block, LAST_PARITY_BIT - next_random(length + 20), length);
 }
 
 // wrong symbols that no inner word shows
 static void wrong_symbols(void)
 {
 	for (int w = 0; w < WORDS; w++)
-		change_symbols(w, next_random(9), 0);
+		change_symbols(block, w, next_random(9), 0);
 	if (next_random(4) == 0)
-		change_symbols(next_random(WORDS), 2, 0);
+		change_symbols(block, next_random(WORDS), 2, 0);
 	peer_inner_parity(block);
 }
 
 static void wrong_symbols_at_the_padding(void)
 {
-	change_symbols(WORDS - 1, 1 + next_random(9), LAST_DATA - 4);
+	change_symbols(block, WORDS - 1, 1 + next_random(9), LAST_DATA - 4);
 	peer_inner_parity(block);
 }
 
@@ -104,9 +84,14 @@ static void padding_not_zero(void)
 	encode_rs_int(rs, word, word + LAST_DATA);
 	for (int i = 0; i < 160; i++)
 		if (word[LAST_DATA + i / 10] >> (9 - i % 10) & 1)
-			invert_bit(LAST_PARITY_BIT + i);
-	change_symbols(WORDS - 1, next_random(9), 0);
+			invert_bit(block, LAST_PARITY_BIT + i);
+	change_symbols(block, WORDS - 1, next_random(9), 0);
 	peer_inner_parity(block);
+}
+
+static void any_bytes(void)
+{
+	noise(block);
 }
 
 static void compare_reading(const char *damage)
@@ -150,7 +135,7 @@ int main(void)
 	try("wrong symbols with inner parity afresh", wrong_symbols);
 	try("wrong symbols at the padding", wrong_symbols_at_the_padding);
 	try("padding bits that are not zero", padding_not_zero);
-	try("noise", noise);
+	try("noise", any_bytes);
 	printf("    ");
 	print_wrong_answers();
 	return 0;

@@ -3,7 +3,7 @@
 #include "slow_words.h"
 #include "turns.h"
 
-enum { ROUNDS = 1001, MILLION = 1000000 };
+enum { ROUNDS = 1001 };
 
 // inner words with more than eight wrong bits
 static int lost(void)
@@ -16,26 +16,20 @@ static int lost(void)
 	return words;
 }
 
-// each bit of the block is wrong with this probability, whatever the others are
 static void at_rate(int millionths)
 {
-	for (int i = 0; i < 8 * FRAME; i++)
-		if (next_random(MILLION) < (uint32_t)millionths)
-			invert_bit(i);
+	damage_at_rate(block, millionths);
 }
 
 static void scattered(int bits)
 {
-	uint32_t chosen[bits];
-	choose(chosen, bits, 8 * FRAME);
-	for (int n = 0; n < bits; n++)
-		invert_bit(chosen[n]);
+	damage_anywhere(block, bits, 8 * FRAME);
 }
 
 static void random_block(int unused)
 {
 	(void)unused;
-	noise();
+	noise(block);
 }
 
 // so many inner words with one wrong bit each in every outer word, each in another symbol
@@ -43,17 +37,8 @@ static void lost_words(int words)
 {
 	uint32_t chosen[RADIUS];
 	choose(chosen, words, INNER);
-	for (int w = 0; w < WORDS; w++) {
-		int taken[SYMBOLS] = { 0 };
-		for (int n = 0; n < words;) {
-			int s = next_random(symbols_in(w)), first = bit_of(w, s), i = (INNER + chosen[n] - first % INNER) % INNER;
-			if (taken[s] || i >= bits_in(w, s))
-				continue;
-			taken[s] = 1;
-			invert_bit(first + i);
-			n++;
-		}
-	}
+	for (int w = 0; w < WORDS; w++)
+		damage_by_words(block, w, chosen, words);
 	require(lost() == words, "%d lost inner words", lost());
 }
 
@@ -62,12 +47,8 @@ static void inverted_symbols(int symbols)
 {
 	do {
 		memcpy(block, frame, FRAME);
-		for (int w = 0; w < WORDS; w++) {
-			uint32_t chosen[RADIUS];
-			choose(chosen, symbols, symbols_in(w));
-			for (int n = 0; n < symbols; n++)
-				damage_burst(bit_of(w, chosen[n]), bits_in(w, chosen[n]));
-		}
+		for (int w = 0; w < WORDS; w++)
+			invert_symbols(block, w, symbols);
 	} while (lost() < INNER);
 }
 

@@ -60,7 +60,7 @@ static const struct row rows[] = {
 	{ "correct: 4 in every inner word", correct, INNER, 4, 0, 0, frame, FRAME },
 	{ "correct: 8 in every inner word", correct, INNER, 8, 0, 0, frame, FRAME },
 	{ "correct: a burst of 512", correct, 0, 0, 512, 0, frame, FRAME },
-	{ "correct: 40 in each of 8 inner words (refused)", correct, 8, 40, 0, 5, NULL, 0 },
+	{ "correct: 40 in each of 8 inner words (refused)", correct, 8, 40, 0, UNCORRECTABLE, NULL, 0 },
 };
 
 enum { ROWS = sizeof rows / sizeof *rows };
@@ -83,8 +83,8 @@ static void measure(int r, int round)
 	const struct row *row = &rows[r];
 	int numbers[2];
 	new_frame();
-	damage_words(row->words, row->errors);
-	damage_burst(next_random(8 * FRAME - row->burst + 1), row->burst);
+	damage_words(block, row->words, row->errors);
+	damage_burst(block, next_random(8 * FRAME - row->burst + 1), row->burst);
 	clear_outputs();
 	take_turns(row->sides, round, ROUNDS, times[r], numbers);
 	compare(row, numbers);

@@ -15,7 +15,7 @@ static void measure(int e, int w, int round)
 {
 	int numbers[2];
 	new_frame();
-	damage_words(words[w], errors[e]);
+	damage_words(block, words[w], errors[e]);
 	clear_outputs();
 	take_turns(correct, round, ROUNDS, times[e][w], numbers);
 	require(numbers[0] == 0 && !memcmp(ours_out, frame, FRAME), "%d wrong bits in %d inner words: proved answer %d", errors[e], words[w], numbers[0]);

@@ -3,7 +3,7 @@
 #pragma once
 #include "blocks.h"
 
-enum { ORDER = 2047, SYNDROMES = 16, RADIUS = 8, LAST_BITS = 32, KINDS = 8 };
+enum { ORDER = 2047, SYNDROMES = 16, LAST_BITS = 32, KINDS = 8 };
 
 // The powers of a in field B, and their exponents.
 static uint16_t powers[ORDER], exponents[ORDER + 1];
@@ -88,6 +88,6 @@ static inline void make_words_slow(void)
 		uint32_t wrong = slow[k][next_random(KINDS)];
 		for (int b = 0; b < last_count[k]; b++)
 			if (wrong >> b & 1)
-				invert_bit(last_bits[k][b]);
+				invert_bit(block, last_bits[k][b]);
 	}
 }

@@ -1,14 +1,13 @@
 // How much stack each entry for C uses: a thread runs on a stack that is painted beforehand, and the deepest byte that changed tells. What a thread needs
 // without a call is taken away.
-#include "g9751_i4.h"
 #include <pthread.h>
-#include <stdio.h>
-#include <stdlib.h>
 #include <string.h>
+#include "damage.h"
+#include "payloads.h"
 
 enum { STACK = 1 << 20, PAINT = 0xa5 };
 
-static uint8_t payload[G9751_I4_PAYLOAD_BYTES], frame[G9751_I4_FRAME_BYTES], block[G9751_I4_FRAME_BYTES], out[G9751_I4_FRAME_BYTES];
+static uint8_t payload[PAYLOAD], frame[FRAME], block[FRAME], out[FRAME];
 static volatile uint8_t number;
 
 static void nothing(void)
@@ -59,15 +58,12 @@ static size_t used(void (*call)(void))
 
 int main(void)
 {
-	for (size_t i = 0; i < sizeof payload; i++)
-		payload[i] = 31 * i % 256;
+	fill_payload(payload, patterned_byte);
 	g9751_i4_encode(payload, sizeof payload, frame, sizeof frame);
 	memcpy(block, frame, sizeof frame);
 	// nine bits of inner word 0 in nine outer words, and eight of inner word 1: both passes have words to correct
-	for (int j = 0; j < 9; j++)
-		block[1600 * j] ^= 128;
-	for (int j = 0; j < 8; j++)
-		block[8 * j] ^= 64;
+	invert_apart(block, RADIUS + 1, 0, 12800);
+	invert_apart(block, RADIUS, 1, INNER);
 	struct {
 		const char *name;
 		void (*call)(void);

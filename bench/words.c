@@ -3,11 +3,12 @@
 #include <fec.h>
 #include <linux/bch.h>
 #include <string.h>
+#include "damage.h"
 #include "exports.h"
-#include "random.h"
+#include "refusals.h"
 #include "rounds.h"
 
-enum { ROUNDS = 2001, SYMBOLS = 781, DATA = 765, BYTES = 255, DATA_BYTES = 244, PLACES = 2040 };
+enum { ROUNDS = 2001 };
 
 // the proved correctors: 0, or the refusal's number, which is the lowest byte of their answer
 static inline uint8_t correct_outer(const uint16_t *word, uint16_t *out)
@@ -17,7 +18,7 @@ static inline uint8_t correct_outer(const uint16_t *word, uint16_t *out)
 
 static inline uint8_t correct_inner(const uint8_t *word, uint8_t *out)
 {
-	return exports_correct_inner(word, BYTES, out, BYTES);
+	return exports_correct_inner(word, INNER_BYTES, out, INNER_BYTES);
 }
 
 static double ours[ROUNDS], theirs[ROUNDS];
@@ -40,14 +41,11 @@ static void outer(void *rs, int errors)
 	for (int round = 0; round < ROUNDS; round++) {
 		unsigned int sent[SYMBOLS], peer[SYMBOLS];
 		uint16_t word[SYMBOLS], out[SYMBOLS];
-		uint32_t places[9];
-		for (int i = 0; i < DATA; i++)
+		for (int i = 0; i < DATA_SYMBOLS; i++)
 			sent[i] = next_random(1024);
-		encode_rs_int(rs, sent, sent + DATA);
+		encode_rs_int(rs, sent, sent + DATA_SYMBOLS);
 		memcpy(peer, sent, sizeof sent);
-		choose(places, errors, SYMBOLS);
-		for (int k = 0; k < errors; k++)
-			peer[places[k]] ^= 1 + next_random(1023);
+		damage_symbols(peer, SYMBOLS, errors);
 		for (int i = 0; i < SYMBOLS; i++)
 			word[i] = peer[i];
 		memset(out, 0, sizeof out);
@@ -57,13 +55,13 @@ static void outer(void *rs, int errors)
 		int found = decode_rs_int(rs, peer, NULL, 0);
 		theirs[round] = now() - middle;
 		ours[round] = middle - start;
-		if (errors <= 8) {
+		if (errors <= RADIUS) {
 			require(number == 0, "proved, outer, %d errors", errors);
 			for (int i = 0; i < SYMBOLS; i++)
 				require(out[i] == sent[i], "proved, outer, %d errors", errors);
 			require(found == errors && !memcmp(peer, sent, sizeof sent), "libfec, %d errors", errors);
 		} else {
-			require(number == 5, "proved, outer, %d errors", errors);
+			require(number == UNCORRECTABLE, "proved, outer, %d errors", errors);
 			taken += found >= 0;
 		}
 	}
@@ -76,31 +74,28 @@ static void inner(struct bch_control *bch, int errors)
 {
 	int taken = 0;
 	for (int round = 0; round < ROUNDS; round++) {
-		uint8_t sent[BYTES], word[BYTES], out[BYTES];
-		uint32_t places[9];
-		unsigned int wrong[8];
-		for (int i = 0; i < DATA_BYTES; i++)
+		uint8_t sent[INNER_BYTES], word[INNER_BYTES], out[INNER_BYTES];
+		unsigned int wrong[RADIUS];
+		for (int i = 0; i < INNER_DATA; i++)
 			sent[i] = next_random(256);
-		memset(sent + DATA_BYTES, 0, BYTES - DATA_BYTES);
-		bch_encode(bch, sent, DATA_BYTES, sent + DATA_BYTES);
-		memcpy(word, sent, BYTES);
-		choose(places, errors, PLACES);
-		for (int k = 0; k < errors; k++)
-			word[places[k] / 8] ^= 128 >> places[k] % 8;
+		memset(sent + INNER_DATA, 0, INNER_BYTES - INNER_DATA);
+		bch_encode(bch, sent, INNER_DATA, sent + INNER_DATA);
+		memcpy(word, sent, INNER_BYTES);
+		damage_anywhere(word, errors, PLACES);
 		memset(out, 0, sizeof out);
 		double start = now();
 		uint8_t number = correct_inner(word, out);
 		double middle = now();
-		int found = bch_decode(bch, word, DATA_BYTES, word + DATA_BYTES, NULL, NULL, wrong);
+		int found = bch_decode(bch, word, INNER_DATA, word + INNER_DATA, NULL, NULL, wrong);
 		for (int k = 0; k < found; k++)
 			word[wrong[k] / 8] ^= 1 << wrong[k] % 8;
 		theirs[round] = now() - middle;
 		ours[round] = middle - start;
-		if (errors <= 8) {
-			require(number == 0 && !memcmp(out, sent, BYTES), "proved, inner, %d errors", errors);
-			require(found == errors && !memcmp(word, sent, BYTES), "kernel, %d errors", errors);
+		if (errors <= RADIUS) {
+			require(number == 0 && !memcmp(out, sent, INNER_BYTES), "proved, inner, %d errors", errors);
+			require(found == errors && !memcmp(word, sent, INNER_BYTES), "kernel, %d errors", errors);
 		} else {
-			require(number == 5, "proved, inner, %d errors", errors);
+			require(number == UNCORRECTABLE, "proved, inner, %d errors", errors);
 			taken += found >= 0;
 		}
 	}

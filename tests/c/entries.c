@@ -3,24 +3,21 @@
 //
 //     entries          buffers from malloc, for valgrind and the sanitizers
 //     entries pages    buffers that end where a page ends, and then that start where one starts, with no access beyond; input pages cannot be written
-#include <stdio.h>
-#include <stdlib.h>
 #include <string.h>
 #include <sys/mman.h>
+#include "damage.h"
 #include "exports.h"
-#include "g9751_i4.h"
+#include "payloads.h"
+#include "refusals.h"
 
-enum { PAYLOAD = G9751_I4_PAYLOAD_BYTES, FRAME = G9751_I4_FRAME_BYTES, PAGE = 4096, MOST = 6 * PAGE };
+enum { PAGE = 4096, MOST = 6 * PAGE };
 
 static int pages, at_the_start;
 static unsigned calls;
 
-static void require(int condition, const char *what, size_t a, size_t b)
+static void expect(int condition, const char *what, size_t a, size_t b)
 {
-	if (!condition) {
-		printf("entries: %s, lengths %zu and %zu\n", what, a, b);
-		exit(1);
-	}
+	require(condition, "entries: %s, lengths %zu and %zu", what, a, b);
 }
 
 // ---- buffers
@@ -41,13 +38,13 @@ static struct lent lend(size_t n)
 		return b;
 	if (!pages) {
 		b.bytes = b.area = malloc(n);
-		require(b.bytes != NULL, "no memory", n, 0);
+		expect(b.bytes != NULL, "no memory", n, 0);
 		return b;
 	}
 	b.area = mmap(NULL, MOST + 2 * PAGE, PROT_NONE, MAP_PRIVATE | MAP_ANONYMOUS, -1, 0);
-	require(b.area != MAP_FAILED && n <= MOST, "no memory", n, 0);
+	expect(b.area != MAP_FAILED && n <= MOST, "no memory", n, 0);
 	size_t used = (n + PAGE - 1) / PAGE * PAGE;
-	require(mprotect(b.area + PAGE, used, PROT_READ | PROT_WRITE) == 0, "no pages", n, 0);
+	expect(mprotect(b.area + PAGE, used, PROT_READ | PROT_WRITE) == 0, "no pages", n, 0);
 	b.bytes = b.area + PAGE + (at_the_start ? 0 : used - n);
 	return b;
 }
@@ -99,14 +96,15 @@ static int untouched(struct lent b)
 	return 1;
 }
 
-// the input is as it was, a refusal wrote nothing, and an answer is in the buffer
-static void finish(struct lent in, struct lent out, int number, int expected, const void *answer, const char *entry)
+// The answer is 0 or the first refusal that applies to so many elements of input, to the space and to the content; the input is as it was, a refusal wrote
+// nothing, and an answer is in the buffer. An element has so many bytes.
+static void finish(struct lent in, struct lent out, size_t element, const struct entry *entry, enum content content, int number, const void *answer)
 {
-	require(number == expected && kept(in), entry, in.n, out.n);
-	if (expected == 0)
-		require(out.n == 0 || memcmp(out.bytes, answer, out.n) == 0, entry, in.n, out.n);
+	expect(number == first_refusal(entry, in.n / element, out.n / element, content) && kept(in), entry->name, in.n, out.n);
+	if (number == 0)
+		expect(out.n == 0 || memcmp(out.bytes, answer, out.n) == 0, entry->name, in.n, out.n);
 	else
-		require(untouched(out), entry, in.n, out.n);
+		expect(untouched(out), entry->name, in.n, out.n);
 	give_back(in);
 	give_back(out);
 	calls++;
@@ -115,99 +113,96 @@ static void finish(struct lent in, struct lent out, int number, int expected, co
 // ---- frames
 
 static uint8_t payload[PAYLOAD], frame[FRAME], damaged[FRAME], lost[FRAME];
-static const size_t lengths[] = { 0, 1, 2, 7, 8, 11, 16, 244, 255, 4096, PAYLOAD - 1, PAYLOAD, PAYLOAD + 1, FRAME - 1, FRAME, FRAME + 1, 20000 };
-
-enum { LENGTHS = sizeof lengths / sizeof *lengths };
 
 static void encode(size_t n, size_t space)
 {
 	struct lent in = lend_input(payload, PAYLOAD, n), out = lend_output(space);
 	int number = g9751_i4_encode(in.bytes, n, out.bytes, space);
-	finish(in, out, number, n != PAYLOAD ? 1 : space != FRAME ? 3 : 0, frame, "encode");
+	finish(in, out, 1, &entries[ENCODE_FRAME], AS_SENT, number, frame);
 }
 
-static void check(const uint8_t *block, size_t n, int answer)
+static void check(const uint8_t *block, size_t n, enum content content)
 {
 	struct lent in = lend_input(block, FRAME, n), out = lend_output(0);
-	finish(in, out, g9751_i4_check(in.bytes, n), n != FRAME ? 2 : answer, NULL, "check");
+	finish(in, out, 1, &entries[CHECK_FRAME], content, g9751_i4_check(in.bytes, n), NULL);
 }
 
-static void extract(const uint8_t *block, size_t n, size_t space, int answer)
+static void extract(const uint8_t *block, size_t n, size_t space, enum content content)
 {
 	struct lent in = lend_input(block, FRAME, n), out = lend_output(space);
 	int number = g9751_i4_extract(in.bytes, n, out.bytes, space);
-	finish(in, out, number, n != FRAME ? 2 : space != PAYLOAD ? 3 : answer, payload, "extract");
+	finish(in, out, 1, &entries[EXTRACT_PAYLOAD], content, number, payload);
 }
 
-static void correct(const uint8_t *block, size_t n, size_t space, int answer)
+static void correct(const uint8_t *block, size_t n, size_t space, enum content content)
 {
 	struct lent in = lend_input(block, FRAME, n), out = lend_output(space);
 	int number = g9751_i4_correct(in.bytes, n, out.bytes, space);
-	finish(in, out, number, n != FRAME ? 2 : space != FRAME ? 3 : answer, frame, "correct");
+	finish(in, out, 1, &entries[CORRECT_FRAME], content, number, frame);
 }
 
-static void correct_with_report(const uint8_t *block, size_t n, size_t space, size_t places, int answer)
+static void correct_with_report(const uint8_t *block, size_t n, size_t space, size_t places, enum content content)
 {
 	struct lent in = lend_input(block, FRAME, n), out = lend_output(space), counts = lend_output(2 * places);
 	uint64_t packed = exports_correct_frame(in.bytes, n, out.bytes, space, (uint16_t *)counts.bytes, places);
 	uint64_t sum = 0;
-	if (places == 64)
-		for (int k = 0; k < 64; k++)
+	if (places == INNER)
+		for (int k = 0; k < INNER; k++)
 			sum += ((uint16_t *)counts.bytes)[k];
 	else
-		require(untouched(counts), "counts", n, places);
-	require(places != 64 || packed >> 8 == sum, "sum", n, places);
+		expect(untouched(counts), "counts", n, places);
+	expect(places != INNER || packed >> 8 == sum, "sum", n, places);
 	give_back(counts);
-	finish(in, out, packed & 255, n != FRAME ? 2 : space != FRAME ? 3 : answer, frame, "correct with its report");
+	finish(in, out, 1, &entries[CORRECT_FRAME], content, packed & 255, frame);
+}
+
+// a payload, its frame, and the frame with 512 neighbouring wrong bits and with 2,000
+static void make_blocks(void)
+{
+	fill_payload(payload, patterned_byte);
+	expect(g9751_i4_encode(payload, PAYLOAD, frame, FRAME) == 0, "encode", PAYLOAD, FRAME);
+	memcpy(damaged, frame, FRAME);
+	memcpy(lost, frame, FRAME);
+	damage_burst(damaged, 124800, 512);
+	damage_burst(lost, 112000, 2000);
 }
 
 static void frames(void)
 {
-	for (int i = 0; i < PAYLOAD; i++)
-		payload[i] = 31 * i % 256;
-	require(g9751_i4_encode(payload, PAYLOAD, frame, FRAME) == 0, "encode", PAYLOAD, FRAME);
-	memcpy(damaged, frame, FRAME);
-	memcpy(lost, frame, FRAME);
-	for (int i = 0; i < 512; i++)
-		damaged[15600 + i / 8] ^= 128 >> i % 8;
-	for (int i = 0; i < 2000; i++)
-		lost[15000 - i / 2] ^= 1 << i % 8;
-	for (int i = 0; i < LENGTHS; i++) {
-		check(frame, lengths[i], 0);
-		check(damaged, lengths[i], 4);
-		for (int k = 0; k < LENGTHS; k++) {
-			encode(lengths[i], lengths[k]);
-			extract(frame, lengths[i], lengths[k], 0);
-			extract(damaged, lengths[i], lengths[k], 4);
-			correct(frame, lengths[i], lengths[k], 0);
-			correct(damaged, lengths[i], lengths[k], 0);
-			correct(lost, lengths[i], lengths[k], 5);
-			correct_with_report(damaged, lengths[i], FRAME, lengths[k] % 8192, 0);
+	make_blocks();
+	for (int i = 0; i < FRAME_LENGTHS; i++) {
+		size_t n = frame_lengths[i];
+		check(frame, n, AS_SENT);
+		check(damaged, n, CORRECTABLE);
+		for (int k = 0; k < FRAME_LENGTHS; k++) {
+			size_t space = frame_lengths[k];
+			encode(n, space);
+			extract(frame, n, space, AS_SENT);
+			extract(damaged, n, space, CORRECTABLE);
+			correct(frame, n, space, AS_SENT);
+			correct(damaged, n, space, CORRECTABLE);
+			correct(lost, n, space, LOST);
+			correct_with_report(damaged, n, FRAME, space % 8192, CORRECTABLE);
 		}
 	}
-	correct_with_report(damaged, FRAME, FRAME, 64, 0);
-	correct_with_report(lost, FRAME, FRAME, 64, 5);
-}
-
-static unsigned random_below(unsigned n)
-{
-	static uint32_t state = 1;
-	state = 1664525 * state + 1013904223;
-	return (state >> 8) % n;
+	correct_with_report(damaged, FRAME, FRAME, INNER, CORRECTABLE);
+	correct_with_report(lost, FRAME, FRAME, INNER, LOST);
 }
 
 // a frame with scattered wrong bits; with eight in each inner word, or many in three of them; noise; ones
 static void damage(uint8_t *block, int kind)
 {
-	unsigned bits = kind == 0 ? random_below(700) : kind == 1 ? 512 : kind == 2 ? 120 : 0;
 	memcpy(block, frame, FRAME);
-	for (unsigned i = 0; i < bits; i++) {
-		unsigned word = kind == 0 ? random_below(64) : kind == 1 ? i % 64 : 20 * (i % 3);
-		unsigned bit = 64 * random_below(2040) + word;
-		block[bit / 8] ^= 128 >> bit % 8;
-	}
-	for (int i = 0; i < FRAME && kind > 2; i++)
-		block[i] = kind == 3 ? random_below(256) : 255;
+	if (kind == 0)
+		damage_anywhere(block, next_random(700), 8 * FRAME);
+	else if (kind == 1)
+		damage_words(block, INNER, RADIUS);
+	else if (kind == 2)
+		damage_words(block, 3, 40);
+	else if (kind == 3)
+		noise(block);
+	else
+		memset(block, 255, FRAME);
 }
 
 // whatever stands in a block: a corrected one is a frame, and one that is refused leaves its buffer
@@ -218,9 +213,9 @@ static void any_contents(void)
 		damage(block, i % 5);
 		struct lent in = lend_input(block, FRAME, FRAME), out = lend_output(FRAME), read = lend_output(PAYLOAD);
 		int checked = g9751_i4_check(in.bytes, FRAME), number = g9751_i4_correct(in.bytes, FRAME, out.bytes, FRAME);
-		require(kept(in) && (checked == 0 || checked == 4), "check of any content", i, 0);
-		require(number == 0 ? g9751_i4_check(out.bytes, FRAME) == 0 : number == 5 && untouched(out), "correct of any content", i, 0);
-		require(g9751_i4_extract(out.bytes, FRAME, read.bytes, PAYLOAD) == (number == 0 ? 0 : 4), "extract of any content", i, 0);
+		expect(kept(in) && (checked == 0 || checked == NO_CODE_WORD), "check of any content", i, 0);
+		expect(number == 0 ? g9751_i4_check(out.bytes, FRAME) == 0 : number == UNCORRECTABLE && untouched(out), "correct of any content", i, 0);
+		expect(g9751_i4_extract(out.bytes, FRAME, read.bytes, PAYLOAD) == (number == 0 ? 0 : NO_CODE_WORD), "extract of any content", i, 0);
 		give_back(in);
 		give_back(out);
 		give_back(read);
@@ -230,10 +225,14 @@ static void any_contents(void)
 
 // ---- single words
 
-static uint16_t outer[1024], wrong_outer[1024];
-static const size_t outer_lengths[] = { 0, 1, 2, 15, 16, 17, 18, 33, 100, 781, 1006, 1007, 1008, 1022, 1023, 1024, 2000 };
+static enum content after(int changed)
+{
+	return changed == 0 ? AS_SENT : changed <= RADIUS ? CORRECTABLE : LOST;
+}
 
-// the zero word is a code word of every length; eight of its symbols changed, from the given one on
+static uint16_t outer[1024], wrong_outer[1024];
+
+// the zero word is a code word of every length; so many of its symbols changed, the last ones
 static void correct_outer(size_t n, size_t space, int changed)
 {
 	memset(wrong_outer, 0, sizeof wrong_outer);
@@ -241,58 +240,55 @@ static void correct_outer(size_t n, size_t space, int changed)
 		wrong_outer[(n - 1 - i) % 1024] = 1023;
 	struct lent in = lend_input(wrong_outer, sizeof wrong_outer, 2 * n), out = lend_output(2 * space);
 	uint32_t packed = exports_correct_outer((uint16_t *)in.bytes, n, (uint16_t *)out.bytes, space);
-	int expected = n < 17 || n > 1023 ? 6 : space != n ? 3 : changed > 8 ? 5 : 0;
-	require(expected != 0 || packed >> 8 == (uint32_t)changed, "outer changes", n, space);
-	finish(in, out, packed & 255, expected, outer, "correct outer");
+	expect((packed & 255) != 0 || packed >> 8 == (uint32_t)changed, "outer changes", n, space);
+	finish(in, out, 2, &entries[CORRECT_OUTER], after(changed), packed & 255, outer);
 }
 
 static void outer_words(void)
 {
-	for (size_t i = 0; i < sizeof outer_lengths / sizeof *outer_lengths; i++) {
+	for (int i = 0; i < OUTER_LENGTHS; i++) {
 		size_t n = outer_lengths[i];
 		struct lent in = lend_input(outer, sizeof outer, 2 * n), none = lend_output(0);
-		finish(in, none, exports_check_outer((uint16_t *)in.bytes, n), n < 17 || n > 1023 ? 6 : 0, NULL, "check outer");
-		for (size_t k = 0; k < sizeof outer_lengths / sizeof *outer_lengths; k++) {
+		finish(in, none, 2, &entries[CHECK_OUTER], AS_SENT, exports_check_outer((uint16_t *)in.bytes, n), NULL);
+		for (int k = 0; k < OUTER_LENGTHS; k++) {
 			size_t space = outer_lengths[k];
 			struct lent word = lend_input(outer, sizeof outer, 2 * n), out = lend_output(2 * space);
 			int number = exports_encode_outer((uint16_t *)word.bytes, n, (uint16_t *)out.bytes, space);
-			finish(word, out, number, n < 1 || n > 1007 ? 6 : space != 16 ? 3 : 0, outer, "encode outer");
+			finish(word, out, 2, &entries[ENCODE_OUTER], AS_SENT, number, outer);
 			correct_outer(n, space, 0);
-			correct_outer(n, space, 8);
-			correct_outer(n, space, 9);
+			correct_outer(n, space, RADIUS);
+			correct_outer(n, space, RADIUS + 1);
 		}
 	}
 }
 
 static uint8_t inner[256], wrong_inner[256];
-static const size_t inner_lengths[] = { 0, 1, 10, 11, 12, 243, 244, 245, 254, 255, 256, 1000 };
 
+// the zero word, with one wrong bit in each of so many bytes, the last ones
 static void correct_inner(size_t n, size_t space, int changed)
 {
 	memset(wrong_inner, 0, sizeof wrong_inner);
-	for (int i = 0; i < changed; i++)
-		wrong_inner[254 - i] = 1;
+	invert_apart(wrong_inner, changed, 8 * (INNER_BYTES - changed) + 7, 8);
 	struct lent in = lend_input(wrong_inner, sizeof wrong_inner, n), out = lend_output(space);
 	uint32_t packed = exports_correct_inner(in.bytes, n, out.bytes, space);
-	int expected = n != 255 ? 6 : space != 255 ? 3 : changed > 8 ? 5 : 0;
-	require(expected != 0 || packed >> 8 == (uint32_t)changed, "inner changes", n, space);
-	finish(in, out, packed & 255, expected, inner, "correct inner");
+	expect((packed & 255) != 0 || packed >> 8 == (uint32_t)changed, "inner changes", n, space);
+	finish(in, out, 1, &entries[CORRECT_INNER], after(changed), packed & 255, inner);
 }
 
 static void inner_words(void)
 {
-	for (size_t i = 0; i < sizeof inner_lengths / sizeof *inner_lengths; i++) {
+	for (int i = 0; i < INNER_LENGTHS; i++) {
 		size_t n = inner_lengths[i];
 		struct lent in = lend_input(inner, sizeof inner, n), none = lend_output(0);
-		finish(in, none, exports_check_inner(in.bytes, n), n != 255 ? 6 : 0, NULL, "check inner");
-		for (size_t k = 0; k < sizeof inner_lengths / sizeof *inner_lengths; k++) {
+		finish(in, none, 1, &entries[CHECK_INNER], AS_SENT, exports_check_inner(in.bytes, n), NULL);
+		for (int k = 0; k < INNER_LENGTHS; k++) {
 			size_t space = inner_lengths[k];
 			struct lent data = lend_input(inner, sizeof inner, n), out = lend_output(space);
 			int number = exports_encode_inner(data.bytes, n, out.bytes, space);
-			finish(data, out, number, n != 244 ? 6 : space != 11 ? 3 : 0, inner, "encode inner");
+			finish(data, out, 1, &entries[ENCODE_INNER], AS_SENT, number, inner);
 			correct_inner(n, space, 0);
-			correct_inner(n, space, 8);
-			correct_inner(n, space, 9);
+			correct_inner(n, space, RADIUS);
+			correct_inner(n, space, RADIUS + 1);
 		}
 	}
 }

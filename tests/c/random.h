@@ -1,4 +1,4 @@
-// Random numbers for the programs of bench/, the same in every run, and the end of a program where something does not hold.
+// Random numbers for the programs of tests/c and bench/, the same in every run, and the end of a program where something does not hold.
 #pragma once
 #include <stdarg.h>
 #include <stdint.h>

@@ -1,8 +1,9 @@
 //! The calls of the second encoder and decoder, by entry. Values are numbers of 16 bits, which are bytes except for outer words.
 
-use crate::layout::INNER_WORDS;
+use crate::layout::{FRAME, INNER_WORDS};
 use crate::payloads::{from_bytes, to_bytes};
 use crate::refusals::{Code::*, Entry, Operation::*};
+use second::Corrected;
 
 /// What a call writes, and for a correction how many symbols or bits it changed, and for one of a frame how many in each inner word.
 pub struct Done {
@@ -39,4 +40,9 @@ pub fn call(entry: &Entry, values: &[u16], space: usize) -> Result<Done, u8> {
 /// 0 or the refusal's number.
 pub fn number(entry: &Entry, values: &[u16], space: usize) -> u8 {
     call(entry, values, space).err().unwrap_or(0)
+}
+
+/// The correction of a block, with the right space.
+pub fn correct_block(block: &[u8]) -> Result<Corrected, u8> {
+    second::correct_frame(block, FRAME)
 }

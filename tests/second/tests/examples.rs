@@ -69,7 +69,7 @@ fn zero_payload_has_the_zero_frame() {
 
 /// The frame that the runs on zeros are about, with these bits inverted, is restored, with the counts of these bits.
 fn restored(bits: &[usize]) {
-    let answer = correct_frame(&inverted(zero_frame(), bits.iter().copied()), FRAME);
+    let answer = calls::correct_block(&inverted(zero_frame(), bits.iter().copied()));
     assert_eq!(answer, Ok(Corrected { frame: zero_frame().to_vec(), counts: counts(bits), sum: bits.len() as u32 }));
 }
 
@@ -108,7 +108,7 @@ fn bits_0_to_512() {
     let block = inverted(zero_frame(), 0..513);
     assert_eq!(correct_inner(&inner_word(&block, 0), INNER_BYTES), Err(UNCORRECTABLE));
     assert_eq!(check_frame(&block), Err(NO_CODE_WORD));
-    assert_eq!(correct_frame(&block, FRAME), Err(UNCORRECTABLE));
+    assert_eq!(calls::correct_block(&block), Err(UNCORRECTABLE));
 }
 
 /// Zeros of the lengths at the limits and just past them, at every entry of a code.

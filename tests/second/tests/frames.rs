@@ -1,13 +1,14 @@
 //! Whole frames.
 
 mod common;
+use cases::calls::correct_block;
 use cases::damage::{exchange, in_symbols, in_symbols_of_lost, in_word, invert, inverted, run, scattered};
 use cases::layout::*;
 use cases::payloads::{self, inner_code_word};
 use cases::random::Random;
 use cases::refusals::{NO_CODE_WORD, UNCORRECTABLE};
 use common::assert_corrected;
-use second::{check_frame, check_inner, check_outer, correct_frame, correct_inner, correct_outer, extract_payload};
+use second::{check_frame, check_inner, check_outer, correct_inner, correct_outer, extract_payload};
 
 /// The frame of a payload, word by word from the stated places.
 #[test]
@@ -101,7 +102,7 @@ fn outer_pass_alone() {
         invert(&mut block, in_symbols(&mut random, w, RADIUS + 1, 0..symbols_in(w)));
         renew_parity(&mut block);
         if correct_outer(&outer_word(&block, w), symbols_in(w)).is_err() {
-            assert_eq!(correct_frame(&block, FRAME), Err(UNCORRECTABLE));
+            assert_eq!(correct_block(&block), Err(UNCORRECTABLE));
         }
     }
 }
@@ -142,7 +143,7 @@ fn nine_symbols_are_uncorrectable() {
         let first_row = (WORD_BITS * w).div_ceil(INNER_WORDS);
         invert(&mut block, random.choose(RADIUS + 1, 119).into_iter().map(|p| place(k, first_row + p)));
         assert_eq!(correct_inner(&inner_word(&block, k), INNER_BYTES), Err(UNCORRECTABLE));
-        assert_eq!(correct_frame(&block, FRAME), Err(UNCORRECTABLE));
+        assert_eq!(correct_block(&block), Err(UNCORRECTABLE));
     }
 }
 
@@ -182,7 +183,7 @@ fn padding_bits_of_one_are_uncorrectable() {
             assert_eq!(received[PADDED_SYMBOL], code_word[PADDED_SYMBOL] - padding);
             assert_eq!(correct_outer(&received, received.len()), Ok((code_word, more + 1)));
             assert_eq!(check_frame(&block), Err(NO_CODE_WORD));
-            assert_eq!(correct_frame(&block, FRAME), Err(UNCORRECTABLE));
+            assert_eq!(correct_block(&block), Err(UNCORRECTABLE));
         }
     }
 }
@@ -211,7 +212,7 @@ fn any_damage_is_answered() {
     for wrong in densities {
         let all = 0..FRAME_BITS;
         let block = if wrong == FRAME_BITS { inverted(&frame, all) } else { inverted(&frame, scattered(&mut random, wrong, all)) };
-        match correct_frame(&block, FRAME) {
+        match correct_block(&block) {
             Ok(answer) => {
                 assert_eq!(check_frame(&answer.frame), Ok(()));
                 assert_corrected(&block, &answer.frame);

@@ -1,11 +1,11 @@
 //! Blocks to try the report program on, each with its report. A report is made from the bits that are inverted, and has to be that of the decoder's answer.
 
 use crate::far;
+use cases::calls::correct_block;
 use cases::damage::{apart, inverted};
 use cases::layout::{counts, place, FRAME, INNER_WORDS, PAYLOAD, PLACES};
 use cases::payloads::{self, Data};
 use cases::refusals::{BLOCK_LENGTH, UNCORRECTABLE};
-use second::correct_frame;
 use second::logging::{worst_words, EMPTY};
 use std::fs;
 use std::path::Path;
@@ -43,14 +43,14 @@ fn spread() -> Vec<usize> {
 /// A frame with wrong bits that the two passes correct.
 fn correctable(folder: &Path, name: &str, sent: &[u8], wrong: &[usize]) {
     let block = inverted(sent, wrong.iter().copied());
-    let answer = correct_frame(&block, FRAME).expect(name);
+    let answer = correct_block(&block).expect(name);
     assert!(answer.frame == sent, "{name}");
     assert_eq!((answer.counts, answer.sum as usize), (counts(wrong), wrong.len()), "{name}");
     write(folder, name, &block, &report(&counts(wrong)));
 }
 
 fn refusal(folder: &Path, name: &str, block: &[u8], number: u8) {
-    assert_eq!(correct_frame(block, FRAME).err(), Some(number), "{name}");
+    assert_eq!(correct_block(block).err(), Some(number), "{name}");
     write(folder, name, block, &format!("refused {number}\n"));
 }
 

@@ -1,7 +1,8 @@
 //! How an answer is compared with what was sent.
 #![allow(dead_code)]
 
-use cases::layout::{counts, wrong_bits, FRAME};
+use cases::calls::correct_block;
+use cases::layout::{counts, wrong_bits};
 
 pub fn symbol_differences(p: &[u16], q: &[u16]) -> usize {
     assert_eq!(p.len(), q.len());
@@ -10,7 +11,7 @@ pub fn symbol_differences(p: &[u16], q: &[u16]) -> usize {
 
 /// Asserts that the block is corrected to the frame, with a true report.
 pub fn assert_corrected(block: &[u8], frame: &[u8]) {
-    let answer = second::correct_frame(block, FRAME).expect("the block can be corrected");
+    let answer = correct_block(block).expect("the block can be corrected");
     assert!(answer.frame == frame, "another frame");
     let wrong = wrong_bits(block, frame);
     assert_eq!(answer.counts, counts(&wrong));

@@ -5,6 +5,7 @@ pub mod BinaryRegister
 pub mod TableValues
 pub mod Division
 pub mod Nearest
+pub mod GeneratorRoots
 pub mod ReedSolomon
 pub mod OuterWords
 pub mod Packing

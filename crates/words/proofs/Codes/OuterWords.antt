@@ -21,7 +21,8 @@ use Rattle.words.specs.Codes.{ReedSolomon}
 use Rattle.words.specs.Steps.Division.{outerRemainder}
 use Rattle.words.proofs.Codes.Division.{register-value}
 use Rattle.words.proofs.Codes.Horner.{Additive, iter, horner-same, horner-sum, horner-parts}
-use Rattle.words.proofs.Codes.ReedSolomon.{CodeWord, code-is, root-is, generator-elements, parity-below, ends-code, code-ends, reed-solomon}
+use Rattle.words.proofs.Codes.GeneratorRoots.{generator-elements}
+use Rattle.words.proofs.Codes.ReedSolomon.{CodeWord, code-is, root-is, parity-below, ends-code, code-ends, reed-solomon}
 
 pub outer-code : ReedSolomon 10 1033 0 16
 outer-code = reed-solomon 10 1033 0 16 field-a

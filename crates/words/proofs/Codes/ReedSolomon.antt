@@ -1,36 +1,30 @@
--- Reed-Solomon codes over any binary field, with any first root and any number of roots: the generator, parity symbols, the minimum distance, and
--- decoding within half of it. Assumes nothing.
-use mathlib.Core.Path.{_≡_, refl, sym, ap, ap₂, _∙_}
+-- Reed-Solomon codes over any binary field, with any first root and any number of roots: parity symbols, the minimum distance, and decoding within half of it.
+-- Assumes nothing.
+use mathlib.Core.Path.{_≡_, sym, ap, _∙_}
 use mathlib.Core.Bool.{Bool, true, and-eq-true-iff}
-use mathlib.Core.List.{List, _∷_, _++_}
-use Prim.Native.Nat.{ℕ, zero, suc, _+_, _*_, _^_, _≤_, _<_}
-use native.Mathlib.Decide.{ℕ-discrete}
-use native.Mathlib.Nat.{zero-add, not-suc-le-zero}
+use mathlib.Core.List.{List, _++_}
+use Prim.Native.Nat.{ℕ, _+_, _*_, _^_, _≤_, _<_}
+use native.Mathlib.Nat.{zero-add}
 use native.Mathlib.Omega.{arith}
 use borrow.Author.Tests.{eq-eqb, eqb-true}
 use lib.Dec.{eqb}
-use lib.ListN.{length, take, drop, length-append, length-drop, take-append-drop, List·getD-append, List·getD-eq-default}
+use lib.ListN.{length, take, drop, length-append, length-drop, take-append-drop, List·getD-append}
 use lib.Pow.{pow-pos}
 use lib.Seq.{drop-append-seam, ext-getD, getD-drop, length-take-le}
-use Rattle.fields.specs.Elements.{xor, times, power, powers, exponents}
+use Rattle.fields.specs.Elements.{times, power, powers, exponents}
 use Rattle.fields.specs.Field.{Field}
-use Rattle.fields.specs.Lists.{tabulate}
-use Rattle.fields.specs.Places.{at, every, allBelow, horner, value, apart}
+use Rattle.fields.specs.Places.{at, every, allBelow, value, apart}
 use Rattle.fields.proofs.ByTables.{table-power}
-use Rattle.fields.proofs.Doubling.{two-le}
-use Rattle.fields.proofs.Lists.{tabulate-at, tabulate-length, tabulate-lt}
-use Rattle.fields.proofs.Xor.{xor-self, xor-zero-l, xor-zero-r, additive-zero}
 use Rattle.fields.proofs.Places.Tests.{every-at, every-true, below-at, below-all, below-append, below-take}
 use Rattle.fields.proofs.Places.Counting.{apart-append}
 use Rattle.decoding.specs.Steps.ByTables.{tableValue, rootValue}
 use Rattle.decoding.proofs.Algebra.MinimumDistance.{far-lists}
-use Rattle.decoding.proofs.Algebra.Values.{value-lt}
-use Rattle.words.specs.ReedSolomon.{valueAtRoot, isCodeWord, withRoot, generatorOf, parityOf}
+use Rattle.words.specs.ReedSolomon.{valueAtRoot, isCodeWord, generatorOf, parityOf}
 use Rattle.words.specs.Nearest.{Decodes}
 use Rattle.words.specs.Codes.{ReedSolomon}
-use Rattle.words.proofs.Codes.Horner.{Additive, iter, iter-sum, horner-same, horner-sum, horner-front}
 use Rattle.words.proofs.Codes.TableValues.{value-by-tables, divided-lt}
-use Rattle.words.proofs.Codes.Division.{divided-length, value-times, completed-value}
+use Rattle.words.proofs.Codes.Division.{divided-length, completed-value}
+use Rattle.words.proofs.Codes.GeneratorRoots.{generator-length, generator-elements, generator-monic, generator-vanishes}
 use Rattle.words.proofs.Codes.Nearest.{decodes}
 
 module _ (m p : ℕ) (F : Field m p) where
@@ -40,87 +34,6 @@ module _ (m p : ℕ) (F : Field m p) where
   root-is w h j =
       ap (tableValue (powers m p) (exponents m p) w) (table-power m p F j) ∙ value-by-tables m p F _ (F .power-lt j) w (below-at (2 ^ m) w (pow-pos m) h)
       ∙ ap (λ (i : ℕ). value m p (power m p i) (at w) (length w)) (sym (zero-add j))
-
-  -- x + r times a polynomial of n + 1 coefficients, at x: x times its value, and r times its value
-  module _ (g : List ℕ) (n : ℕ) (long : length g ≡ suc n) (elements : (i : ℕ) → at g i < 2 ^ m) (x r : ℕ) (hx : x < 2 ^ m) (hr : r < 2 ^ m) where
-    abbrev f : ℕ → ℕ
-    f v = times m p v x
-
-    f-sum : Additive f
-    f-sum u v = F .sum-times u v x
-
-    moved-lt : (i : ℕ) → at (0 ∷ g) i < 2 ^ m
-    moved-lt zero = pow-pos m
-    moved-lt (suc i) = elements i
-
-    moved-value : horner f (at (0 ∷ g)) (suc (suc n)) ≡ horner f (at g) (suc n)
-    moved-value =
-        horner-front f f-sum (at (0 ∷ g)) (suc n)
-        ∙ ap (λ (v : ℕ). xor v (horner f (at g) (suc n))) (additive-zero (iter f (suc n)) (iter-sum f f-sum (suc n))) ∙ xor-zero-l _
-
-    raised-value : horner f (at g) (suc (suc n)) ≡ f (horner f (at g) (suc n))
-    unfolding horner
-    raised-value =
-        let past : at g (suc n) ≡ 0 = List·getD-eq-default g 0 {n = suc n} (omega arith) in
-        ap (xor (f (horner f (at g) (suc n)))) past ∙ xor-zero-r _
-
-    with-root-value : value m p x (at (withRoot m p r g)) (suc (suc n)) ≡ xor (times m p (value m p x (at g) (suc n)) x) (times m p r (value m p x (at g) (suc n)))
-    unfolding withRoot
-    with-root-value =
-        horner-same f (at (withRoot m p r g)) (λ i. xor (at g i) (times m p r (at (0 ∷ g) i))) (suc (suc n)) (λ i l. tabulate-at (suc (length g)) _ i 0 (omega arith))
-        ∙ horner-sum f f-sum (at g) (λ i. times m p r (at (0 ∷ g) i)) (suc (suc n))
-        ∙ ap₂ xor raised-value (value-times m p F x hx r hr (at (0 ∷ g)) moved-lt (suc (suc n)) ∙ ap (times m p r) moved-value)
-
-  -- ---- the generator: its degree, elements, the leading coefficient 1, and zero at the roots
-
-  module _ (first : ℕ) where
-    pub generator-length : (n : ℕ) → length (generatorOf m p first n) ≡ suc n
-    unfolding generatorOf withRoot
-    generator-length zero = refl
-    generator-length (suc n) = tabulate-length (suc (length (generatorOf m p first n))) _ ∙ ap suc (generator-length n)
-
-    pub generator-elements : (n i : ℕ) → at (generatorOf m p first n) i < 2 ^ m
-    unfolding generatorOf withRoot
-    generator-elements zero zero = omega (arith, two-le m (F .positive))
-    generator-elements zero (suc i) = pow-pos m
-    generator-elements (suc n) i =
-        tabulate-lt (2 ^ m) _ _ (pow-pos m) (λ i. F .sum-lt _ _ (generator-elements n i) (F .times-lt _ _ (F .power-lt (first + n)))) i
-
-    pub generator-monic : (n : ℕ) → at (generatorOf m p first n) 0 ≡ 1
-    unfolding generatorOf withRoot tabulate
-    generator-monic zero = refl
-    generator-monic (suc n) = ap₂ xor (generator-monic n) (F .times-zero (power m p (first + n))) ∙ xor-zero-r 1
-
-    pub generator-vanishes : (n j : ℕ) → j < n → value m p (power m p (first + j)) (at (generatorOf m p first n)) (suc n) ≡ 0
-    unfolding generatorOf
-    generator-vanishes zero j l = absurd (not-suc-le-zero l)
-    generator-vanishes (suc n) j l = go (ℕ-discrete j n) (generator-vanishes n j)
-      where
-        x : ℕ
-        x = power m p (first + j)
-
-        x-lt : power m p (first + j) < 2 ^ m
-        x-lt = F .power-lt (first + j)
-
-        r : ℕ
-        r = power m p (first + n)
-
-        v : ℕ
-        v = value m p (power m p (first + j)) (at (generatorOf m p first n)) (suc n)
-
-        v-lt : v < 2 ^ m
-        v-lt = value-lt m p F (power m p (first + j)) (at (generatorOf m p first n)) (generator-elements n) (suc n)
-
-        is : value m p x (at (generatorOf m p first (suc n))) (suc (suc n)) ≡ xor (times m p v x) (times m p r v)
-        is = with-root-value (generatorOf m p first n) n (generator-length n) (generator-elements n) x r x-lt (F .power-lt (first + n))
-
-        go : Dec (j ≡ n) → (j < n → v ≡ 0) → value m p x (at (generatorOf m p first (suc n))) (suc (suc n)) ≡ 0
-        go (yes e) before =
-            is ∙ ap (λ (k : ℕ). xor (times m p v x) (times m p (power m p (first + k)) v)) (sym e)
-            ∙ ap (λ (y : ℕ). xor y (times m p x v)) (F .times-comm v x v-lt x-lt) ∙ xor-self _
-        go (no e) before =
-            let z : v ≡ 0 = before (omega arith) in
-            is ∙ ap₂ xor (F .times-comm v x v-lt x-lt ∙ ap (times m p x) z ∙ F .times-zero x) (ap (times m p r) z ∙ F .times-zero r) ∙ xor-self 0
 
 -- ---- code words
 

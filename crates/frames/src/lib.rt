@@ -161,7 +161,7 @@ fn outer_pass(frame: &mut [u8], inner: bool) -> bool
 }
 
 // The two passes over a copy of the received block, which becomes the restored frame; false, if there is none.
-fn restore(frame: &mut [u8]) -> bool
+fn restore_frame(frame: &mut [u8]) -> bool
     requires { ⌜ length (now frame) ≡ 16320 ⌝ }
     ensures { λ r. ⌜ (length (now (frame .exit)) ≡ 16320) × (provided r (now (frame .exit)) ≡ restoredFrame (now (frame .entry))) ⌝ }
 {
@@ -196,7 +196,7 @@ pub fn correct_frame(block: &[u8], out: &mut [u8]) -> Report
     }
     let mut frame = inner_words::blank();
     symbols::copy_bytes(block, &mut frame);
-    if !restore(&mut frame) {
+    if !restore_frame(&mut frame) {
         return refused(5);
     }
     conclude(block, &frame, out)

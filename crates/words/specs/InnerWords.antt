@@ -31,6 +31,6 @@ innerRestored w = Option·getD (nearest isInner 2 8 w) w
 unfoldable pub innerPass : (ℕ → ℕ) → ℕ → ℕ
 innerPass b i = at (innerRestored (innerWord b (i % 64))) (i / 64)
 
--- the inner words that it leaves as received ("lost"): those without such a code word
+-- the inner words that it leaves as received: those without such a code word
 unfoldable pub isLost : (ℕ → ℕ) → ℕ → Bool
 isLost b k = not (isSome (nearest isInner 2 8 (innerWord b k)))

@@ -25,11 +25,11 @@ slice-aggregate-copy-bytes c = search needs
 copy-bytes-requires : tie.Need-copy-bytes-requires
 copy-bytes-requires c κs = search needs
 
-slice-aggregate-restore : tie.Need-slice-aggregate-restore
-slice-aggregate-restore c = search needs
+slice-aggregate-restore-frame : tie.Need-slice-aggregate-restore-frame
+slice-aggregate-restore-frame c = search needs
 
-restore-requires : tie.Need-restore-requires
-restore-requires c κs = search needs
+restore-frame-requires : tie.Need-restore-frame-requires
+restore-frame-requires c κs = search needs
 
 refused-requires-3 : tie.Need-refused-requires-3
 refused-requires-3 c κs = search needs
@@ -60,8 +60,8 @@ correct-frame-spec =
     blank-requires
     slice-aggregate-copy-bytes
     copy-bytes-requires
-    slice-aggregate-restore
-    restore-requires
+    slice-aggregate-restore-frame
+    restore-frame-requires
     refused-requires-3
     returns-3
     slice-aggregate-conclude

@@ -89,7 +89,7 @@ module _ (cost : List ℕ → List ℕ → ℕ) (isCode : List ℕ → Bool) (q 
       go true x h = let z : _≡_ {A = ℕ} 0 1 = cc in omega arith
       go false x h = leb-false (cost w c) t x
 
-  -- where every code word is too dear, none is found
+  -- where every code word costs more than t, none is found
   pub by-lost : (w : List ℕ) → ((c : List ℕ) → isCode c ≡ true → length c ≡ length w → t < cost w c) → nearestBy cost isCode q t w ≡ none
   by-lost w h = go (nearestBy cost isCode q t w) refl
     where

@@ -10,31 +10,21 @@ use lib.Dec.{ltb}
 use lib.ListN.{length}
 use Rattle.fields.specs.Places.{sumTo, differs, apart}
 use Rattle.fields.proofs.Lists.{tabulate-at, tabulate-length}
-use Rattle.fields.proofs.Places.Counting.{differs-self, sum-mono, sum-same}
+use Rattle.fields.proofs.Places.Counting.{differs-self, sum-mono}
 use Rattle.fields.proofs.Places.Differences.{apart-tables}
 use Rattle.words.specs.Bits.{bitAt}
 use Rattle.words.specs.InnerWords.{innerWord}
 use Rattle.words.proofs.Bits.Numbers.{number-differs}
 use Rattle.inner_words.proofs.Interleaving.InterleavedBits.{word-to-bit}
 use Rattle.frames.specs.Frames.{isPayload, dataIn, outerWord, outerWords, symbolAt, frameOf, wrongBits}
-use Rattle.frames.specs.Correction.{receivedBit, receivedSymbol, receivedWord, restoredFrame, reportOf, total}
+use Rattle.frames.specs.Correction.{receivedBit, receivedSymbol, receivedWord, restoredFrame}
 use Rattle.frames.specs.Answers.{reported, frameCorrected}
-use Rattle.frames.specs.Demands.{Restored, wrongAt, wrongCounts, lostSymbols, Premise}
+use Rattle.frames.specs.Demands.{Restored, wrongAt, wrongData, wrongParity, lostSymbols, Premise}
 use Rattle.frames.proofs.Frames.FrameBits.{payload-is, frame-inner, dataIn-le, outer-word-length}
 use Rattle.frames.proofs.OuterSymbols.Received.{received-own}
 use Rattle.frames.proofs.OuterSymbols.Permitted.{payload-permitted}
-use Rattle.frames.proofs.Frames.FarApart.{wrong-parts}
-use Rattle.frames.proofs.Correction.ReportCounts.{wrong-in, report-counts}
+use Rattle.frames.proofs.Correction.ReportCounts.{wrong-in, data-counts, parity-counts, all-counted}
 use Rattle.frames.proofs.Correction.RestoredWords.{inner-near, inner-lost, passed, restored, answer-is}
-
--- ---- the report
-
-module _ (block frame : List ℕ) where
-  -- the sum of the report is the number of wrong bits in the block
-  report-total : total (reportOf block frame) ≡ wrongBits block frame
-  unfolding wrongCounts total
-  report-total =
-      rw (report-counts block frame, tabulate-length) (sum-same 64 _ _ (λ k l. tabulate-at 64 _ k 0 l ∙ sym (wrong-in block frame k)) ∙ sym (wrong-parts block frame))
 
 -- ---- outer words
 
@@ -97,7 +87,9 @@ module _ (lost : ℕ → Bool) (payload block : List ℕ) (valid : isPayload pay
   sent-restored = restored block (outerWords payload) words-restored
 
   pub first-half : (buffer : List ℕ) → length block ≡ 16320 → length buffer ≡ 16320 →
-      frameCorrected block buffer ≡ (0, wrongCounts block (frameOf payload), wrongBits block (frameOf payload), frameOf payload)
+      let frame = frameOf payload in
+      frameCorrected block buffer ≡ (0, wrongData block frame, wrongParity block frame, wrongBits block frame, frame)
   unfolding reported
   first-half buffer fits room =
-      answer-is block buffer fits room (some (frameOf payload)) sent-restored ∙ rw (report-total block (frameOf payload), report-counts block (frameOf payload))
+      answer-is block buffer fits room (some (frameOf payload)) sent-restored
+      ∙ rw (all-counted block (frameOf payload), data-counts block (frameOf payload), parity-counts block (frameOf payload))

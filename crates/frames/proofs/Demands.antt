@@ -3,6 +3,7 @@ use Rattle.fields.proofs.Instances.{field-a, field-b}
 use Rattle.words.proofs.Codes.Proved.{codes}
 use Rattle.frames.specs.Demands.{TwoPasses, Demand2, Demand3, Demands}
 use Rattle.frames.proofs.Frames.FarApart.{far}
+use Rattle.frames.proofs.Correction.ReportCounts.{both-counts, all-counted}
 use Rattle.frames.proofs.Correction.RestoredWords.{inner-near, inner-lost, lost-far, lost-only, lost-wrong, outer-near, outer-lost, one-or-other, passed, restored, none-restored, none-only, corrected, uncorrectable, uncorrectable-only, corrected-frame}
 use Rattle.frames.proofs.Proved.{frame-laws}
 use Rattle.frames.proofs.DemandOne.{demand-1}
@@ -23,6 +24,8 @@ two-passes =
       none-restored = none-restored;
       none-only = none-only;
       corrected = λ block buffer words fits room. corrected block buffer fits room words;
+      counted = both-counts;
+      summed = all-counted;
       uncorrectable = λ block buffer w fits room. uncorrectable block buffer fits room w;
       uncorrectable-only = uncorrectable-only;
       one-or-other = λ block. one-or-other (passed block);

@@ -9,7 +9,7 @@ use Rattle.fields.specs.Lists.{tabulate}
 use Rattle.fields.specs.Places.{apart}
 use Rattle.words.specs.Answers.{unless, answered}
 use Rattle.frames.specs.Frames.{frameOf, payloadOf}
-use Rattle.frames.specs.Correction.{restoredFrame, reportOf, total}
+use Rattle.frames.specs.Correction.{restoredFrame, dataCounts, parityCounts, allCounted}
 
 -- a block that differs nowhere from the frame of the payload that stands in it. No other block is written for any payload (`written-accepted`)
 unfoldable pub isFrame : List ℕ → Bool
@@ -28,20 +28,21 @@ unfoldable pub payloadExtracted : List ℕ → List ℕ → ℕ × List ℕ
 payloadExtracted block buffer =
     answered (unless (eqb (length block) 16320) 2 (unless (eqb (length buffer) 15296) 3 (unless (isFrame block) 4 0))) (payloadOf block) buffer
 
--- what the corrector answers: a number, the 64 counts of the report and their sum, and the buffer. A refusal carries its number and nothing else
+-- what the corrector answers: a number; the report's 64 counts of data places, its 64 of parity places, and the sum of all; and the buffer. A refusal carries its
+-- number and nothing else
 abbrev pub CorrectorAnswer : Type 0
-CorrectorAnswer = ℕ × List ℕ × ℕ × List ℕ
+CorrectorAnswer = ℕ × List ℕ × List ℕ × ℕ × List ℕ
 
 unfoldable pub noCounts : List ℕ
 noCounts = tabulate 64 (λ k. 0)
 
 unfoldable pub refused : ℕ → List ℕ → CorrectorAnswer
-refused n buffer = (n, noCounts, 0, buffer)
+refused n buffer = (n, noCounts, noCounts, 0, buffer)
 
 -- what is answered where a frame was restored, or none: the frame with its report; or 5, uncorrectable ("beyond reach")
 unfoldable pub reported : List ℕ → List ℕ → Option (List ℕ) → CorrectorAnswer
 reported block buffer none = refused 5 buffer
-reported block buffer (some frame) = (0, reportOf block frame, total (reportOf block frame), frame)
+reported block buffer (some frame) = (0, dataCounts block frame, parityCounts block frame, allCounted block frame, frame)
 
 -- the corrector's answer: the refusal n that is met before the passes, if it is not 0; else what is answered to what they restored
 unfoldable pub concluded : ℕ → List ℕ → List ℕ → Option (List ℕ) → CorrectorAnswer
@@ -53,4 +54,4 @@ frameCorrected block buffer = concluded (unless (eqb (length block) 16320) 2 (un
 
 -- for the C host, to which no report is handed out: number and buffer
 unfoldable pub withoutReport : CorrectorAnswer → ℕ × List ℕ
-withoutReport a = (a .0, a .3)
+withoutReport a = (a .0, a .4)

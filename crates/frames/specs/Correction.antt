@@ -61,9 +61,15 @@ restoredFrame block = outerFrame (innerPass (bitAt block))
 unfoldable pub countsBetween : ℕ → ℕ → List ℕ → List ℕ → List ℕ
 countsBetween from to block frame = tabulate 64 (λ k. apartBetween from to (innerWord (bitAt block) k) (innerWord (bitAt frame) k))
 
--- the report: the counts over all 2,040 places of received block and restored frame, and their sum
-unfoldable pub reportOf : List ℕ → List ℕ → List ℕ
-reportOf block frame = countsBetween 0 2040 block frame
+-- the report counts where received block and restored frame differ: in the 1,952 data places of each inner word, in its 88 parity places, and in all
+unfoldable pub dataCounts : List ℕ → List ℕ → List ℕ
+dataCounts block frame = countsBetween 0 1952 block frame
+
+unfoldable pub parityCounts : List ℕ → List ℕ → List ℕ
+parityCounts block frame = countsBetween 1952 2040 block frame
 
 unfoldable pub total : List ℕ → ℕ
 total counts = sumTo (length counts) (at counts)
+
+unfoldable pub allCounted : List ℕ → List ℕ → ℕ
+allCounted block frame = total (dataCounts block frame) + total (parityCounts block frame)

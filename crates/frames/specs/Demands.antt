@@ -9,7 +9,7 @@ use lib.Dec.{eqb}
 use lib.ListN.{length, getD}
 use Rattle.fields.specs.Lists.{tabulate}
 use Rattle.fields.specs.Field.{Field}
-use Rattle.fields.specs.Places.{allBelow, sumTo, differs, apart}
+use Rattle.fields.specs.Places.{at, allBelow, sumTo, differs, apart}
 use Rattle.words.specs.declared.Correction.{Correction}
 use Rattle.words.specs.declared.Correction.the-variants.{Corrected, Refused}
 use Rattle.words.specs.Bits.{bitAt, bitsOf}
@@ -20,7 +20,7 @@ use Rattle.words.specs.InnerWords.{innerWord, innerPass, isLost}
 use Rattle.words.specs.Answers.{unless, within, refusalOf, changedOf, outerChecked, outerEncoded, outerCorrected, innerChecked, innerEncoded, innerCorrected}
 use Rattle.words.specs.Codes.{Codes}
 use Rattle.frames.specs.Frames.{isPayload, isBlock, dataIn, frameOfWords, frameOf, wrongBits}
-use Rattle.frames.specs.Correction.{receivedBit, receivedWord, isPermitted, outerRestored, restoredFrame, reportOf, total}
+use Rattle.frames.specs.Correction.{receivedBit, receivedWord, isPermitted, outerRestored, restoredFrame, dataCounts, parityCounts, allCounted}
 use Rattle.frames.specs.Answers.{isFrame, frameEncoded, frameChecked, payloadExtracted, refused, frameCorrected, withoutReport}
 use Rattle.frames.specs.FrameLaws.{FrameLaws}
 
@@ -62,7 +62,7 @@ pub record Demand1 : Type 0 where
   pub correct-alone : (block buffer : List ℕ) → (frameCorrected block buffer .0 ≡ 0 → ⊥) →
       frameCorrected block buffer ≡ refused (frameCorrected block buffer .0) buffer
   -- its entry for the C host gives its number and its buffer
-  pub correct-c : (block buffer : List ℕ) → withoutReport (frameCorrected block buffer) ≡ (frameCorrected block buffer .0, frameCorrected block buffer .3)
+  pub correct-c : (block buffer : List ℕ) → withoutReport (frameCorrected block buffer) ≡ (frameCorrected block buffer .0, frameCorrected block buffer .4)
   -- check of an outer word: 6, its length; 7, a symbol above 1,023; 4, no code word
   pub check-outer : (word : List ℕ) →
       outerChecked word ≡ firstBroken ((6, within 17 1023 (length word)) ∷ (7, allBelow 1024 word) ∷ (4, isOuter word) ∷ [])
@@ -120,7 +120,12 @@ pub record TwoPasses : Type 0 where
   pub none-only : (block : List ℕ) → restoredFrame block ≡ none → (w : ℕ) × (w < 16) × Uncorrectable (innerPass (bitAt block)) w
   -- the answer is the restored frame with its report
   pub corrected : (block buffer : List ℕ) (words : List (List ℕ)) → length block ≡ 16320 → length buffer ≡ 16320 → Restored (innerPass (bitAt block)) words →
-      frameCorrected block buffer ≡ (0, reportOf block (frameOfWords words), total (reportOf block (frameOfWords words)), frameOfWords words)
+      let frame = frameOfWords words in
+      frameCorrected block buffer ≡ (0, dataCounts block frame, parityCounts block frame, allCounted block frame, frame)
+  -- the two counts of an inner word together are its distance from the restored one, and the sum is the number of all bits in which the frame differs
+  pub counted : (block frame : List ℕ) (k : ℕ) → k < 64 →
+      at (dataCounts block frame) k + at (parityCounts block frame) k ≡ apart (innerWord (bitAt block) k) (innerWord (bitAt frame) k)
+  pub summed : (block frame : List ℕ) → allCounted block frame ≡ wrongBits block frame
   -- or refusal 5, exactly where there is none
   pub uncorrectable : (block buffer : List ℕ) (w : ℕ) → length block ≡ 16320 → length buffer ≡ 16320 → w < 16 → Uncorrectable (innerPass (bitAt block)) w →
       frameCorrected block buffer ≡ refused 5 buffer
@@ -130,7 +135,7 @@ pub record TwoPasses : Type 0 where
   pub one-or-other : (block : List ℕ) →
       ((words : List (List ℕ)) × Restored (innerPass (bitAt block)) words) ⊎ ((w : ℕ) × (w < 16) × Uncorrectable (innerPass (bitAt block)) w)
   -- a restored frame is a frame that the encoder writes
-  pub corrected-frame : (block buffer counts frame : List ℕ) (sum : ℕ) → frameCorrected block buffer ≡ (0, counts, sum, frame) →
+  pub corrected-frame : (block buffer d p frame : List ℕ) (sum : ℕ) → frameCorrected block buffer ≡ (0, d, p, sum, frame) →
       (isBlock frame ≡ true) × (isFrame frame ≡ true)
 
 pub record Demand2 : Type 0 where
@@ -153,12 +158,16 @@ pub record Demand2 : Type 0 where
 unfoldable pub wrongAt : List ℕ → List ℕ → ℕ → ℕ
 wrongAt block frame i = differs (bitAt block i) (bitAt frame i)
 
--- wrong bits of inner word k, counted over its 2,040 places; of all inner words
+-- wrong bits of inner word k, counted over its 2,040 places
 unfoldable pub wrongIn : List ℕ → List ℕ → ℕ → ℕ
 wrongIn block frame k = sumTo 2040 (λ p. wrongAt block frame (64 * p + k))
 
-unfoldable pub wrongCounts : List ℕ → List ℕ → List ℕ
-wrongCounts block frame = tabulate 64 (wrongIn block frame)
+-- those of each inner word among its data places, 0 to 1,951; and among its parity places, 1,952 to 2,039
+unfoldable pub wrongData : List ℕ → List ℕ → List ℕ
+wrongData block frame = tabulate 64 (λ k. sumTo 1952 (λ p. wrongAt block frame (64 * p + k)))
+
+unfoldable pub wrongParity : List ℕ → List ℕ → List ℕ
+wrongParity block frame = tabulate 64 (λ k. sumTo 88 (λ p. wrongAt block frame (64 * (1952 + p) + k)))
 
 -- how many symbols of outer word w have a wrong bit from an inner word that `lost` names; each counts once, and padding bits are never wrong
 unfoldable pub lostSymbols : (ℕ → Bool) → List ℕ → List ℕ → ℕ → ℕ
@@ -176,10 +185,11 @@ pub record Demand3 : Type 0 where
   -- the sent frame is restored
   pub sent-restored : (lost : ℕ → Bool) (payload block : List ℕ) → isPayload payload ≡ true → Premise lost payload block →
       restoredFrame block ≡ some (frameOf payload)
-  -- so it comes back, and each number of the report is the number of wrong bits among the places that it counts
+  -- so it comes back, each of the 128 counts of the report is the number of wrong bits among the places that it counts, and their sum that of the block
   pub first-half : (lost : ℕ → Bool) (payload block buffer : List ℕ) → isPayload payload ≡ true → length block ≡ 16320 → length buffer ≡ 16320 →
       Premise lost payload block →
-      frameCorrected block buffer ≡ (0, wrongCounts block (frameOf payload), wrongBits block (frameOf payload), frameOf payload)
+      let frame = frameOf payload in
+      frameCorrected block buffer ≡ (0, wrongData block frame, wrongParity block frame, wrongBits block frame, frame)
   -- frames of different payloads differ in at least 17 bits
   pub second-half : (p q : List ℕ) → isPayload p ≡ true → isPayload q ≡ true → (p ≡ q → ⊥) → 17 ≤ wrongBits (frameOf p) (frameOf q)
 

@@ -1,4 +1,5 @@
-// The report of a correction: in how many places of each inner word the received block and the restored frame differ, and the sum.
+// The report of a correction: in how many data places and in how many parity places of each inner word the received block and the restored frame differ, and
+// the sum.
 use crate::Frame;
 use inner_words::places;
 ghost use mathlib.Core.Path.{_≡_};
@@ -28,10 +29,10 @@ pub(crate) fn counts(
     counts
 }
 
-// The sum of the counts.
+// The sum of counts: each is at most 65,535.
 pub(crate) fn sum(counts: &[u16]) -> u32
     requires { ⌜ length (now counts) ≤ 64 ⌝ }
-    ensures { λ r. ⌜ r ≡ total (now (counts .entry)) ⌝ }
+    ensures { λ r. ⌜ (r ≡ total (now (counts .entry))) × (r ≤ 4194240) ⌝ }
 {
     let mut n: u32 = 0;
     let mut k: usize = 0;

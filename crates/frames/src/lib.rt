@@ -121,20 +121,22 @@ pub fn extract_payload(block: &[u8], out: &mut [u8]) -> u8
     0
 }
 
-// What a correction answers: the refusal's number, or 0; then for each inner word the number of places where received block and restored frame differ, and
-// their sum. A refusal carries its number and nothing else: its counts are 0.
+// What a correction answers: the refusal's number, or 0; then for each inner word in how many of its data places, and in how many of its parity places, received
+// block and restored frame differ, and the sum of all these counts. A refusal carries its number and nothing else: its counts are 0.
 pub struct Report {
     pub refusal: u8,
-    pub counts: [u16; Frame::INNER_WORDS],
+    pub data: [u16; Frame::INNER_WORDS],
+    pub parity: [u16; Frame::INNER_WORDS],
     pub sum: u32,
 }
 
 fn refused(number: u8) -> Report
-    ensures { λ r. ⌜ (r .refusal ≡ number) × (r .counts ≡ noCounts) × (r .sum ≡ 0) ⌝ }
+    ensures { λ r. ⌜ (r .refusal ≡ number) × (r .«data» ≡ noCounts) × (r .parity ≡ noCounts) × (r .sum ≡ 0) ⌝ }
 {
     Report {
         refusal: number,
-        counts: [0; Frame::INNER_WORDS],
+        data: [0; Frame::INNER_WORDS],
+        parity: [0; Frame::INNER_WORDS],
         sum: 0,
     }
 }
@@ -172,21 +174,23 @@ fn restore_frame(frame: &mut [u8]) -> bool
 // Writes the restored frame, and gives its report: the one place where a correction writes into the output buffer.
 fn conclude(block: &[u8], frame: &[u8], out: &mut [u8]) -> Report
     requires { ⌜ (length (now block) ≡ 16320) × (length (now frame) ≡ 16320) × (length (now out) ≡ 16320) ⌝ }
-    ensures { λ r. ⌜ (r .refusal, r .counts, r .sum, now (out .exit)) ≡ reported (now (block .entry)) (now (out .entry)) (some (now (frame .entry))) ⌝ }
+    ensures { λ r. ⌜ (r .refusal, r .«data», r .parity, r .sum, now (out .exit)) ≡ reported (now (block .entry)) (now (out .entry)) (some (now (frame .entry))) ⌝ }
 {
     symbols::copy_bytes(frame, out);
-    let counts = comparison::counts(block, frame, 0, words::Inner::PLACES);
-    let sum = comparison::sum(&counts);
+    let data = comparison::counts(block, frame, 0, Interleaved::DATA_PLACES);
+    let parity = comparison::counts(block, frame, Interleaved::DATA_PLACES, words::Inner::PLACES);
+    let sum = comparison::sum(&data) + comparison::sum(&parity);
     Report {
         refusal: 0,
-        counts,
+        data,
+        parity,
         sum,
     }
 }
 
 // Writes the restored frame and gives the report; 2, 3 or 5.
 pub fn correct_frame(block: &[u8], out: &mut [u8]) -> Report
-    ensures { λ r. ⌜ (r .refusal, r .counts, r .sum, now (out .exit)) ≡ frameCorrected (now (block .entry)) (now (out .entry)) ⌝ }
+    ensures { λ r. ⌜ (r .refusal, r .«data», r .parity, r .sum, now (out .exit)) ≡ frameCorrected (now (block .entry)) (now (out .entry)) ⌝ }
 {
     if block.len() != Frame::BYTES {
         return refused(2);

@@ -22,7 +22,7 @@ use Rattle.words.proofs.Bits.Numbers.{numberOf-same}
 use Rattle.inner_words.specs.Steps.Passes.{innerCodes, InnerPassed}
 use Rattle.inner_words.proofs.Passes.WrongWords.{none-wrong}
 use Rattle.frames.specs.Frames.{symbolAt, dataIn, frameOfWords}
-use Rattle.frames.specs.Correction.{receivedBit, receivedSymbol, receivedWord, isPermitted, outerRestored, outerPass, everyOf, outerFrame, restoredFrame, countsBetween, reportOf, total}
+use Rattle.frames.specs.Correction.{receivedBit, receivedSymbol, receivedWord, isPermitted, outerRestored, outerPass, everyOf, outerFrame, restoredFrame, countsBetween, dataCounts, parityCounts, total, allCounted}
 use Rattle.frames.specs.Answers.{CorrectorAnswer, noCounts, refused, reported, concluded, frameCorrected, withoutReport}
 use Rattle.frames.specs.Steps.Received.{outerCodes}
 use Rattle.frames.specs.Steps.Symbols.{Concatenated, Sent, wordIn}
@@ -93,22 +93,23 @@ unfolding noCounts tabulate
 none-counted = refl
 
 -- the frame that is written, with its report
-pub frame-reported : (b o frame out counts : List ℕ) (sum : ℕ) → length frame ≡ 16320 → length o ≡ 16320 → out ≡ copied frame o →
-    counts ≡ countsBetween 0 2040 b frame → sum ≡ total counts → _≡_ {A = CorrectorAnswer} (0, counts, sum, out) (reported b o (some frame))
-unfolding reported reportOf
-frame-reported b o frame out counts sum long room eo ec es = rw (es, ec, eo ∙ copied-same frame o (room ∙ sym long))
+pub frame-reported : (b o frame out d p : List ℕ) (m n : ℕ) → length frame ≡ 16320 → length o ≡ 16320 → out ≡ copied frame o →
+    d ≡ countsBetween 0 1952 b frame → p ≡ countsBetween 1952 2040 b frame → m ≡ total d → n ≡ total p →
+    _≡_ {A = CorrectorAnswer} (0, d, p, m + n, out) (reported b o (some frame))
+unfolding reported dataCounts parityCounts allCounted
+frame-reported b o frame out d p m n long room eo ed ep em en = rw (em, en, ed, ep, eo ∙ copied-same frame o (room ∙ sym long))
 
 module _ (b o : List ℕ) where
-  pub correct-length : (length b ≡ 16320 → ⊥) → (n sum : ℕ) (counts : List ℕ) → n ≡ 2 → counts ≡ noCounts → sum ≡ 0 →
-      _≡_ {A = CorrectorAnswer} (n, counts, sum, o) (frameCorrected b o)
+  pub correct-length : (length b ≡ 16320 → ⊥) → (n sum : ℕ) (d p : List ℕ) → n ≡ 2 → d ≡ noCounts → p ≡ noCounts → sum ≡ 0 →
+      _≡_ {A = CorrectorAnswer} (n, d, p, sum, o) (frameCorrected b o)
   unfolding frameCorrected concluded refused
-  correct-length f n sum counts en ec es = rw (ne-eqb (length b) 16320 f, en, ec, es)
+  correct-length f n sum d p en ed ep es = rw (ne-eqb (length b) 16320 f, en, ed, ep, es)
 
   module _ (e : length b ≡ 16320) where
-    pub correct-space : (length o ≡ 16320 → ⊥) → (n sum : ℕ) (counts : List ℕ) → n ≡ 3 → counts ≡ noCounts → sum ≡ 0 →
-        _≡_ {A = CorrectorAnswer} (n, counts, sum, o) (frameCorrected b o)
+    pub correct-space : (length o ≡ 16320 → ⊥) → (n sum : ℕ) (d p : List ℕ) → n ≡ 3 → d ≡ noCounts → p ≡ noCounts → sum ≡ 0 →
+        _≡_ {A = CorrectorAnswer} (n, d, p, sum, o) (frameCorrected b o)
     unfolding frameCorrected concluded refused
-    correct-space f n sum counts en ec es = rw (eq-eqb (length b) 16320 e, ne-eqb (length o) 16320 f, en, ec, es)
+    correct-space f n sum d p en ed ep es = rw (eq-eqb (length b) 16320 e, ne-eqb (length o) 16320 f, en, ed, ep, es)
 
     module _ (f : length o ≡ 16320) (t : Bool) (blank copy frame : List ℕ) (room : length blank ≡ 16320) (ec : copy ≡ copied b blank)
         (told : provided t frame ≡ restoredFrame copy) where
@@ -116,11 +117,11 @@ module _ (b o : List ℕ) where
       restored-is : restoredFrame b ≡ provided t frame
       restored-is = ap restoredFrame (sym (ec ∙ copied-same b blank (room ∙ sym e))) ∙ sym told
 
-      pub correct-none : not t ≡ true → (n sum : ℕ) (counts : List ℕ) → n ≡ 5 → counts ≡ noCounts → sum ≡ 0 →
-          _≡_ {A = CorrectorAnswer} (n, counts, sum, o) (frameCorrected b o)
+      pub correct-none : not t ≡ true → (n sum : ℕ) (d p : List ℕ) → n ≡ 5 → d ≡ noCounts → p ≡ noCounts → sum ≡ 0 →
+          _≡_ {A = CorrectorAnswer} (n, d, p, sum, o) (frameCorrected b o)
       unfolding reported refused provided
-      correct-none h n sum counts en ew es =
-          let refusal : _≡_ {A = CorrectorAnswer} (n, counts, sum, o) (reported b o none) = rw (en, ew, es) in
+      correct-none h n sum d p en ed ep es =
+          let refusal : _≡_ {A = CorrectorAnswer} (n, d, p, sum, o) (reported b o none) = rw (en, ed, ep, es) in
           refusal ∙ sym (answer-is b o e f none (restored-is ∙ rw (not-true t h)))
 
       pub correct-written : not t ≡ false → (r : CorrectorAnswer) → r ≡ reported b o (some frame) → r ≡ frameCorrected b o
@@ -128,6 +129,6 @@ module _ (b o : List ℕ) where
       correct-written h r er = er ∙ sym (answer-is b o e f (some frame) (restored-is ∙ rw (not-false t h)))
 
 -- what the C host is told of an answer
-pub report-left-out : (a : CorrectorAnswer) (n sum : ℕ) (counts out : List ℕ) → _≡_ {A = CorrectorAnswer} (n, counts, sum, out) a → _≡_ {A = ℕ × List ℕ} (n, out) (withoutReport a)
+pub report-left-out : (a : CorrectorAnswer) (n sum : ℕ) (d p out : List ℕ) → _≡_ {A = CorrectorAnswer} (n, d, p, sum, out) a → _≡_ {A = ℕ × List ℕ} (n, out) (withoutReport a)
 unfolding withoutReport
-report-left-out a n sum counts out e = ap withoutReport e
+report-left-out a n sum d p out e = ap withoutReport e

@@ -10,11 +10,11 @@ use lib.ListN.{length, getD, replicate}
 use mir.Syntax.{w16, w32}
 use mir.Val.{Fits}
 use Rattle.fields.specs.Elements.{xor}
-use Rattle.fields.specs.Places.{at, sumTo, differs, apart}
+use Rattle.fields.specs.Places.{at, sumTo, differs, apartBetween, apart}
 use Rattle.fields.specs.Lists.{tabulate}
-use Rattle.fields.proofs.Lists.{tabulate-same}
-use Rattle.fields.proofs.Places.Counting.{sum-same}
-use Rattle.fields.proofs.Places.Differences.{apart-tables, between-tables}
+use Rattle.fields.proofs.Lists.{tabulate-at, tabulate-length, tabulate-same}
+use Rattle.fields.proofs.Places.Counting.{sum-add, sum-same}
+use Rattle.fields.proofs.Places.Differences.{apart-tables, between-plus, between-tables}
 use Rattle.decoding.proofs.Decoding.Changes.{differs-sum}
 use Rattle.words.specs.Bits.{bitOf, bitAt}
 use Rattle.words.specs.InnerWords.{innerWord}
@@ -23,9 +23,12 @@ use Rattle.words.proofs.Codes.ShiftedBits.{bitOf-sum}
 use Rattle.inner_words.specs.Steps.BitSliced.{placeAt}
 use Rattle.inner_words.specs.Steps.Passes.{placeCounted}
 use Rattle.inner_words.proofs.Interleaving.BitSliced.{place-bit}
+use Rattle.inner_words.proofs.Interleaving.InterleavedBits.{inner-word-length}
 use Rattle.inner_words.proofs.Passes.Counts.{onesUpTo, Counting, counting-start, counting-few, counting-next, bit-is}
-use Rattle.frames.specs.Correction.{countsBetween, reportOf, total}
-use Rattle.frames.specs.Demands.{wrongAt, wrongIn, wrongCounts}
+use Rattle.frames.specs.Frames.{wrongBits}
+use Rattle.frames.specs.Correction.{countsBetween, dataCounts, parityCounts, total, allCounted}
+use Rattle.frames.specs.Demands.{wrongAt, wrongIn, wrongData, wrongParity}
+use Rattle.frames.proofs.Frames.FarApart.{wrong-parts}
 
 -- ---- all places of every inner word
 
@@ -34,17 +37,32 @@ module _ (block frame : List ℕ) where
   unfolding innerWord wrongIn wrongAt
   wrong-in k = apart-tables 2040 (λ p. bitAt block (64 * p + k)) (λ p. bitAt frame (64 * p + k))
 
-  -- the report counts the wrong bits of each inner word
-  pub report-counts : reportOf block frame ≡ wrongCounts block frame
-  unfolding reportOf countsBetween innerWord wrongCounts wrongIn wrongAt
-  report-counts = tabulate-same 64 _ _ (λ k l.
-      between-tables 0 2040 2040 (λ p. bitAt block (64 * p + k)) (λ p. bitAt frame (64 * p + k)) (le-refl 2040)
-      ∙ sum-same 2040 _ _ (λ p m. ap (λ (q : ℕ). differs (bitAt block (64 * q + k)) (bitAt frame (64 * q + k))) (zero-add p)))
+  -- the report counts the wrong bits of each inner word, among its data places and among its parity places
+  pub data-counts : dataCounts block frame ≡ wrongData block frame
+  unfolding dataCounts countsBetween innerWord wrongData wrongAt
+  data-counts = tabulate-same 64 _ _ (λ k l.
+      between-tables 0 1952 2040 (λ p. bitAt block (64 * p + k)) (λ p. bitAt frame (64 * p + k)) (omega arith)
+      ∙ sum-same 1952 _ _ (λ p m. ap (λ (q : ℕ). differs (bitAt block (64 * q + k)) (bitAt frame (64 * q + k))) (zero-add p)))
 
-  -- which are the distances of the inner words
-  pub report-distances : reportOf block frame ≡ tabulate 64 (λ k. apart (innerWord (bitAt block) k) (innerWord (bitAt frame) k))
-  unfolding wrongCounts
-  report-distances = report-counts ∙ tabulate-same 64 _ _ (λ k l. sym (wrong-in k))
+  pub parity-counts : parityCounts block frame ≡ wrongParity block frame
+  unfolding parityCounts countsBetween innerWord wrongParity wrongAt
+  parity-counts = tabulate-same 64 _ _ (λ k l. between-tables 1952 2040 2040 (λ p. bitAt block (64 * p + k)) (λ p. bitAt frame (64 * p + k)) (le-refl 2040))
+
+  -- the two together are the distance of the inner words
+  pub both-counts : (k : ℕ) → k < 64 → at (dataCounts block frame) k + at (parityCounts block frame) k ≡ apart (innerWord (bitAt block) k) (innerWord (bitAt frame) k)
+  unfolding dataCounts parityCounts countsBetween apart
+  both-counts k l =
+      let b = innerWord (bitAt block) k in
+      let f = innerWord (bitAt frame) k in
+      rw (tabulate-at 64 (λ k. apartBetween 0 1952 (innerWord (bitAt block) k) (innerWord (bitAt frame) k)) k 0 l, tabulate-at 64 (λ k. apartBetween 1952 2040 (innerWord (bitAt block) k) (innerWord (bitAt frame) k)) k 0 l, inner-word-length (bitAt block) k)
+      (sym (between-plus 0 1952 2040 b f zero-le (omega arith)))
+
+  -- and the sum counts the wrong bits of the block
+  pub all-counted : allCounted block frame ≡ wrongBits block frame
+  unfolding allCounted total dataCounts parityCounts countsBetween
+  all-counted =
+      rw (tabulate-length 64 (λ k. apartBetween 0 1952 (innerWord (bitAt block) k) (innerWord (bitAt frame) k)), tabulate-length 64 (λ k. apartBetween 1952 2040 (innerWord (bitAt block) k) (innerWord (bitAt frame) k)))
+      (sym (sum-add 64 (at (dataCounts block frame)) (at (parityCounts block frame))) ∙ sum-same 64 _ _ both-counts ∙ sym (wrong-parts block frame))
 
 -- ---- places from one on and before another
 
@@ -119,3 +137,6 @@ module _ (counts : List ℕ) (k n : ℕ) (so-far : Summing counts k n) where
   pub summing-end : length counts ≤ k → n ≡ total counts
   unfolding total
   summing-end h = let e : k ≡ length counts = omega (arith, so-far .within) in rw e at (so-far .value)
+
+  pub summing-most : length counts ≤ 64 → n ≤ 4194240
+  summing-most few = omega (arith, so-far .small, so-far .within)

@@ -28,7 +28,7 @@ use Rattle.inner_words.specs.Steps.Passes.{innerCodes}
 use Rattle.inner_words.proofs.Interleaving.InterleavedBits.{inner-word-length}
 use Rattle.inner_words.proofs.Passes.InnerPass.{restored-none, restored-some, restored-length, restored-is}
 use Rattle.frames.specs.Frames.{isBlock, dataIn, outerWord, outerWords, frameOfWords, frameOf, payloadOf}
-use Rattle.frames.specs.Correction.{receivedWord, isPermitted, outerRestored, outerPass, everyOf, outerFrame, restoredFrame, reportOf, total}
+use Rattle.frames.specs.Correction.{receivedWord, isPermitted, outerRestored, outerPass, everyOf, outerFrame, restoredFrame, dataCounts, parityCounts, allCounted}
 use Rattle.frames.specs.Answers.{isFrame, CorrectorAnswer, refused, reported, concluded, frameCorrected}
 use Rattle.frames.specs.Steps.Received.{outerCodes}
 use Rattle.frames.specs.Demands.{Uncorrectable, Restored}
@@ -229,7 +229,8 @@ module _ (block buffer : List ℕ) where
     answer-is o e = rw (eq-eqb (length block) 16320 fits, eq-eqb (length buffer) 16320 room, e)
 
     pub corrected : (ws : List (List ℕ)) → Restored (passed block) ws →
-        frameCorrected block buffer ≡ (0, reportOf block (frameOfWords ws), total (reportOf block (frameOfWords ws)), frameOfWords ws)
+        let frame = frameOfWords ws in
+        frameCorrected block buffer ≡ (0, dataCounts block frame, parityCounts block frame, allCounted block frame, frame)
     unfolding reported
     corrected ws r = answer-is (some (frameOfWords ws)) (restored block ws r)
 
@@ -246,14 +247,14 @@ module _ (block buffer : List ℕ) where
         go (inl r) = absurd (omega (arith, ap (λ (a : CorrectorAnswer). a .0) (sym (corrected (r .0) (r .1)) ∙ e)))
         go (inr lost) = lost
 
-  pub corrected-frame : (counts frame : List ℕ) (sum : ℕ) → frameCorrected block buffer ≡ (0, counts, sum, frame) →
+  pub corrected-frame : (d p frame : List ℕ) (sum : ℕ) → frameCorrected block buffer ≡ (0, d, p, sum, frame) →
       (isBlock frame ≡ true) × (isFrame frame ≡ true)
   unfolding frameCorrected concluded reported refused
-  corrected-frame counts frame sum e = go (eqb (length block) 16320) (eqb (length buffer) 16320) (restoredFrame block) refl e
+  corrected-frame d p frame sum e = go (eqb (length block) 16320) (eqb (length buffer) 16320) (restoredFrame block) refl e
     where
-      go : (s t : Bool) (o : Option (List ℕ)) → restoredFrame block ≡ o → concluded (unless s 2 (unless t 3 0)) block buffer o ≡ (0, counts, sum, frame) →
+      go : (s t : Bool) (o : Option (List ℕ)) → restoredFrame block ≡ o → concluded (unless s 2 (unless t 3 0)) block buffer o ≡ (0, d, p, sum, frame) →
           (isBlock frame ≡ true) × (isFrame frame ≡ true)
-      go false t o p e = absurd (omega (arith, ap (λ (a : CorrectorAnswer). a .0) e))
-      go true false o p e = absurd (omega (arith, ap (λ (a : CorrectorAnswer). a .0) e))
-      go true true none p e = absurd (omega (arith, ap (λ (a : CorrectorAnswer). a .0) e))
-      go true true (some f) p e = is-frame block frame (p ∙ ap some (ap (λ (a : CorrectorAnswer). a .3) e))
+      go false t o r e = absurd (omega (arith, ap (λ (a : CorrectorAnswer). a .0) e))
+      go true false o r e = absurd (omega (arith, ap (λ (a : CorrectorAnswer). a .0) e))
+      go true true none r e = absurd (omega (arith, ap (λ (a : CorrectorAnswer). a .0) e))
+      go true true (some f) r e = is-frame block frame (r ∙ ap some (ap (λ (a : CorrectorAnswer). a .4) e))

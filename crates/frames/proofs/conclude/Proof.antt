@@ -10,11 +10,23 @@ copy-bytes-requires c κs = search needs
 counts-requires : tie.Need-counts-requires
 counts-requires c κs = search needs
 
+counts-requires-2 : tie.Need-counts-requires-2
+counts-requires-2 c κs = search needs
+
 slice-aggregate-sum : tie.Need-slice-aggregate-sum
 slice-aggregate-sum c = search needs
 
 sum-requires : tie.Need-sum-requires
 sum-requires c κs = search needs
+
+slice-aggregate-sum-2 : tie.Need-slice-aggregate-sum-2
+slice-aggregate-sum-2 c = search needs
+
+sum-requires-2 : tie.Need-sum-requires-2
+sum-requires-2 c κs = search needs
+
+add-sum : tie.Need-add-sum
+add-sum c = search needs
 
 same-length : tie.Need-same-length
 same-length c = search needs
@@ -28,7 +40,11 @@ conclude-spec =
     (tie.spec
     copy-bytes-requires
     counts-requires
+    counts-requires-2
     slice-aggregate-sum
     sum-requires
+    slice-aggregate-sum-2
+    sum-requires-2
+    add-sum
     same-length
     returns)

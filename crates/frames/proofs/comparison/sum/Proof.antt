@@ -3,7 +3,7 @@ use Prim.Native.Nat.{_-_}
 use borrow.Author.Needs.{needs}
 use lib.ListN.{length}
 use mir.Facts.{fits-widen}
-use Rattle.frames.proofs.Correction.ReportCounts.{Summing, summing-start, summing-fits, summing-next, summing-end}
+use Rattle.frames.proofs.Correction.ReportCounts.{Summing, summing-start, summing-fits, summing-next, summing-end, summing-most}
 use Rattle.frames.proofs.comparison.sum.Statement.{statement}
 use Rattle.frames.proofs.comparison.sum.Tie as tie
 
@@ -38,7 +38,7 @@ loop-again : tie.Need-loop-again Inv-loop μ-loop
 loop-again c = search (needs, summing-next, c .shared-slice-known .given)
 
 returns : tie.Need-returns Inv-loop μ-loop
-returns c = search (needs, summing-end)
+returns c = search (needs, summing-end, summing-most)
 
 pub sum-spec : {M : Type 1} → statement M
 sum-spec =

@@ -3,7 +3,7 @@
 use mathlib.Core.Path.{_≡_, refl, sym, _∙_}
 use mathlib.Core.Logic.{_⊎_, inl, inr, ⊎-elim}
 use mathlib.Core.Bool.{Bool, true, false, _&&_, _||_, false≢true}
-use Prim.Native.Nat.{ℕ, _≤_, _<_}
+use Prim.Native.Nat.{ℕ, _+_, _≤_, _<_}
 use native.Mathlib.Decide.{decLt}
 use native.Mathlib.Omega.{arith}
 use borrow.Author.Tests.{ltb-true, eqb-true, lt-ltb, le-ltb, eq-eqb, ne-eqb}
@@ -14,9 +14,9 @@ use Rattle.logging.specs.Laws.{Before, PutFirst}
 
 -- ---- counts
 
-pub count-inside : (counts : Counts) (k : ℕ) → k < 64 → getD counts k 0 ≡ countOf counts k
+pub count-inside : (counts : Counts) (k x y : ℕ) → k < 64 → x ≡ getD (counts .0) k 0 → y ≡ getD (counts .1) k 0 → x + y ≡ countOf counts k
 unfolding countOf
-count-inside counts k h = rw (lt-ltb k 64 h)
+count-inside counts k x y h ex ey = rw (lt-ltb k 64 h, ex, ey)
 
 pub count-outside : (counts : Counts) (k : ℕ) → 64 ≤ k → 0 ≡ countOf counts k
 unfolding countOf

@@ -31,10 +31,10 @@ sum-over f g same (c ∷ cs) = ap₂ _+_ (same c) (sum-over f g same cs)
 -- number and sum are those of the promise
 module _ (c : CorrectorCall) where
   number-promised : c .report .refusal ≡ numberPromised c
-  number-promised = ap (λ (a : ℕ × List ℕ × ℕ × List ℕ). a .0) (c .promised)
+  number-promised = ap (λ (a : ℕ × List ℕ × List ℕ × ℕ × List ℕ). a .0) (c .promised)
 
   sum-promised : c .report .sum ≡ sumPromised c
-  sum-promised = ap (λ (a : ℕ × List ℕ × ℕ × List ℕ). a .2) (c .promised)
+  sum-promised = ap (λ (a : ℕ × List ℕ × List ℕ × ℕ × List ℕ). a .3) (c .promised)
 
   frames-promised : framesOf (c .report) ≡ cond (eqb (numberPromised c) 0) 1 0
   unfolding framesOf

@@ -19,14 +19,14 @@ pub record CorrectorCall : Type 0 where
   pub buffer : List ℕ
   pub report : Report
   pub out : List ℕ
-  pub promised : (report .refusal, report .counts, report .sum, out) ≡ frameCorrected block buffer
+  pub promised : (report .refusal, report .«data», report .parity, report .sum, out) ≡ frameCorrected block buffer
 
 -- the number and the sum that are promised
 abbrev pub numberPromised : CorrectorCall → ℕ
 numberPromised c = frameCorrected (c .block) (c .buffer) .0
 
 abbrev pub sumPromised : CorrectorCall → ℕ
-sumPromised c = frameCorrected (c .block) (c .buffer) .2
+sumPromised c = frameCorrected (c .block) (c .buffer) .3
 
 -- what the counters are given: a clearing, or the report of the corrector's call
 abbrev pub given : Call CorrectorCall → Call Report
@@ -59,7 +59,7 @@ PutFirst counts j k = (countOf counts k < countOf counts j) ⊎ ((countOf counts
 abbrev pub placeOf : List ℕ → ℕ → ℕ
 placeOf list i = getD list i 64
 
--- what document 01 asks of the worst list of counts
+-- what document 01 asks of the worst list of counts, where a count is that of data places and parity places together (document 02, A.1)
 pub record Worst (counts : Counts) (list : List ℕ) : Type 0 where
   -- eight places, each empty or with an inner word whose count is above 0
   pub eight : length list ≡ 8

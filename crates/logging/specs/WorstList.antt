@@ -1,17 +1,17 @@
 -- The worst list of a report: up to eight inner words with a count above 0, in one order. A list has eight places; empty places hold 64.
 use mathlib.Core.Bool.{Bool, true, false, not, _&&_, _||_, cond}
 use mathlib.Core.List.{List, [], _∷_}
-use Prim.Native.Nat.{ℕ, zero, suc}
+use Prim.Native.Nat.{ℕ, zero, suc, _+_}
 use lib.Dec.{eqb, ltb}
 use lib.ListN.{getD, set, replicate}
 
--- the counts of a report: one for each inner word
+-- the counts of a report: for each inner word one of its data places, in the first list, and one of its parity places, in the second
 abbrev pub Counts : Type 0
-Counts = List ℕ
+Counts = List ℕ × List ℕ
 
--- the count of inner word k; 64, an empty place, has none
+-- the count of inner word k, of data places and parity places together; 64, an empty place, has none
 unfoldable pub countOf : Counts → ℕ → ℕ
-countOf counts k = cond (ltb k 64) (getD counts k 0) 0
+countOf counts k = cond (ltb k 64) (getD (counts .0) k 0 + getD (counts .1) k 0) 0
 
 -- the order: inner word j stands before inner word k if its count is larger, or equal and its number lower
 unfoldable pub isBefore : Counts → ℕ → ℕ → Bool

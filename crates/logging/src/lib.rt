@@ -81,19 +81,35 @@ pub const EMPTY: usize = Frame::INNER_WORDS;
 // Marks of what is listed: one for each inner word, and one for an empty place.
 const MARKS: usize = EMPTY + 1;
 
-// The count of inner word k; an empty place has none.
-fn count(counts: &[u16; Frame::INNER_WORDS], k: usize) -> u16
-    ensures { λ r. ⌜ r ≡ countOf (now (counts .entry)) k ⌝ }
+// A count with 32 bits: the sum of two of them has place there.
+fn wide(n: u16) -> u32
+    ensures { λ r. ⌜ (r ≡ n) × (r ≤ 65535) ⌝ }
 {
-    if k < Frame::INNER_WORDS { counts[k] } else { 0 }
+    n as u32
+}
+
+// The count of inner word k, of data places and parity places together; an empty place has none.
+fn count(data: &[u16; Frame::INNER_WORDS], parity: &[u16; Frame::INNER_WORDS], k: usize) -> u32
+    ensures { λ r. ⌜ r ≡ countOf (now («data» .entry), now (parity .entry)) k ⌝ }
+{
+    if k < Frame::INNER_WORDS {
+        wide(data[k]) + wide(parity[k])
+    } else {
+        0
+    }
 }
 
 // The order of the list: inner word j stands before inner word k if its count is larger, or equal and its number lower.
-fn is_before(counts: &[u16; Frame::INNER_WORDS], j: usize, k: usize) -> bool
-    ensures { λ r. ⌜ r ≡ isBefore (now (counts .entry)) j k ⌝ }
+fn is_before(
+    data: &[u16; Frame::INNER_WORDS],
+    parity: &[u16; Frame::INNER_WORDS],
+    j: usize,
+    k: usize,
+) -> bool
+    ensures { λ r. ⌜ r ≡ isBefore (now («data» .entry), now (parity .entry)) j k ⌝ }
 {
-    let of_j = count(counts, j);
-    let of_k = count(counts, k);
+    let of_j = count(data, parity, j);
+    let of_k = count(data, parity, k);
     if of_k < of_j {
         return true;
     }
@@ -104,8 +120,13 @@ fn is_before(counts: &[u16; Frame::INNER_WORDS], j: usize, k: usize) -> bool
 }
 
 // Inner word k can be listed next: its count is above 0, and it is not listed yet.
-fn is_open(counts: &[u16; Frame::INNER_WORDS], listed: &[bool; MARKS], k: usize) -> bool
-    ensures { λ r. ⌜ r ≡ isOpen (now (counts .entry)) (now (listed .entry)) k ⌝ }
+fn is_open(
+    data: &[u16; Frame::INNER_WORDS],
+    parity: &[u16; Frame::INNER_WORDS],
+    listed: &[bool; MARKS],
+    k: usize,
+) -> bool
+    ensures { λ r. ⌜ r ≡ isOpen (now («data» .entry), now (parity .entry)) (now (listed .entry)) k ⌝ }
 {
     if Frame::INNER_WORDS <= k {
         return false;
@@ -113,18 +134,24 @@ fn is_open(counts: &[u16; Frame::INNER_WORDS], listed: &[bool; MARKS], k: usize)
     if listed[k] {
         return false;
     }
-    0 < count(counts, k)
+    0 < count(data, parity, k)
 }
 
 // What a place that holds j holds once k is looked at: k, if it can be listed and the place is empty or k stands before j; else j.
-fn earlier(counts: &[u16; Frame::INNER_WORDS], listed: &[bool; MARKS], j: usize, k: usize) -> usize
-    ensures { λ r. ⌜ r ≡ earlier (now (counts .entry)) (now (listed .entry)) j k ⌝ }
+fn earlier(
+    data: &[u16; Frame::INNER_WORDS],
+    parity: &[u16; Frame::INNER_WORDS],
+    listed: &[bool; MARKS],
+    j: usize,
+    k: usize,
+) -> usize
+    ensures { λ r. ⌜ r ≡ earlier (now («data» .entry), now (parity .entry)) (now (listed .entry)) j k ⌝ }
 {
-    if is_open(counts, listed, k) {
+    if is_open(data, parity, listed, k) {
         if j == EMPTY {
             return k;
         }
-        if is_before(counts, k, j) {
+        if is_before(data, parity, k, j) {
             return k;
         }
         return j;
@@ -133,13 +160,17 @@ fn earlier(counts: &[u16; Frame::INNER_WORDS], listed: &[bool; MARKS], j: usize,
 }
 
 // The first in the order of the inner words that can be listed; an empty place, if none can.
-fn first_open(counts: &[u16; Frame::INNER_WORDS], listed: &[bool; MARKS]) -> usize
-    ensures { λ r. ⌜ (r ≤ 64) × (r ≡ firstOpen (now (counts .entry)) (now (listed .entry)) 64) ⌝ }
+fn first_open(
+    data: &[u16; Frame::INNER_WORDS],
+    parity: &[u16; Frame::INNER_WORDS],
+    listed: &[bool; MARKS],
+) -> usize
+    ensures { λ r. ⌜ (r ≤ 64) × (r ≡ firstOpen (now («data» .entry), now (parity .entry)) (now (listed .entry)) 64) ⌝ }
 {
     let mut j = EMPTY;
     let mut k: usize = 0;
     while k < Frame::INNER_WORDS {
-        j = earlier(counts, listed, j, k);
+        j = earlier(data, parity, listed, j, k);
         k += 1;
     }
     j
@@ -147,14 +178,15 @@ fn first_open(counts: &[u16; Frame::INNER_WORDS], listed: &[bool; MARKS]) -> usi
 
 // The inner words of a report with a count above 0, the first eight in the order of the list ("worst list"); empty places hold 64.
 pub fn worst_words(report: Report) -> [u8; LISTED]
-    ensures { λ r. ⌜ r ≡ worstWords (report .counts) ⌝ }
+    ensures { λ r. ⌜ r ≡ worstWords (report .«data», report .parity) ⌝ }
 {
-    let counts = report.counts;
+    let data = report.data;
+    let parity = report.parity;
     let mut listed = [false; MARKS];
     let mut list = [EMPTY as u8; LISTED];
     let mut i: usize = 0;
     while i < LISTED {
-        let k = first_open(&counts, &listed);
+        let k = first_open(&data, &parity, &listed);
         list[i] = k as u8;
         listed[k] = true;
         i += 1;

@@ -6,10 +6,10 @@ use Rattle.logging.proofs.first_open.Statement.{statement}
 use Rattle.logging.proofs.first_open.Tie as tie
 
 abbrev Inv-loop : tie.InvT-loop
-Inv-loop counts listed j₀ k₀ j k = Searched counts listed k j
+Inv-loop «data» parity listed j₀ k₀ j k = Searched («data», parity) listed k j
 
 abbrev μ-loop : tie.MeasureT-loop
-μ-loop counts listed j₀ k₀ j k = 64 - k
+μ-loop «data» parity listed j₀ k₀ j k = 64 - k
 
 loop-holds : tie.Need-loop-holds Inv-loop μ-loop
 loop-holds c = search (needs, searched-start)

@@ -6,10 +6,10 @@ use Rattle.logging.proofs.worst_words.Statement.{statement}
 use Rattle.logging.proofs.worst_words.Tie as tie
 
 abbrev Inv-loop : tie.InvT-loop
-Inv-loop counts listed₀ list₀ i₀ listed list i = Listed counts i listed list
+Inv-loop «data» parity listed₀ list₀ i₀ listed list i = Listed («data», parity) i listed list
 
 abbrev μ-loop : tie.MeasureT-loop
-μ-loop counts listed₀ list₀ i₀ listed list i = 8 - i
+μ-loop «data» parity listed₀ list₀ i₀ listed list i = 8 - i
 
 cast-list : tie.Need-cast-list Inv-loop μ-loop
 cast-list c = search needs

@@ -24,7 +24,7 @@ pub word-packed : (r : ℕ) (c : Correction) (out : List ℕ) (a : Correction ×
 unfolding packedWord
 word-packed r c out a e h = rw (← h, e)
 
-pub frame-packed : (r n sum : ℕ) (all out counts handed : List ℕ) (a : CorrectorAnswer) → r ≡ 256 * sum + n → handed ≡ copied all counts →
-    _≡_ {A = CorrectorAnswer} (n, all, sum, out) a → _≡_ {A = ℕ × List ℕ × List ℕ} (r, out, handed) (packedFrame a counts)
+pub frame-packed : (r n sum : ℕ) (d p out x y x′ y′ : List ℕ) (a : CorrectorAnswer) → r ≡ 256 * sum + n → x′ ≡ copied d x → y′ ≡ copied p y →
+    _≡_ {A = CorrectorAnswer} (n, d, p, sum, out) a → _≡_ {A = ℕ × List ℕ × List ℕ × List ℕ} (r, out, x′, y′) (packedFrame a x y)
 unfolding packedFrame packed
-frame-packed r n sum all out counts handed a e h q = rw (← q, e, h, add-comm n (256 * sum))
+frame-packed r n sum d p out x y x′ y′ a e h g q = rw (← q, e, h, g, add-comm n (256 * sum))

@@ -13,6 +13,6 @@ packed number second = number + 256 * second
 unfoldable pub packedWord : Correction × List ℕ → ℕ × List ℕ
 packedWord a = (packed (refusalOf (a .0)) (changedOf (a .0)), a .1)
 
--- correction of a frame: number and sum, the buffer, and the counts, if there is place for exactly as many
-unfoldable pub packedFrame : CorrectorAnswer → List ℕ → ℕ × List ℕ × List ℕ
-packedFrame a counts = (packed (a .0) (a .2), a .3, copied (a .1) counts)
+-- correction of a frame: number and sum, the buffer, and the counts of data places and those of parity places, each if there is place for exactly as many
+unfoldable pub packedFrame : CorrectorAnswer → List ℕ → List ℕ → ℕ × List ℕ × List ℕ × List ℕ
+packedFrame a d p = (packed (a .0) (a .3), a .4, copied (a .1) d, copied (a .2) p)

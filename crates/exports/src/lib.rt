@@ -61,15 +61,23 @@ pub extern "C" fn exports_correct_inner(word: &[u8], out: &mut [u8]) -> u32
     packed_word(words::correct_inner(word, out))
 }
 
-// 256 times the sum, plus the refusal's number; the counts are written if there is place for exactly 64.
+// 256 times the sum, plus the refusal's number; the counts of data places and those of parity places are written, each if there is place for exactly 64.
 #[no_mangle]
-pub extern "C" fn exports_correct_frame(block: &[u8], out: &mut [u8], counts: &mut [u16]) -> u64
+pub extern "C" fn exports_correct_frame(
+    block: &[u8],
+    out: &mut [u8],
+    data: &mut [u16],
+    parity: &mut [u16],
+) -> u64
     ensures { λ r.
-        ⌜ (r, now (out .exit), now (counts .exit)) ≡ packedFrame (frameCorrected (now (block .entry)) (now (out .entry))) (now (counts .entry)) ⌝ }
+        ⌜ (r, now (out .exit), now («data» .exit), now (parity .exit))
+        ≡ packedFrame (frameCorrected (now (block .entry)) (now (out .entry))) (now («data» .entry)) (now (parity .entry)) ⌝ }
 {
     let report = frames::correct_frame(block, out);
-    let all = report.counts;
-    symbols::copy(&all, counts);
+    let in_data = report.data;
+    let in_parity = report.parity;
+    symbols::copy(&in_data, data);
+    symbols::copy(&in_parity, parity);
     256 * report.sum as u64 + report.refusal as u64
 }
 

@@ -1,6 +1,6 @@
 // One received block goes in on standard input, and a report on its correction comes out on standard output: a line "mended" with the number of wrong bits,
-// then a line "inner" for each inner word of the worst list, with its number and its count; or the single line "refused" with the refusal's number. What is
-// printed is the answer of frames::correct_frame and logging::worst_words.
+// then a line "inner" for each inner word of the worst list, with its number, its wrong data places and its wrong parity places; or the single line "refused"
+// with the refusal's number. What is printed is the answer of frames::correct_frame and logging::worst_words.
 use frames::Frame;
 use frames::Report;
 
@@ -16,20 +16,23 @@ fn line(before: &[u8], n: u64) {
 }
 
 // The line of inner word k; none for an empty place of the list.
-fn inner_word(counts: &[u16; Frame::INNER_WORDS], k: usize) {
+fn inner_word(data: &[u16; Frame::INNER_WORDS], parity: &[u16; Frame::INNER_WORDS], k: usize) {
     if k < logging::EMPTY {
         io::write_all(1, b"inner ");
         io::print_decimal(1, k as u64);
-        line(b" ", wide(counts[k]));
+        io::write_all(1, b" ");
+        io::print_decimal(1, wide(data[k]));
+        line(b" ", wide(parity[k]));
     }
 }
 
 fn worst_words(report: Report) {
-    let counts = report.counts;
+    let data = report.data;
+    let parity = report.parity;
     let list = logging::worst_words(report);
     let mut i: usize = 0;
     while i < logging::LISTED {
-        inner_word(&counts, list[i] as usize);
+        inner_word(&data, &parity, list[i] as usize);
         i += 1;
     }
 }

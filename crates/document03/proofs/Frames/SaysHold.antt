@@ -19,17 +19,18 @@ use Rattle.frames.specs.Correction as Correction
 use Rattle.frames.specs.Answers.{frameEncoded, frameChecked, payloadExtracted, CorrectorAnswer, refused, concluded, frameCorrected}
 use Rattle.frames.specs.Answers as Answers
 use Rattle.frames.proofs.Demands.{two-passes}
+use Rattle.document03.proofs.Counts.{together}
 use Rattle.document03.proofs.Words.Statements.{when}
 use Rattle.document03.proofs.Words.Says.{firstOf, bitsOf}
 use Rattle.document03.proofs.Words.SaysHold.{answered-says}
 use Rattle.document03.proofs.Frames.Statements.{frameOfWords}
-use Rattle.document03.proofs.Frames.Menders.{reportOf}
+use Rattle.document03.proofs.Frames.Menders.{reportOf, total}
 use Rattle.document03.proofs.Frames.Says.{MakeSays, isFrame, CheckSays, ReadSays, mendFault, Refused, MendWith, MendSays}
 use Rattle.document03.proofs.Frames.ListsAgree.{bits-long, bit-at}
 use Rattle.document03.proofs.Frames.PayloadsAgree.{payload-agrees}
 use Rattle.document03.proofs.Frames.FramesAgree.{sixteen-words, words-bytes, frame-bytes, isFrame-agrees}
 use Rattle.document03.proofs.Frames.PassesAgree.{Outcome, restored-mends, uncorrectable-beyond}
-use Rattle.document03.proofs.Frames.ReportsAgree.{report-agrees, total-agrees}
+use Rattle.document03.proofs.Frames.ReportsAgree.{report-agrees, sum-agrees}
 use Rattle.document03.proofs.Frames.StatementsHold.{words-frame-agrees}
 
 -- refusals, the first and the last; what follows matters only if the test holds
@@ -69,8 +70,8 @@ read-says b o o′ r e =
 
 -- ---- corrections
 
-refused-says : (n : ℕ) (o : List ℕ) → (let r = refused n o in Refused n o (r .3) (r .0) (r .1) (r .2))
-unfolding refused tabulate Answers.noCounts
+refused-says : (n : ℕ) (o : List ℕ) → (let r = refused n o in Refused n o (r .4) (r .0) (together (r .1) (r .2)) (r .3))
+unfolding refused tabulate Answers.noCounts together
 refused-says n o = (refl, refl, refl, refl)
 
 module _ (b o : List ℕ) where
@@ -84,7 +85,7 @@ module _ (b o : List ℕ) where
 
 module _ (b o : List ℕ) where
   abbrev Said : ℕ → CorrectorAnswer → Type 0
-  Said fault r = MendWith fault b o (r .3) (r .0) (r .1) (r .2)
+  Said fault r = MendWith fault b o (r .4) (r .0) (together (r .1) (r .2)) (r .3)
 
   -- a block and a buffer of their lengths
   block-corrected : length b ≡ 16320 → length o ≡ 16320 → Said 0 (frameCorrected b o)
@@ -97,7 +98,7 @@ module _ (b o : List ℕ) where
       go (inl (ws, r)) =
           let frame = Frames.frameOfWords ws in
           let words = sixteen-words ws (r .sixteen) (r .long) in
-          let e : reportOf (bitsOf b) (frameOfWords ws) ≡ Correction.reportOf b frame =
+          let e : reportOf (bitsOf b) (frameOfWords ws) ≡ together (Correction.dataCounts b frame) (Correction.parityCounts b frame) =
           report-agrees (bitsOf b) (frameOfWords ws) b frame (bit-at b) (λ i. ap (λ (xs : List ℕ). at xs i) (words-frame-agrees ws words) ∙ bits-at frame i) in
           subst (Said 0) (sym (two-passes .corrected b o ws lb lo r))
           (inl (
@@ -106,7 +107,7 @@ module _ (b o : List ℕ) where
             refl,
             sym (words-bytes ws words),
             sym e,
-            sym (ap Correction.total e) ∙ sym (total-agrees (reportOf (bitsOf b) (frameOfWords ws))),
+            sym (ap total e ∙ sum-agrees b frame),
           ))
       go (inr (w, l, far)) =
           subst (Said 0) (sym (two-passes .uncorrectable b o w lb lo l far))
@@ -120,5 +121,5 @@ module _ (b o : List ℕ) where
       go true false e f = subst (Said 3) (sym (space-refused b o e f)) (refused-says 3 o)
       go false u e f = subst (Said 2) (sym (length-refused b o e)) (refused-says 2 o)
 
-  pub mend-says : (o′ counts : List ℕ) (n s : ℕ) → _≡_ {A = CorrectorAnswer} (n, counts, s, o′) (frameCorrected b o) → MendSays b o o′ n counts s
-  mend-says o′ counts n s e = subst (Said (mendFault b o)) (sym e) corrected-says
+  pub mend-says : (o′ d p : List ℕ) (n s : ℕ) → _≡_ {A = CorrectorAnswer} (n, d, p, s, o′) (frameCorrected b o) → MendSays b o o′ n (together d p) s
+  mend-says o′ d p n s e = subst (Said (mendFault b o)) (sym e) corrected-says

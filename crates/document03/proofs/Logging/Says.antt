@@ -1,5 +1,5 @@
 -- Document 03 on the tally and the worst list: its definitions as it writes them, but that its structs are ours: `Tally` with taken, beyond and mended is
--- `Counters` with frames, uncorrectable and bits, and the number of a `Report` is its refusal. Assumes nothing.
+-- `Counters` with frames, uncorrectable and bits, the number of a `Report` is its refusal, and its counts are data plus parity. Assumes nothing.
 use mathlib.Core.Path.{_≡_}
 use mathlib.Core.Bool.{_&&_, _||_, not}
 use mathlib.Core.List.{List, [], _∷_}
@@ -8,6 +8,7 @@ use lib.Dec.{eqb, ltb, leb}
 use lib.ListN.{getD}
 use Rattle.frames.specs.declared.Report.{Report}
 use Rattle.logging.specs.declared.Counters.{Counters}
+use Rattle.document03.proofs.Counts.{together}
 use Rattle.document03.proofs.Fields.{pick, isIn}
 use Rattle.document03.proofs.Words.Statements.{when}
 
@@ -33,5 +34,8 @@ abbrev pub worstOf : ℕ → List ℕ → List ℕ → List ℕ
 worstOf zero cs taken = []
 worstOf (suc n) cs taken = let w = worstFrom 64 0 64 cs taken in w ∷ worstOf n cs (w ∷ taken)
 
+abbrev pub counts : Report → List ℕ
+counts r = together (r .«data») (r .parity)
+
 abbrev pub WorstSays : Report → List ℕ → Type 0
-WorstSays r ws = ws ≡ worstOf 8 (r .counts) []
+WorstSays r ws = ws ≡ worstOf 8 (counts r) []

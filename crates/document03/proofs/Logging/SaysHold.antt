@@ -51,7 +51,7 @@ count-says t r u e =
 
 -- ---- the worst list
 
-pub worst-says : (r : Report) (ws : List ℕ) → ws ≡ worstWords (r .counts) → WorstSays r ws
+pub worst-says : (r : Report) (ws : List ℕ) → ws ≡ worstWords (r .«data», r .parity) → WorstSays r ws
 unfolding worstWords
 worst-says r ws e =
-    e ∙ sym (list-agrees 8 (r .counts) [] (replicate 65 false) (length-replicate 65 false, λ k l. getD-replicate 65 k false false (omega arith)))
+    e ∙ sym (list-agrees 8 (r .«data», r .parity) [] (replicate 65 false) (length-replicate 65 false, λ k l. getD-replicate 65 k false false (omega arith)))

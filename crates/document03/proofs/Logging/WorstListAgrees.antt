@@ -11,10 +11,11 @@ use borrow.Author.Tests.{eq-eqb, eqb-true, eqb-false, lt-ltb, le-ltb}
 use lib.Dec.{eqb, ltb, leb}
 use lib.ListN.{length, getD, set, length-set}
 use lib.Seq.{getD-set-same, getD-set-other}
-use Rattle.logging.specs.WorstList.{countOf, isBefore, isOpen, earlier, firstOpen}
+use Rattle.logging.specs.WorstList.{Counts, countOf, isBefore, isOpen, earlier, firstOpen}
 use Rattle.logging.specs.WorstList as WorstList
 use Rattle.logging.proofs.Order.{count-inside, in-words}
 use Rattle.logging.proofs.WorstOfAll.{top}
+use Rattle.document03.proofs.Counts.{together, together-at}
 use Rattle.document03.proofs.Fields.{pick, isIn}
 use Rattle.document03.proofs.Logging.Says.{worstFrom, worstOf}
 
@@ -22,14 +23,21 @@ use Rattle.document03.proofs.Logging.Says.{worstFrom, worstOf}
 abbrev Marks : List ℕ → List Bool → Type 0
 Marks taken listed = (length listed ≡ 65) × ((k : ℕ) → k < 64 → getD listed k false ≡ isIn k taken)
 
-module _ (cs taken : List ℕ) (listed : List Bool) (marks : Marks taken listed) where
+module _ (cs : Counts) (taken : List ℕ) (listed : List Bool) (marks : Marks taken listed) where
+  -- its counts
+  abbrev xs : List ℕ
+  xs = together (cs .0) (cs .1)
+
+  count-at : (k : ℕ) → k < 64 → getD xs k 0 ≡ countOf cs k
+  count-at k h = together-at (cs .0) (cs .1) k h ∙ count-inside cs k _ _ h refl refl
+
   -- its test of word k against the best so far
   abbrev Test : ℕ → ℕ → Bool
-  Test best k = not (isIn k taken) && (leb 1 (getD cs k 0) && (eqb best 64 || ltb (getD cs best 0) (getD cs k 0)))
+  Test best k = not (isIn k taken) && (leb 1 (getD xs k 0) && (eqb best 64 || ltb (getD xs best 0) (getD xs k 0)))
 
   -- it looks at the words by their numbers, so that one it comes to stands before an earlier one only by a larger count
-  later-before : (j k : ℕ) → j < k → k < 64 → isBefore cs k j ≡ ltb (getD cs j 0) (getD cs k 0)
-  later-before j k l h = rw (count-inside cs j (omega arith), count-inside cs k h) (go (isBefore cs k j) refl (decLt (countOf cs j) (countOf cs k)))
+  later-before : (j k : ℕ) → j < k → k < 64 → isBefore cs k j ≡ ltb (getD xs j 0) (getD xs k 0)
+  later-before j k l h = rw (count-at j (omega arith), count-at k h) (go (isBefore cs k j) refl (decLt (countOf cs j) (countOf cs k)))
     where
       go : (t : Bool) → isBefore cs k j ≡ t → Dec (countOf cs j < countOf cs k) → isBefore cs k j ≡ ltb (countOf cs j) (countOf cs k)
       go t e (yes larger) = in-words cs k j .1 (inl larger) ∙ sym (lt-ltb (countOf cs j) (countOf cs k) larger)
@@ -37,15 +45,15 @@ module _ (cs taken : List ℕ) (listed : List Bool) (marks : Marks taken listed)
       go false e (no g) = e ∙ sym (le-ltb (countOf cs j) (countOf cs k) (omega arith))
 
   -- what can be listed
-  open-agrees : (k : ℕ) → k < 64 → isOpen cs listed k ≡ (not (isIn k taken) && leb 1 (getD cs k 0))
+  open-agrees : (k : ℕ) → k < 64 → isOpen cs listed k ≡ (not (isIn k taken) && leb 1 (getD xs k 0))
   unfolding isOpen
-  open-agrees k h = rw (← count-inside cs k h, marks .1 k h) (and-comm (ltb 0 (getD cs k 0)) (not (isIn k taken)))
+  open-agrees k h = rw (← count-at k h, marks .1 k h) (and-comm (ltb 0 (getD xs k 0)) (not (isIn k taken)))
 
   test-agrees : (b k : ℕ) → (b ≡ 64) ⊎ (b < k) → k < 64 → (isOpen cs listed k && (eqb b 64 || isBefore cs k b)) ≡ Test b k
   test-agrees b k best h =
-      ap₂ _&&_ (open-agrees k h) (place best) ∙ and-assoc (not (isIn k taken)) (leb 1 (getD cs k 0)) (eqb b 64 || ltb (getD cs b 0) (getD cs k 0))
+      ap₂ _&&_ (open-agrees k h) (place best) ∙ and-assoc (not (isIn k taken)) (leb 1 (getD xs k 0)) (eqb b 64 || ltb (getD xs b 0) (getD xs k 0))
     where
-      place : (b ≡ 64) ⊎ (b < k) → (eqb b 64 || isBefore cs k b) ≡ (eqb b 64 || ltb (getD cs b 0) (getD cs k 0))
+      place : (b ≡ 64) ⊎ (b < k) → (eqb b 64 || isBefore cs k b) ≡ (eqb b 64 || ltb (getD xs b 0) (getD xs k 0))
       place (inl empty) = rw (eq-eqb b 64 empty)
       place (inr l) = ap (λ (t : Bool). eqb b 64 || t) (later-before b k l h)
 
@@ -57,17 +65,17 @@ module _ (cs taken : List ℕ) (listed : List Bool) (marks : Marks taken listed)
       go true = refl
       go false = refl
 
-  from-agrees : (n k : ℕ) → k + n ≤ 64 → worstFrom n k (firstOpen cs listed k) cs taken ≡ firstOpen cs listed (k + n)
+  from-agrees : (n k : ℕ) → k + n ≤ 64 → worstFrom n k (firstOpen cs listed k) xs taken ≡ firstOpen cs listed (k + n)
   unfolding firstOpen
   from-agrees zero k h = let e : k ≡ k + 0 = omega arith in ap (firstOpen cs listed) e
   from-agrees (suc n) k h =
       let best : (firstOpen cs listed k ≡ 64) ⊎ (firstOpen cs listed k < k) = ⊎-elim (λ e. inl e) (λ p. inr (p .0)) (top cs listed k .named) in
       let step : pick (Test (firstOpen cs listed k) k) k (firstOpen cs listed k) ≡ firstOpen cs listed (suc k) = pick-earlier _ k best (omega arith) in
       let e : suc k + n ≡ k + suc n = omega arith in
-      ap (λ (b : ℕ). worstFrom n (suc k) b cs taken) step ∙ from-agrees n (suc k) (omega arith) ∙ ap (firstOpen cs listed) e
+      ap (λ (b : ℕ). worstFrom n (suc k) b xs taken) step ∙ from-agrees n (suc k) (omega arith) ∙ ap (firstOpen cs listed) e
 
   -- its word is ours
-  word-agrees : worstFrom 64 0 64 cs taken ≡ firstOpen cs listed 64
+  word-agrees : worstFrom 64 0 64 xs taken ≡ firstOpen cs listed 64
   unfolding firstOpen
   word-agrees = from-agrees 64 0 (le-refl 64)
 
@@ -81,7 +89,7 @@ module _ (cs taken : List ℕ) (listed : List Bool) (marks : Marks taken listed)
           ap (λ (j : ℕ). getD (set listed w true) j false) is ∙ getD-set-same listed w true false (omega (arith, marks .0, is))
       go k h false e = getD-set-other listed w k true false (eqb-false k w e) ∙ marks .1 k h
 
-pub list-agrees : (n : ℕ) (cs taken : List ℕ) (listed : List Bool) → Marks taken listed → worstOf n cs taken ≡ WorstList.worstFrom n cs listed
+pub list-agrees : (n : ℕ) (cs : Counts) (taken : List ℕ) (listed : List Bool) → Marks taken listed → worstOf n (together (cs .0) (cs .1)) taken ≡ WorstList.worstFrom n cs listed
 unfolding WorstList.worstFrom
 list-agrees zero cs taken listed marks = refl
 list-agrees (suc n) cs taken listed marks =

@@ -13,6 +13,12 @@ slice-aggregate-copy c = search needs
 copy-requires : tie.Need-copy-requires
 copy-requires c κs = search needs
 
+slice-aggregate-copy-2 : tie.Need-slice-aggregate-copy-2
+slice-aggregate-copy-2 c = search needs
+
+copy-requires-2 : tie.Need-copy-requires-2
+copy-requires-2 c κs = search needs
+
 cast-result : tie.Need-cast-result
 cast-result c = search needs
 
@@ -31,6 +37,9 @@ same-length c = search needs
 same-length-2 : tie.Need-same-length-2
 same-length-2 c = search needs
 
+same-length-3 : tie.Need-same-length-3
+same-length-3 c = search needs
+
 returns : tie.Need-returns
 returns c = search (needs, frame-packed)
 
@@ -41,10 +50,13 @@ exports-correct-frame-spec =
     correct-frame-requires
     slice-aggregate-copy
     copy-requires
+    slice-aggregate-copy-2
+    copy-requires-2
     cast-result
     mul-result
     cast-result-2
     add-result
     same-length
     same-length-2
+    same-length-3
     returns)

@@ -5,10 +5,10 @@ use Rattle.report.proofs.worst_words.Statement.{statement}
 use Rattle.report.proofs.worst_words.Tie as tie
 
 abbrev Inv-loop : tie.InvT-loop
-Inv-loop counts list i₀ i = i ≤ 8
+Inv-loop «data» parity list i₀ i = i ≤ 8
 
 abbrev μ-loop : tie.MeasureT-loop
-μ-loop counts list i₀ i = 8 - i
+μ-loop «data» parity list i₀ i = 8 - i
 
 worst-words-requires : tie.Need-worst-words-requires Inv-loop μ-loop
 worst-words-requires c κs = search needs

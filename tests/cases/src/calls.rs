@@ -3,21 +3,43 @@
 use crate::layout::{FRAME, INNER_WORDS};
 use crate::payloads::{from_bytes, to_bytes};
 use crate::refusals::{Code::*, Entry, Operation::*};
-use second::Corrected;
+use second::{Changes, Corrected};
 
-/// What a call writes, and for a correction how many symbols or bits it changed, and for one of a frame how many in each inner word.
+/// What a correction reports: the changed symbols of an outer word; the changed places of an inner word; those of each inner word of a frame, and the sum of
+/// all. Other calls report nothing.
+#[derive(Debug, PartialEq)]
+pub enum Report {
+    None,
+    Outer(usize),
+    Inner(Changes),
+    Frame([Changes; INNER_WORDS], u32),
+}
+
+impl Report {
+    /// That of a refusal: every number is 0.
+    pub fn refused(entry: &Entry, number: u8) -> Report {
+        match (entry.operation, entry.code) {
+            (Correct, Outer) => Report::Outer(0),
+            (Correct, Inner) => Report::Inner(Changes::default()),
+            (Correct, Frame) => Report::of_frame(&Err(number)),
+            _ => Report::None,
+        }
+    }
+
+    fn of_frame(answer: &Result<Corrected, u8>) -> Report {
+        let (changes, sum) = second::reported(answer);
+        Report::Frame(changes, sum)
+    }
+}
+
+/// What a call writes, and what it reports.
 pub struct Done {
     pub written: Vec<u16>,
-    pub changed: u32,
-    pub counts: [u16; INNER_WORDS],
+    pub report: Report,
 }
 
 fn written(written: Vec<u16>) -> Done {
-    changed((written, 0))
-}
-
-fn changed((written, changed): (Vec<u16>, usize)) -> Done {
-    Done { written, changed: changed as u32, counts: [0; INNER_WORDS] }
+    Done { written, report: Report::None }
 }
 
 /// What comes of the call, or the refusal's number.
@@ -31,9 +53,13 @@ pub fn call(entry: &Entry, values: &[u16], space: usize) -> Result<Done, u8> {
         (Encode, Inner) => second::encode_inner(&bytes, space).map(from_bytes).map(written),
         (Encode, Frame) => second::encode_frame(&bytes, space).map(from_bytes).map(written),
         (Extract, _) => second::extract_payload(&bytes, space).map(from_bytes).map(written),
-        (Correct, Outer) => second::correct_outer(values, space).map(changed),
-        (Correct, Inner) => second::correct_inner(&bytes, space).map(|(word, n)| changed((from_bytes(word), n))),
-        (Correct, Frame) => second::correct_frame(&bytes, space).map(|c| Done { written: from_bytes(c.frame), changed: c.sum, counts: c.counts }),
+        (Correct, Outer) => second::correct_outer(values, space).map(|(written, n)| Done { written, report: Report::Outer(n) }),
+        (Correct, Inner) => second::correct_inner(&bytes, space).map(|(word, n)| Done { written: from_bytes(word), report: Report::Inner(n) }),
+        (Correct, Frame) => {
+            let answer = second::correct_frame(&bytes, space);
+            let report = Report::of_frame(&answer);
+            answer.map(|c| Done { written: from_bytes(c.frame), report })
+        }
     }
 }
 

@@ -4,6 +4,7 @@
 use crate::layout::*;
 use crate::payloads::outer_code_word;
 use crate::random::Random;
+use second::Changes;
 use std::ops::Range;
 
 /// Inverts these bits.
@@ -45,6 +46,13 @@ pub fn run(random: &mut Random, bits: Range<usize>, whole: bool) -> Vec<usize> {
 /// So many frame bits of inner word k.
 pub fn in_word(random: &mut Random, k: usize, n: usize) -> Vec<usize> {
     random.choose(n, PLACES).into_iter().map(|p| place(k, p)).collect()
+}
+
+/// So many frame bits of inner word k at data places, and so many at parity places.
+pub fn in_data_and_parity(random: &mut Random, k: usize, Changes { data, parity }: Changes) -> Vec<usize> {
+    let in_parity = random.choose(usize::from(parity), PLACES - DATA_PLACES).into_iter().map(|p| DATA_PLACES + p);
+    let places = [random.choose(usize::from(data), DATA_PLACES), in_parity.collect()].concat();
+    places.into_iter().map(|p| place(k, p)).collect()
 }
 
 /// So many inner words with so many wrong bits each; the numbers are the least and the most.

@@ -1,5 +1,6 @@
 //! Where things stand in a block, by document 01's section on outer words and inner words.
 
+use second::Changes;
 use std::ops::Range;
 
 pub const PAYLOAD: usize = 15_296;
@@ -126,11 +127,21 @@ pub fn wrong_bits(sent: &[u8], received: &[u8]) -> Vec<usize> {
     bytes.flat_map(|i| (8 * i..8 * i + 8).filter(|&b| bit(sent, b) != bit(received, b))).collect()
 }
 
-/// How many of these frame bits each inner word has.
-pub fn counts(bits: &[usize]) -> [u16; INNER_WORDS] {
-    let mut counts = [0; INNER_WORDS];
-    bits.iter().for_each(|i| counts[i % INNER_WORDS] += 1);
-    counts
+/// How many of these frame bits each inner word has, at data places and at parity places: the first frame bits are those of the outer words.
+pub fn changes(bits: &[usize]) -> [Changes; INNER_WORDS] {
+    let mut changes = [Changes::default(); INNER_WORDS];
+    for &i in bits {
+        let of_word = &mut changes[i % INNER_WORDS];
+        let number = if i < OUTER_BITS { &mut of_word.data } else { &mut of_word.parity };
+        *number += 1;
+    }
+    changes
+}
+
+/// How many of these places of an inner word are data places, and how many parity places.
+pub fn changes_of_word(places: &[usize]) -> Changes {
+    let data = places.iter().filter(|&&p| p < DATA_PLACES).count();
+    Changes { data: data as u16, parity: (places.len() - data) as u16 }
 }
 
 #[cfg(test)]
@@ -148,6 +159,21 @@ mod tests {
             }
         }
         assert_eq!(next, OUTER_BITS);
+    }
+
+    /// The last data place and the first parity place of an inner word, from its places and from its frame bits.
+    #[test]
+    fn data_places_end_where_parity_places_begin() {
+        assert_eq!((place(63, DATA_PLACES - 1), place(0, DATA_PLACES)), (124_927, OUTER_BITS));
+        for (places, data, parity) in [(vec![], 0, 0), (vec![1_951], 1, 0), (vec![1_952], 0, 1), (vec![0, 1_951, 1_952, 1_953, 2_039], 2, 3)] {
+            assert_eq!(changes_of_word(&places), Changes { data, parity });
+            for k in [0, 37, 63] {
+                let bits: Vec<usize> = places.iter().map(|&p| place(k, p)).collect();
+                let mut expected = [Changes::default(); INNER_WORDS];
+                expected[k] = Changes { data, parity };
+                assert_eq!(changes(&bits), expected);
+            }
+        }
     }
 
     #[test]

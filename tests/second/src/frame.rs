@@ -4,7 +4,7 @@
 //! k, for data and parity alike. The first 1,952 groups are, one bit after the
 //! other, the sixteen outer words.
 
-use crate::{bits, inner, outer, Corrected};
+use crate::{bits, inner, outer, Changes, Corrected};
 
 pub const PAYLOAD_BYTES: usize = 15_296;
 pub const FRAME_BYTES: usize = 16_320;
@@ -51,15 +51,16 @@ pub fn payload(block: &[u8]) -> Vec<u8> {
     bits::to_bytes(&payload)
 }
 
-/// The restored frame and the counts; nothing if an outer word is uncorrectable.
+/// The restored frame and what is changed in it; nothing if an outer word is
+/// uncorrectable.
 pub fn correct(block: &[u8]) -> Option<Corrected> {
     let received = bits::from_bytes(block);
     let passed = inner_pass(&received);
     let words: Option<Vec<_>> = (0..OUTER_WORDS).map(|w| correct_outer_word(&passed, w)).collect();
     let frame = assemble(&words?);
-    let counts = count_differences(&received, &frame);
-    let sum = counts.iter().copied().map(u32::from).sum();
-    Some(Corrected { frame: bits::to_bytes(&frame), counts, sum })
+    let changes = differences(&received, &frame);
+    let sum = changes.into_iter().map(Changes::total).sum();
+    Some(Corrected { frame: bits::to_bytes(&frame), changes, sum })
 }
 
 /// Outer word w as a code word, from the bits of the payload.
@@ -126,11 +127,14 @@ fn inner_pass(received: &[bool]) -> Vec<bool> {
     passed
 }
 
-/// For each inner word, the number of places in which two frames differ.
-fn count_differences(received: &[bool], restored: &[bool]) -> [u16; INNER_WORDS] {
-    let mut counts = [0; INNER_WORDS];
+/// For each inner word, the numbers of data places and of parity places in which
+/// two frames differ.
+fn differences(received: &[bool], restored: &[bool]) -> [Changes; INNER_WORDS] {
+    let mut changes = [Changes::default(); INNER_WORDS];
     for (i, (old, new)) in received.iter().zip(restored).enumerate() {
-        counts[i % INNER_WORDS] += u16::from(old != new);
+        if old != new {
+            changes[i % INNER_WORDS].add(i / INNER_WORDS);
+        }
     }
-    counts
+    changes
 }

@@ -19,6 +19,30 @@ const RADIUS: usize = 8;
 /// Syndromes: the values at a^1 to a^16.
 const SYNDROMES: usize = 2 * RADIUS;
 
+/// How many places of a word are changed: data places, which are those below
+/// 1,952, and parity places, which are the others.
+#[derive(Clone, Copy, Debug, Default, PartialEq, Eq)]
+pub struct Changes {
+    pub data: u16,
+    pub parity: u16,
+}
+
+impl Changes {
+    /// One more changed place.
+    pub(crate) fn add(&mut self, place: usize) {
+        if place < DATA {
+            self.data += 1;
+        } else {
+            self.parity += 1;
+        }
+    }
+
+    /// Both numbers together.
+    pub fn total(self) -> u32 {
+        u32::from(self.data) + u32::from(self.parity)
+    }
+}
+
 /// The least binary polynomial of a^j, bit i for power i: the product of x + c
 /// over the conjugates c of a^j. Field B has 2^11 elements and 11 is prime, so
 /// an element other than 0 and 1 has eleven conjugates, found by squaring.
@@ -75,17 +99,17 @@ pub fn is_code_word(word: &[bool]) -> bool {
     remainder(word.iter().copied()) == 0
 }
 
-/// The code word of 2,040 places within eight places, and the number of places
-/// changed; nothing if there is none.
+/// The code word of 2,040 places within eight places, and how many data places
+/// and parity places are changed; nothing if there is none.
 ///
 /// If there is one, the word differs from it in v places, v at most eight; the
 /// shortest recurrence of the syndromes then has length v, and its polynomial
 /// is their locator, with v roots at places of the word. In other cases one of
 /// the tests below fails.
-pub fn correct(word: &[bool]) -> Option<(Vec<bool>, usize)> {
+pub fn correct(word: &[bool]) -> Option<(Vec<bool>, Changes)> {
     let rest = remainder(word.iter().copied());
     if rest == 0 {
-        return Some((word.to_vec(), 0));
+        return Some((word.to_vec(), Changes::default()));
     }
     let (locator, errors) = shortest_recurrence(&syndromes(rest));
     if errors > RADIUS {
@@ -95,11 +119,12 @@ pub fn correct(word: &[bool]) -> Option<(Vec<bool>, usize)> {
     if roots.len() != errors {
         return None;
     }
-    let mut candidate = word.to_vec();
-    for root in &roots {
+    let (mut candidate, mut changes) = (word.to_vec(), Changes::default());
+    for root in roots {
         candidate[root.place] = !candidate[root.place];
+        changes.add(root.place);
     }
-    is_code_word(&candidate).then_some((candidate, roots.len()))
+    is_code_word(&candidate).then_some((candidate, changes))
 }
 
 /// The values at a^1 to a^16 of a word, from its remainder: the generator is

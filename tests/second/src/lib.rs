@@ -5,11 +5,11 @@
 //! * `encode_frame`: a payload of 15,296 bytes gives a frame of 16,320 bytes;
 //! * `check_frame`: is a block of 16,320 bytes a frame of some payload?
 //! * `extract_payload`: the payload of a block that is a frame;
-//! * `correct_frame`: a received block gives the restored frame and the number
-//!   of places corrected in each inner word;
+//! * `correct_frame`: a received block gives the restored frame and the numbers
+//!   of data places and of parity places corrected in each inner word;
 //! * the same for single outer words (symbols of ten bits) and inner words;
 //! * `logging`: counters of the answers of `correct_frame`, and the worst list
-//!   of its counts.
+//!   of what is changed.
 //!
 //! Encoding: the payload bits fill sixteen outer words (`frame`), each gets
 //! sixteen parity symbols by long division (`outer`); the bits of these words
@@ -45,6 +45,7 @@ mod tests;
 
 pub use field::{Field, FieldA, FieldB};
 pub use frame::{FRAME_BYTES, INNER_WORDS, PAYLOAD_BYTES};
+pub use inner::Changes;
 
 const REFUSED_PAYLOAD_LENGTH: u8 = 1;
 const REFUSED_BLOCK_LENGTH: u8 = 2;
@@ -54,12 +55,13 @@ const REFUSED_UNCORRECTABLE: u8 = 5;
 const REFUSED_WORD_LENGTH: u8 = 6;
 const REFUSED_SYMBOL: u8 = 7;
 
-/// A restored frame, the number of places in which each inner word of the
-/// received block differs from it, and the sum of these numbers.
+/// A restored frame, the numbers of data places and of parity places in which
+/// each inner word of the received block differs from it, and the sum of all
+/// these numbers.
 #[derive(Clone, Debug, PartialEq, Eq)]
 pub struct Corrected {
     pub frame: Vec<u8>,
-    pub counts: [u16; INNER_WORDS],
+    pub changes: [Changes; INNER_WORDS],
     pub sum: u32,
 }
 
@@ -89,6 +91,15 @@ pub fn correct_frame(block: &[u8], space: usize) -> Result<Corrected, u8> {
     require(block.len() == FRAME_BYTES, REFUSED_BLOCK_LENGTH)?;
     require(space == FRAME_BYTES, REFUSED_SPACE)?;
     frame::correct(block).ok_or(REFUSED_UNCORRECTABLE)
+}
+
+/// What is reported of a block, whether it was corrected or not: the changes in
+/// each inner word, and their sum. Of a refusal all these numbers are 0.
+pub fn reported(answer: &Result<Corrected, u8>) -> ([Changes; INNER_WORDS], u32) {
+    match answer {
+        Ok(corrected) => (corrected.changes, corrected.sum),
+        Err(_) => ([Changes::default(); INNER_WORDS], 0),
+    }
 }
 
 /// Accepts an outer code word.
@@ -128,12 +139,13 @@ pub fn encode_inner(data: &[u8], space: usize) -> Result<Vec<u8>, u8> {
     Ok(bits::to_bytes(&inner::parity(&bits::from_bytes(data))))
 }
 
-/// The inner code word within eight places, and the number of places changed.
-pub fn correct_inner(word: &[u8], space: usize) -> Result<(Vec<u8>, usize), u8> {
+/// The inner code word within eight places, and the numbers of data places and
+/// of parity places changed.
+pub fn correct_inner(word: &[u8], space: usize) -> Result<(Vec<u8>, Changes), u8> {
     require(word.len() == inner::LENGTH / 8, REFUSED_WORD_LENGTH)?;
     require(space == word.len(), REFUSED_SPACE)?;
-    let (code_word, changed) = inner::correct(&bits::from_bytes(word)).ok_or(REFUSED_UNCORRECTABLE)?;
-    Ok((bits::to_bytes(&code_word), changed))
+    let (code_word, changes) = inner::correct(&bits::from_bytes(word)).ok_or(REFUSED_UNCORRECTABLE)?;
+    Ok((bits::to_bytes(&code_word), changes))
 }
 
 fn require_symbols(symbols: &[u16]) -> Result<(), u8> {

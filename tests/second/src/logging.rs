@@ -2,7 +2,7 @@
 //! report.
 
 use crate::frame::INNER_WORDS;
-use crate::{Corrected, REFUSED_UNCORRECTABLE};
+use crate::{Changes, Corrected, REFUSED_UNCORRECTABLE};
 use std::cmp::Reverse;
 
 /// Places of a worst list.
@@ -44,11 +44,13 @@ impl Counters {
     }
 }
 
-/// The inner words with a count above 0, the largest count first, equal counts
-/// by the lower number, as far as there are places; empty places hold 64.
-pub fn worst_words(counts: &[u16; INNER_WORDS]) -> [u8; LISTED] {
-    let mut words: Vec<u8> = (0..EMPTY).filter(|&k| counts[usize::from(k)] > 0).collect();
-    words.sort_by_key(|&k| (Reverse(counts[usize::from(k)]), k));
+/// The inner words with a changed place, most changes first, data places and
+/// parity places together, equal ones by the lower number, as far as there are
+/// places in the list; empty places hold 64.
+pub fn worst_words(changes: &[Changes; INNER_WORDS]) -> [u8; LISTED] {
+    let total = |k: u8| changes[usize::from(k)].total();
+    let mut words: Vec<u8> = (0..EMPTY).filter(|&k| total(k) > 0).collect();
+    words.sort_by_key(|&k| (Reverse(total(k)), k));
     let mut list = [EMPTY; LISTED];
     for (place, word) in list.iter_mut().zip(words) {
         *place = word;

@@ -3,7 +3,7 @@
 //! the folder `tests`.
 
 use crate::field::{Field, FieldA, FieldB};
-use crate::{inner, outer, poly};
+use crate::{inner, outer, poly, Changes};
 use cases::damage::{symbol_error, wrong_symbols};
 use cases::random::Random;
 
@@ -205,6 +205,21 @@ fn search_finds_places() {
     }
     test::<FieldB>(&mut random, 2040);
     test::<FieldB>(&mut random, 2047);
+}
+
+/// Every place of an inner word is a data place or a parity place, and the two numbers add up.
+#[test]
+fn places_are_counted_apart() {
+    let mut all = Changes::default();
+    for place in 0..2040 {
+        let mut one = Changes::default();
+        one.add(place);
+        assert_eq!((one.data, one.parity), if place <= 1951 { (1, 0) } else { (0, 1) });
+        all.add(place);
+        assert_eq!(all.total() as usize, place + 1);
+    }
+    assert_eq!(all, Changes { data: 1952, parity: 88 });
+    assert_eq!(Changes { data: u16::MAX, parity: u16::MAX }.total(), 131_070);
 }
 
 /// A code word of 2,047 places, with ones among the seven in front, is cut to

@@ -4,7 +4,7 @@
 mod common;
 use cases::calls;
 use cases::damage::{apart, inverted};
-use cases::layout::{bit, counts, inner_word, put, wrong_bits, DATA_PLACES, FRAME, INNER_BYTES, INNER_DATA, INNER_PARITY, PAYLOAD};
+use cases::layout::{bit, changes, inner_word, put, wrong_bits, DATA_PLACES, FRAME, INNER_BYTES, INNER_DATA, INNER_PARITY, PAYLOAD};
 use cases::payloads::{self, zero_frame, Data};
 use cases::random::Random;
 use cases::refusals::{entry_of, Code, Content, Given, Operation, ENTRIES, NO_CODE_WORD, UNCORRECTABLE};
@@ -67,16 +67,19 @@ fn zero_payload_has_the_zero_frame() {
     assert_corrected(&[0; FRAME], &[0; FRAME]);
 }
 
-/// The frame that the runs on zeros are about, with these bits inverted, is restored, with the counts of these bits.
+/// The frame that the runs on zeros are about, with these bits inverted, is restored, with the numbers of these bits.
 fn restored(bits: &[usize]) {
     let answer = calls::correct_block(&inverted(zero_frame(), bits.iter().copied()));
-    assert_eq!(answer, Ok(Corrected { frame: zero_frame().to_vec(), counts: counts(bits), sum: bits.len() as u32 }));
+    assert_eq!(answer, Ok(Corrected { frame: zero_frame().to_vec(), changes: changes(bits), sum: bits.len() as u32 }));
 }
 
-/// The example of the report program.
+/// The example of the report program: two data places of inner word 0.
 #[test]
 fn bytes_0_and_8() {
     restored(&[0, 64]);
+    let (changes, sum) = reported(&calls::correct_block(&inverted(zero_frame(), [0, 64])));
+    assert_eq!((changes[0], sum), (Changes { data: 2, parity: 0 }, 2));
+    assert_eq!(logging::worst_words(&changes), [0, 64, 64, 64, 64, 64, 64, 64]);
 }
 
 #[test]
@@ -97,7 +100,7 @@ fn eight_bits_of_one_inner_word() {
 #[test]
 fn bits_0_to_511() {
     let run = apart(512, 0, 1);
-    assert_eq!(counts(&run), [8; 64]);
+    assert_eq!(changes(&run), [Changes { data: 8, parity: 0 }; 64]);
     restored(&run);
 }
 

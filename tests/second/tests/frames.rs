@@ -2,13 +2,13 @@
 
 mod common;
 use cases::calls::correct_block;
-use cases::damage::{exchange, in_symbols, in_symbols_of_lost, in_word, invert, inverted, run, scattered};
+use cases::damage::{exchange, in_data_and_parity, in_symbols, in_symbols_of_lost, in_word, invert, inverted, run, scattered};
 use cases::layout::*;
 use cases::payloads::{self, inner_code_word};
 use cases::random::Random;
-use cases::refusals::{NO_CODE_WORD, UNCORRECTABLE};
+use cases::refusals::{BLOCK_LENGTH, NO_CODE_WORD, SPACE, UNCORRECTABLE};
 use common::assert_corrected;
-use second::{check_frame, check_inner, check_outer, correct_inner, correct_outer, extract_payload};
+use second::{check_frame, check_inner, check_outer, correct_frame, correct_inner, correct_outer, extract_payload, reported, Changes};
 
 /// The frame of a payload, word by word from the stated places.
 #[test]
@@ -77,8 +77,84 @@ fn bursts_of_512() {
     let starts = [0, 1, 7_300, 117_000, 124_500, 124_928, FRAME_BITS - 512];
     for start in starts.into_iter().chain((0..20).map(|_| random.below(FRAME_BITS - 511))) {
         let run = start..start + 512;
-        assert_eq!(counts(&run.clone().collect::<Vec<_>>()), [8; INNER_WORDS]);
+        assert_eq!(changes(&run.clone().collect::<Vec<_>>()).map(Changes::total), [8; INNER_WORDS]);
         assert_corrected(&inverted(&frame, run), &frame);
+    }
+}
+
+/// Each inner word with its numbers of wrong data places and of wrong parity places: with the first alone, with the second alone, with both.
+#[test]
+fn data_places_and_parity_places_are_reported_apart() {
+    let mut random = Random(62);
+    let numbers: [fn(u16) -> (u16, u16); 3] = [|k| (k % 9, 0), |k| (0, k % 9), |k| (k % 5, k / 5 % 5)];
+    for number in numbers {
+        let of_word: [Changes; INNER_WORDS] = std::array::from_fn(|k| {
+            let (data, parity) = number(k as u16);
+            Changes { data, parity }
+        });
+        let frame = random.frame();
+        let wrong = (0..INNER_WORDS).flat_map(|k| in_data_and_parity(&mut random, k, of_word[k]));
+        let answer = correct_block(&inverted(&frame, wrong.collect::<Vec<_>>())).expect("at most eight in each inner word");
+        assert!(answer.frame == frame);
+        assert_eq!(answer.changes, of_word);
+        assert_eq!(answer.sum, of_word.iter().map(|c| u32::from(c.data) + u32::from(c.parity)).sum::<u32>());
+    }
+}
+
+/// The last data place and the first parity place, of the inner words at both ends and between.
+#[test]
+fn border_of_data_and_parity() {
+    let frame = Random(63).frame();
+    for k in [0, 31, 63] {
+        for (places, data, parity) in [(1_951..1_952, 1, 0), (1_952..1_953, 0, 1), (1_951..1_953, 1, 1), (1_945..1_953, 7, 1), (1_951..1_959, 1, 7)] {
+            let answer = correct_block(&inverted(&frame, places.map(|p| 64 * p + k))).unwrap();
+            assert_eq!((answer.changes[k], answer.sum), (Changes { data, parity }, u32::from(data + parity)));
+            assert!(answer.frame == frame && (0..INNER_WORDS).all(|j| j == k || answer.changes[j] == Changes::default()));
+        }
+    }
+}
+
+/// All parity bits wrong: the inner pass leaves every inner word, and the outer words, which have none of these bits, are as sent.
+#[test]
+fn every_parity_place_wrong() {
+    let frame = Random(64).frame();
+    let answer = correct_block(&inverted(&frame, OUTER_BITS..FRAME_BITS)).unwrap();
+    assert!(answer.frame == frame);
+    assert_eq!((answer.changes, answer.sum), ([Changes { data: 0, parity: 88 }; INNER_WORDS], 5_632));
+}
+
+/// An inner word far beyond eight, which the outer pass restores: one wrong bit in each outer word, and any parity places.
+#[test]
+fn places_of_a_lost_word_are_reported_apart() {
+    let mut random = Random(65);
+    for parity in [0, 1, 40, 88] {
+        let (frame, k) = (random.frame(), random.below(INNER_WORDS));
+        let mut wrong = in_data_and_parity(&mut random, k, Changes { data: 0, parity });
+        wrong.extend((0..OUTER_WORDS).map(|w| place(k, (WORD_BITS * w).div_ceil(INNER_WORDS) + random.below(110))));
+        let block = inverted(&frame, wrong);
+        assert_eq!(correct_inner(&inner_word(&block, k), INNER_BYTES), Err(UNCORRECTABLE));
+        let answer = correct_block(&block).unwrap();
+        assert!(answer.frame == frame);
+        assert_eq!((answer.changes[k], answer.sum), (Changes { data: 16, parity }, 16 + u32::from(parity)));
+    }
+}
+
+/// A refusal reports zeros, whatever is wrong with the block and wherever.
+#[test]
+fn refusals_report_zeros() {
+    let frame = Random(66).frame();
+    let zeros = ([Changes::default(); INNER_WORDS], 0);
+    let lost = inverted(&frame, (0..513).chain(OUTER_BITS..FRAME_BITS));
+    for (block, space, number) in [
+        (&frame[1..], FRAME, BLOCK_LENGTH),
+        (&lost[1..], FRAME - 1, BLOCK_LENGTH),
+        (&frame[..], FRAME - 1, SPACE),
+        (&lost[..], FRAME + 1, SPACE),
+        (&lost[..], FRAME, UNCORRECTABLE),
+    ] {
+        let answer = correct_frame(block, space);
+        assert_eq!(answer.as_ref().err(), Some(&number));
+        assert_eq!(reported(&answer), zeros);
     }
 }
 
@@ -162,7 +238,7 @@ fn wrong_inner_code_word_is_repaired_by_the_outer_pass() {
         let word = inverted(&inner_word(&frame, k), rows);
         let wrong = inner_code_word(&word[..INNER_DATA]);
         let received = inverted(&wrong, random.choose(errors, PLACES));
-        assert_eq!(correct_inner(&received, INNER_BYTES), Ok((wrong, errors)));
+        assert_eq!(correct_inner(&received, INNER_BYTES), Ok((wrong.clone(), changes_of_word(&wrong_bits(&wrong, &received)))));
         put_inner_word(&mut block, k, &received);
         assert_corrected(&block, &frame);
     }

@@ -2,7 +2,8 @@
 
 mod common;
 use cases::damage::{inverted, symbol_error, wrong_symbols};
-use cases::layout::{wrong_bits, INNER_BYTES, INNER_DATA, INNER_PARITY, PLACES, RADIUS};
+use cases::layout::{changes_of_word, wrong_bits, DATA_PLACES, INNER_BYTES, INNER_DATA, INNER_PARITY, PLACES, RADIUS};
+use cases::light;
 use cases::payloads::outer_code_word;
 use cases::random::Random;
 use cases::refusals::{NO_CODE_WORD, UNCORRECTABLE};
@@ -190,15 +191,50 @@ fn inner_encoding_gives_the_only_code_word() {
     assert_eq!(encode_inner(&zero, INNER_PARITY), Ok(vec![0; INNER_PARITY]));
 }
 
+/// Asserts that an inner code word comes back from what these wrong places make of it, with so many data places and parity places changed.
+fn assert_inner_corrected(word: &[u8], places: &[usize], data: u16, parity: u16) {
+    let received = inverted(word, places.iter().copied());
+    assert_eq!(correct_inner(&received, INNER_BYTES), Ok((word.to_vec(), Changes { data, parity })));
+}
+
 #[test]
 fn inner_up_to_eight_errors() {
     let mut random = Random(41);
     for errors in 0..=8 {
         for _ in 0..300 {
-            let word = random.inner_code_word();
-            let received = inverted(&word, random.choose(errors, PLACES));
-            assert_eq!(correct_inner(&received, INNER_BYTES), Ok((word, errors)));
+            let places = random.choose(errors, PLACES);
+            let Changes { data, parity } = changes_of_word(&places);
+            assert_inner_corrected(&random.inner_code_word(), &places, data, parity);
         }
+    }
+}
+
+/// Each number of wrong data places with each number of wrong parity places, one of them 0 or neither, up to eight in all.
+#[test]
+fn inner_data_places_and_parity_places() {
+    let mut random = Random(46);
+    for data in 0..=RADIUS {
+        for parity in 0..=RADIUS - data {
+            for _ in 0..20 {
+                let in_parity = random.choose(parity, PLACES - DATA_PLACES).into_iter().map(|p| DATA_PLACES + p);
+                let places = [random.choose(data, DATA_PLACES), in_parity.collect()].concat();
+                assert_inner_corrected(&random.inner_code_word(), &places, data as u16, parity as u16);
+            }
+        }
+    }
+}
+
+/// Place 1,951 is the last data place, and 1,952 the first parity place.
+#[test]
+fn inner_border_of_data_and_parity() {
+    let word = Random(47).inner_code_word();
+    assert_inner_corrected(&word, &[1_951], 1, 0);
+    assert_inner_corrected(&word, &[1_952], 0, 1);
+    assert_inner_corrected(&word, &[1_951, 1_952], 1, 1);
+    assert_inner_corrected(&word, &[0, 1_951, 1_952, 2_039], 2, 2);
+    for data in 0..=8 {
+        let run: Vec<usize> = (1_952 - data..1_960 - data).collect();
+        assert_inner_corrected(&word, &run, data as u16, 8 - data as u16);
     }
 }
 
@@ -207,9 +243,9 @@ fn inner_errors_side_by_side() {
     let mut random = Random(42);
     for errors in 1..=8 {
         for start in [0, 1, 1_948, 1_952, PLACES - errors] {
-            let word = random.inner_code_word();
-            let received = inverted(&word, start..start + errors);
-            assert_eq!(correct_inner(&received, INNER_BYTES), Ok((word, errors)));
+            let places: Vec<usize> = (start..start + errors).collect();
+            let Changes { data, parity } = changes_of_word(&places);
+            assert_inner_corrected(&random.inner_code_word(), &places, data, parity);
         }
     }
 }
@@ -217,10 +253,8 @@ fn inner_errors_side_by_side() {
 #[test]
 fn inner_every_single_error() {
     let word = Random(43).inner_code_word();
-    for place in 0..PLACES {
-        let received = inverted(&word, [place]);
-        assert_eq!(correct_inner(&received, INNER_BYTES), Ok((word.clone(), 1)));
-    }
+    (0..1_952).for_each(|place| assert_inner_corrected(&word, &[place], 1, 0));
+    (1_952..PLACES).for_each(|place| assert_inner_corrected(&word, &[place], 0, 1));
 }
 
 /// Errors whose first syndrome is zero, that is, whose field elements add up to
@@ -228,10 +262,9 @@ fn inner_every_single_error() {
 #[test]
 fn inner_errors_with_vanishing_first_syndrome() {
     let mut random = Random(44);
-    for shift in [0, 1, 64, 1_000, 2_028] {
-        let word = random.inner_code_word();
-        let received = inverted(&word, [11, 2, 0].map(|power| PLACES - 1 - shift - power));
-        assert_eq!(correct_inner(&received, INNER_BYTES), Ok((word, 3)));
+    for (shift, data, parity) in [(0, 0, 3), (1, 0, 3), (64, 0, 3), (86, 2, 1), (1_000, 3, 0), (2_028, 3, 0)] {
+        let places = [11, 2, 0].map(|power| PLACES - 1 - shift - power);
+        assert_inner_corrected(&random.inner_code_word(), &places, data, parity);
     }
 }
 
@@ -243,13 +276,29 @@ fn inner_more_than_eight_errors() {
             let word = random.inner_code_word();
             let received = inverted(&word, random.choose(errors, PLACES));
             match correct_inner(&received, INNER_BYTES) {
-                Ok((other, changed)) => {
+                Ok((other, changes)) => {
                     assert_eq!(check_inner(&other), Ok(()));
-                    assert_eq!(wrong_bits(&other, &received).len(), changed);
-                    assert!(changed <= RADIUS && other != word);
+                    assert_eq!(changes, changes_of_word(&wrong_bits(&other, &received)));
+                    assert!(changes.total() as usize <= RADIUS && other != word);
                 }
                 Err(refusal) => assert_eq!(refusal, UNCORRECTABLE),
             }
         }
     }
+}
+
+/// Nine wrong places on the way to another code word, which is eight away: the numbers are those of the eight.
+#[test]
+fn inner_changes_towards_another_code_word() {
+    let mut random = Random(48);
+    let mut both = 0;
+    for _ in 0..100 {
+        let (word, ones) = (random.inner_code_word(), light::code_word(&mut random));
+        let (eight, nine) = ones.split_at(RADIUS);
+        let received = inverted(&word, nine.iter().copied());
+        let changes = changes_of_word(eight);
+        assert_eq!(correct_inner(&received, INNER_BYTES), Ok((inverted(&word, ones), changes)));
+        both += usize::from(changes.data > 0 && changes.parity > 0);
+    }
+    assert!(both > 0);
 }

@@ -1,7 +1,7 @@
 //! That no code word is near, known from nine errors themselves and with no decoder.
 
 use crate::errors::Errors;
-use cases::layout::{counts, symbol, symbol_of, symbols_in, INNER_WORDS, LAST_WORD, PLACES, RADIUS};
+use cases::layout::{changes, symbol, symbol_of, symbols_in, INNER_WORDS, LAST_WORD, PLACES, RADIUS};
 use cases::refusals::Code;
 use second::{Field, FieldA, FieldB};
 
@@ -22,8 +22,8 @@ pub fn nine_in_word(code: Code, length: usize, errors: &Errors) -> bool {
 /// Is a frame with these bits inverted uncorrectable? One inner word has nine of them, in nine symbols of an outer word, and both words are too far from every
 /// code word; each other inner word has at most eight, and is corrected to what was sent.
 pub fn nine_in_frame(inverted: &[usize]) -> bool {
-    let counts = counts(inverted);
-    let nine_of: Vec<usize> = inverted.iter().copied().filter(|i| usize::from(counts[i % INNER_WORDS]) > RADIUS).collect();
+    let changes = changes(inverted);
+    let nine_of: Vec<usize> = inverted.iter().copied().filter(|i| changes[i % INNER_WORDS].total() as usize > RADIUS).collect();
     let w = symbol_of(nine_of[0]).0;
     assert!(w < LAST_WORD && nine_of.iter().all(|&i| symbol_of(i).0 == w), "all in an outer word other than the last");
     let places: Vec<usize> = nine_of.iter().map(|i| i / INNER_WORDS).collect();

@@ -60,8 +60,10 @@ fn refusals(encode: &Entry, check: &Entry, extract: &Entry, correct: &Entry) {
 
 /// A frame comes back if no outer word has more than eight wrong symbols from the inner words with more than eight errors. Bits 0 to 512 are nine of inner
 /// word 0, in nine symbols of outer word 0. From 129,984 on nine bits are parity bits of one inner word, of which no outer word has any. 191 apart, 576
-/// bits are nine of each inner word, 41 in most outer words; 1,008 apart, 124 bits are 31 of each of four inner words, at most eight in an outer word; 976
-/// apart, one outer word has nine.
+/// bits are nine of each inner word, 41 in most outer words; 1,008 apart, 124 bits are 31 of each of four inner words, at most eight in an outer word, and
+/// the next five are parity bits of them; 976 apart, one outer word has nine. Bit 124,927 is the last data place of inner word 63, and 124,928 the first
+/// parity place of inner word 0; 512 bits from 124,672 on are four data places and four parity places of each inner word; 5,632 from 124,928 on are all parity
+/// bits.
 fn corrections(correct: &Entry) {
     assert!(far::nine_in_frame(&apart(513, 0, 1)));
     for (data, count, first, step, content) in [
@@ -73,12 +75,17 @@ fn corrections(correct: &Entry) {
         (Each(0), 513, 0, 1, Lost),
         (Each(0), 9, 0, 12_800, Correctable),
         (Each(0), 130_560, 0, 1, Lost),
+        (Each(0), 1, 124_927, 1, Correctable),
+        (Each(0), 1, 124_928, 1, Correctable),
         (Counted, 0, 0, 1, AsSent),
         (Counted, 512, 5, 255, Correctable),
         (Counted, 576, 5, 191, Lost),
         (Counted, 9, 129_984, 64, Correctable),
         (Counted, 124, 3, 1_008, Correctable),
         (Counted, 128, 3, 976, Lost),
+        (Counted, 129, 3, 1_008, Correctable),
+        (Counted, 512, 124_672, 1, Correctable),
+        (Counted, 5_632, 124_928, 1, Correctable),
     ] {
         received(correct, PAYLOAD, data, &Errors::spaced(count, 1, first, step), FRAME, content);
     }

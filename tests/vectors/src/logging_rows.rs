@@ -2,12 +2,12 @@
 
 use crate::lines::list;
 use cases::damage::{apart, inverted};
-use cases::layout::{counts, FRAME, INNER_WORDS};
+use cases::layout::{changes, place, FRAME, INNER_WORDS};
 use cases::payloads::zero_frame;
 use cases::refusals::Content::{self, AsSent, Correctable, Lost};
 use cases::refusals::{entry_of, Code, Given, Operation};
 use second::logging::{worst_words, Counters};
-use second::{correct_frame, Corrected};
+use second::{correct_frame, reported, Changes, Corrected};
 
 pub fn print() {
     counters();
@@ -48,26 +48,34 @@ fn read(counters: Counters) -> String {
     format!("counters:{}", list(&counters.read()))
 }
 
+/// Graded errors stand on both sides of the border between data places and parity places: by either of the two numbers alone the list would be another one.
 fn worst_lists() {
     for (count, first, step) in [(0, 0, 1), (5, 37, 64), (9, 1, 12_800), (512, 0, 1)] {
         worst_list(&format!("errors {count} from {first} apart {step}"), &apart(count, first, step));
     }
-    let graded: Vec<usize> = (0..INNER_WORDS).flat_map(|k| apart(5 * k % 9, k, INNER_WORDS)).collect();
-    worst_list("(5 k) mod 9 errors of each inner word k", &graded);
+    let graded: Vec<usize> = (0..INNER_WORDS).flat_map(|k| apart(5 * k % 9, place(k, 1_946 + k % 7), INNER_WORDS)).collect();
+    worst_list("(5 k) mod 9 errors of each inner word k from place 1946 + k mod 7", &graded);
     worst_list("errors 513 from 0 apart 1", &apart(513, 0, 1));
+    beyond_a_report();
 }
 
-/// A row on the worst list of an answer; that of a refusal has counts of 0.
+/// A row on the worst list of an answer; that of a refusal has zeros.
 fn worst_list(told: &str, bits: &[usize]) {
-    let counts = corrected(bits, FRAME, FRAME).map_or([0; INNER_WORDS], |corrected| corrected.counts);
-    println!("worst list, {told}:{}", list(&worst_words(&counts)));
+    let (changes, _) = reported(&corrected(bits, FRAME, FRAME));
+    println!("worst list, {told}:{}", list(&worst_words(&changes)));
 }
 
-/// The answer to the first n bytes of the zero frame with these bits inverted. If it is not refused, it is the zero frame, with the counts of these bits.
+/// A row on numbers that no correction gives: the two of an inner word are together more than 16 bits hold.
+fn beyond_a_report() {
+    let changes = std::array::from_fn(|k| Changes { data: 65_535 - 512 * k as u16, parity: 1_024 * k as u16 });
+    println!("worst list, data places 65535 - 512 k and parity places 1024 k of each inner word k:{}", list(&worst_words(&changes)));
+}
+
+/// The answer to the first n bytes of the zero frame with these bits inverted. If it is not refused, it is the zero frame, with the numbers of these bits.
 fn corrected(bits: &[usize], n: usize, space: usize) -> Result<Corrected, u8> {
     let answer = correct_frame(&inverted(zero_frame(), bits.iter().copied())[..n], space);
     if let Ok(corrected) = &answer {
-        assert_eq!(*corrected, Corrected { frame: zero_frame().to_vec(), counts: counts(bits), sum: bits.len() as u32 });
+        assert_eq!(*corrected, Corrected { frame: zero_frame().to_vec(), changes: changes(bits), sum: bits.len() as u32 });
     }
     answer
 }

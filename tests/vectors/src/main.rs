@@ -8,7 +8,7 @@
 //! crate `cases`.
 //!
 //! What comes out is held to how the row is made. The number of the answer follows, by the table, from the lengths and from what the row says its content is.
-//! Where a correction is not refused, the sent word or frame has to come back, with the counts of the errors that were made. Where nine errors are refused,
+//! Where a correction is not refused, the sent word or frame has to come back, with the numbers of the errors that were made. Where nine errors are refused,
 //! that no code word is near follows from the errors (`far`); where there are more, the decoder alone says so.
 
 mod errors;

@@ -4,8 +4,8 @@
 use crate::errors::Errors;
 use crate::far;
 use crate::lines::{buffer, digest, list};
-use cases::calls;
-use cases::layout::{counts, INNER_WORDS};
+use cases::calls::{self, Report};
+use cases::layout::{changes, changes_of_word};
 use cases::payloads::{self, from_bytes, inner_code_word, outer_code_word, to_bytes, Data};
 use cases::refusals::{Code, Content, Entry, Given, Operation};
 
@@ -24,7 +24,7 @@ pub fn received(entry: &Entry, d: usize, data: Data, errors: &Errors, space: usi
     let answer = answered(entry, &errors.in_sent(entry.code, &sent), space, content);
     if entry.operation == Operation::Correct && answer.number == 0 {
         assert!(answer.buffer == sent, "the sent word or frame comes back");
-        assert_eq!(answer.report, report(entry, errors.places.len() as u32, &counts(&errors.places)));
+        assert_eq!(answer.report, reported(entry.code, &errors.places));
     } else if entry.operation == Operation::Correct && entry.code != Code::Frame {
         assert!(far::nine_in_word(entry.code, sent.len(), errors), "no code word is near");
     }
@@ -53,29 +53,40 @@ fn sent(code: Code, data: &[u16]) -> Vec<u16> {
     }
 }
 
+/// What a correction reports if it changes these symbols, places or frame bits.
+fn reported(code: Code, wrong: &[usize]) -> Report {
+    match code {
+        Code::Outer => Report::Outer(wrong.len()),
+        Code::Inner => Report::Inner(changes_of_word(wrong)),
+        Code::Frame => Report::Frame(changes(wrong), wrong.len() as u32),
+    }
+}
+
 /// 0 or the refusal's number, what a correction reports, and the buffer, which holds nines before the call.
 struct Answer {
     number: u8,
-    report: Vec<u64>,
+    report: Report,
     buffer: Vec<u16>,
 }
 
 /// The rest of the line.
 fn answered(entry: &Entry, values: &[u16], space: usize, content: Content) -> Answer {
     let answer = match calls::call(entry, values, space) {
-        Ok(done) => Answer { number: 0, report: report(entry, done.changed, &done.counts), buffer: done.written },
-        Err(number) => Answer { number, report: report(entry, 0, &[0; INNER_WORDS]), buffer: vec![9; space] },
+        Ok(done) => Answer { number: 0, report: done.report, buffer: done.written },
+        Err(number) => Answer { number, report: Report::refused(entry, number), buffer: vec![9; space] },
     };
-    println!(", buffer of {space}: {}{}{}", answer.number, list(&answer.report), buffer(&answer.buffer));
+    println!(", buffer of {space}: {}{}{}", answer.number, list(&numbers(&answer.report)), buffer(&answer.buffer));
     assert_eq!(answer.number, entry.answer(&Given::of(values, space, content)));
     answer
 }
 
-/// What a correction reports: how many symbols or bits it changed, and for a frame the digest of the counts.
-fn report(entry: &Entry, changed: u32, counts: &[u16; INNER_WORDS]) -> Vec<u64> {
-    match (entry.operation, entry.code) {
-        (Operation::Correct, Code::Frame) => vec![u64::from(changed), digest(counts)],
-        (Operation::Correct, _) => vec![u64::from(changed)],
-        _ => vec![],
+/// A report in numbers: changed symbols of an outer word; changed data places and parity places of an inner word; the sum for a frame, and the digests of the
+/// data places and of the parity places of all inner words.
+fn numbers(report: &Report) -> Vec<u64> {
+    match report {
+        Report::None => vec![],
+        Report::Outer(changed) => vec![*changed as u64],
+        Report::Inner(changes) => vec![changes.data.into(), changes.parity.into()],
+        Report::Frame(changes, sum) => vec![u64::from(*sum), digest(&changes.map(|c| c.data)), digest(&changes.map(|c| c.parity))],
     }
 }

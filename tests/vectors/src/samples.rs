@@ -3,10 +3,11 @@
 use crate::far;
 use cases::calls::correct_block;
 use cases::damage::{apart, inverted};
-use cases::layout::{counts, place, FRAME, INNER_WORDS, PAYLOAD, PLACES};
+use cases::layout::{changes, place, DATA_PLACES, FRAME, INNER_WORDS, PAYLOAD, PLACES};
 use cases::payloads::{self, Data};
 use cases::refusals::{BLOCK_LENGTH, UNCORRECTABLE};
 use second::logging::{worst_words, EMPTY};
+use second::Changes;
 use std::fs;
 use std::path::Path;
 
@@ -16,6 +17,8 @@ pub fn write_all(folder: &Path) {
     correctable(folder, "burst", &sent, &burst(512));
     correctable(folder, "worst_list", &sent, &twelve_words());
     correctable(folder, "outer_pass", &sent, &spread());
+    correctable(folder, "parity_places", &sent, &parity_places());
+    correctable(folder, "data_and_parity", &sent, &data_and_parity());
     // nine wrong bits of inner word 37 stand in nine symbols of outer word 7
     assert!(far::nine_in_frame(&burst(513)));
     refusal(folder, "uncorrectable", &inverted(&sent, burst(513)), UNCORRECTABLE);
@@ -40,13 +43,31 @@ fn spread() -> Vec<usize> {
     apart(24, place(37, 0), place(0, 81))
 }
 
+/// So many wrong bits of inner word k at data places, from the last of these back and 200 apart, so that no two are in the same outer word; and so many at
+/// parity places, from the first of these on.
+fn at_the_border((k, data, parity): (usize, usize, usize)) -> Vec<usize> {
+    let places = (0..data).map(|j| DATA_PLACES - 1 - 200 * j).chain(DATA_PLACES..DATA_PLACES + parity);
+    places.map(|p| place(k, p)).collect()
+}
+
+/// Four inner words with wrong bits at parity places alone; of two of them more than eight, which no outer word has.
+fn parity_places() -> Vec<usize> {
+    [(3, 0, 8), (21, 0, 88), (44, 0, 1), (62, 0, 9)].into_iter().flat_map(at_the_border).collect()
+}
+
+/// Ten inner words with wrong bits at data places, at parity places or at both. By either of the two numbers alone the list would be another one.
+fn data_and_parity() -> Vec<usize> {
+    let words = [(2, 5, 0), (7, 3, 0), (11, 0, 6), (20, 3, 4), (29, 9, 4), (33, 0, 5), (38, 0, 3), (47, 2, 2), (50, 3, 2), (56, 1, 1)];
+    words.into_iter().flat_map(at_the_border).collect()
+}
+
 /// A frame with wrong bits that the two passes correct.
 fn correctable(folder: &Path, name: &str, sent: &[u8], wrong: &[usize]) {
     let block = inverted(sent, wrong.iter().copied());
     let answer = correct_block(&block).expect(name);
     assert!(answer.frame == sent, "{name}");
-    assert_eq!((answer.counts, answer.sum as usize), (counts(wrong), wrong.len()), "{name}");
-    write(folder, name, &block, &report(&counts(wrong)));
+    assert_eq!((answer.changes, answer.sum as usize), (changes(wrong), wrong.len()), "{name}");
+    write(folder, name, &block, &report(&changes(wrong)));
 }
 
 fn refusal(folder: &Path, name: &str, block: &[u8], number: u8) {
@@ -54,14 +75,28 @@ fn refusal(folder: &Path, name: &str, block: &[u8], number: u8) {
     write(folder, name, block, &format!("refused {number}\n"));
 }
 
-/// The report on a corrected block.
-fn report(counts: &[u16; INNER_WORDS]) -> String {
-    let listed = worst_words(counts).into_iter().filter(|&k| k != EMPTY);
-    let lines: String = listed.map(|k| format!("inner {k} {}\n", counts[usize::from(k)])).collect();
-    format!("mended {}\n{lines}", counts.iter().sum::<u16>())
+/// The report on a corrected block: the sum, and data places and parity places of each listed inner word.
+fn report(changes: &[Changes; INNER_WORDS]) -> String {
+    let listed = worst_words(changes).into_iter().filter(|&k| k != EMPTY).map(usize::from);
+    let lines: String = listed.map(|k| format!("inner {k} {} {}\n", changes[k].data, changes[k].parity)).collect();
+    format!("mended {}\n{lines}", changes.iter().copied().map(Changes::total).sum::<u32>())
 }
 
 fn write(folder: &Path, name: &str, block: &[u8], report: &str) {
     fs::write(folder.join(format!("{name}.bin")), block).unwrap();
     fs::write(folder.join(format!("{name}.txt")), report).unwrap();
+}
+
+#[cfg(test)]
+mod tests {
+    use super::*;
+    use cases::payloads::zero_frame;
+
+    /// The report program's case of document 01, which stands with the program: bits 0 and 64 of the zero frame.
+    #[test]
+    fn the_case_of_the_report_program() {
+        assert!(inverted(zero_frame(), [0, 64]) == include_bytes!("../../../crates/report/stdin"));
+        assert_eq!(report(&changes(&[0, 64])), include_str!("../../../crates/report/stdout"));
+        assert_eq!(correct_block(include_bytes!("../../../crates/report/stdin")).unwrap().changes, changes(&[0, 64]));
+    }
 }

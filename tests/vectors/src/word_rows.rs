@@ -63,7 +63,8 @@ fn inner() {
     }
 }
 
-/// The shortest outer word, one of a frame and the longest; inner words with errors anywhere, and in the parity alone.
+/// The shortest outer word, one of a frame and the longest; inner words with errors anywhere, in the parity alone, and in the data alone, then on both sides
+/// of the border between places 1,951 and 1,952.
 fn corrections() {
     let (outer, inner) = (entry_of(Correct, Outer), entry_of(Correct, Inner));
     corrected(outer, 1, Each(2), 17, 1_023, [0, 16, 8, 1, 15, 9, 2, 14, 10]);
@@ -71,6 +72,7 @@ fn corrections() {
     corrected(outer, 1_007, Each(1), 1_023, 1_023, [0, 1_022, 511, 1, 1_021, 512, 2, 1_020, 513]);
     corrected(inner, INNER_DATA, Each(255), INNER_BYTES, 1, [0, 2_039, 1_020, 1, 2_038, 1_021, 2, 2_037, 1_022]);
     corrected(inner, INNER_DATA, Each(255), INNER_BYTES, 1, [1_952, 2_039, 1_995, 1_953, 2_038, 1_996, 1_954, 2_037, 1_997]);
+    corrected(inner, INNER_DATA, Each(255), INNER_BYTES, 1, [1_951, 0, 976, 1_950, 1_952, 1_949, 1_953, 1_948, 1_954]);
 }
 
 /// One error at each of three places; then zero to nine errors, of which nine are too many.

@@ -30,7 +30,7 @@ static void half_lost(void)
 static void lost_by_parity(void)
 {
 	for (int k = 0; k < INNER; k += 1 + next_random(16))
-		damage_word(block, k, 9 + next_random(40), PLACES - 88);
+		damage_word(block, k, 9 + next_random(40), DATA_PLACES);
 }
 
 static void destroyed(void)

@@ -112,7 +112,7 @@ static void finish(struct lent in, struct lent out, size_t element, const struct
 
 // ---- frames
 
-static uint8_t payload[PAYLOAD], frame[FRAME], damaged[FRAME], lost[FRAME];
+static uint8_t payload[PAYLOAD], frame[FRAME], damaged[FRAME], no_parity[FRAME], lost[FRAME];
 
 static void encode(size_t n, size_t space)
 {
@@ -141,30 +141,71 @@ static void correct(const uint8_t *block, size_t n, size_t space, enum content c
 	finish(in, out, 1, &entries[CORRECT_FRAME], content, number, frame);
 }
 
-static void correct_with_report(const uint8_t *block, size_t n, size_t space, size_t places, enum content content)
+// the wrong places of an inner word from one on and before another: bits in which the block differs from the frame
+static int wrong_places(const uint8_t *block, int k, int from, int to)
 {
-	struct lent in = lend_input(block, FRAME, n), out = lend_output(space), counts = lend_output(2 * places);
-	uint64_t packed = exports_correct_frame(in.bytes, n, out.bytes, space, (uint16_t *)counts.bytes, places);
-	uint64_t sum = 0;
-	if (places == INNER)
-		for (int k = 0; k < INNER; k++)
-			sum += ((uint16_t *)counts.bytes)[k];
-	else
-		expect(untouched(counts), "counts", n, places);
-	expect(places != INNER || packed >> 8 == sum, "sum", n, places);
-	give_back(counts);
-	finish(in, out, 1, &entries[CORRECT_FRAME], content, packed & 255, frame);
+	int wrong = 0;
+	for (int p = from; p < to; p++) {
+		int i = INNER * p + k;
+		wrong += (block[i / 8] ^ frame[i / 8]) >> (7 - i % 8) & 1;
+	}
+	return wrong;
 }
 
-// a payload, its frame, and the frame with 512 neighbouring wrong bits and with 2,000
+// A list of a report with its number for each inner word, zeros for a refusal, if it has a place for each; else it is left as it was.
+static void finish_list(struct lent list, const uint8_t *block, int number, int from, int to)
+{
+	if (list.n == 2 * INNER)
+		for (int k = 0; k < INNER; k++)
+			expect(((uint16_t *)list.bytes)[k] == (number ? 0 : wrong_places(block, k, from, to)), "list of a report, inner word", k, from);
+	else
+		expect(untouched(list), "list of a report", list.n, from);
+	give_back(list);
+}
+
+// with a list of so many data places and one of so many parity places
+static void correct_with_report(const uint8_t *block, size_t n, size_t space, size_t places, size_t parity_places, enum content content)
+{
+	struct lent in = lend_input(block, FRAME, n), out = lend_output(space), data = lend_output(2 * places), parity = lend_output(2 * parity_places);
+	uint64_t packed = exports_correct_frame(in.bytes, n, out.bytes, space, (uint16_t *)data.bytes, places, (uint16_t *)parity.bytes, parity_places);
+	int number = packed & 255;
+	uint64_t sum = 0;
+	for (int k = 0; k < INNER && !number; k++)
+		sum += wrong_places(block, k, 0, PLACES);
+	expect(packed >> 8 == sum, "sum", n, places);
+	finish_list(data, block, number, 0, DATA_PLACES);
+	finish_list(parity, block, number, DATA_PLACES, PLACES);
+	finish(in, out, 1, &entries[CORRECT_FRAME], content, number, frame);
+}
+
+// a payload, its frame, and the frame with 512 neighbouring wrong bits, two data places and six parity places of each inner word; with every parity bit wrong;
+// and with 2,000 neighbouring ones
 static void make_blocks(void)
 {
 	fill_payload(payload, patterned_byte);
 	expect(g9751_i4_encode(payload, PAYLOAD, frame, FRAME) == 0, "encode", PAYLOAD, FRAME);
 	memcpy(damaged, frame, FRAME);
+	memcpy(no_parity, frame, FRAME);
 	memcpy(lost, frame, FRAME);
 	damage_burst(damaged, 124800, 512);
+	damage_burst(no_parity, INNER * DATA_PLACES, INNER * (PLACES - DATA_PLACES));
 	damage_burst(lost, 112000, 2000);
+}
+
+// Lists of a report with a place for each inner word, with none, with one less and with one more, for what is corrected and for each refusal.
+static void reports(void)
+{
+	static const size_t places[] = { INNER, 0, INNER - 1, INNER + 1 };
+	for (int i = 0; i < 4; i++)
+		for (int k = 0; k < 4; k++) {
+			correct_with_report(frame, FRAME, FRAME, places[i], places[k], AS_SENT);
+			correct_with_report(damaged, FRAME, FRAME, places[i], places[k], CORRECTABLE);
+			correct_with_report(no_parity, FRAME, FRAME, places[i], places[k], CORRECTABLE);
+			correct_with_report(lost, FRAME, FRAME, places[i], places[k], LOST);
+			correct_with_report(damaged, FRAME - 1, FRAME, places[i], places[k], CORRECTABLE);
+			correct_with_report(damaged, FRAME, FRAME - 1, places[i], places[k], CORRECTABLE);
+			correct_with_report(damaged, 0, 0, places[i], places[k], CORRECTABLE);
+		}
 }
 
 static void frames(void)
@@ -182,11 +223,11 @@ static void frames(void)
 			correct(frame, n, space, AS_SENT);
 			correct(damaged, n, space, CORRECTABLE);
 			correct(lost, n, space, LOST);
-			correct_with_report(damaged, n, FRAME, space % 8192, CORRECTABLE);
+			correct_with_report(damaged, n, FRAME, space % 8192, INNER, CORRECTABLE);
+			correct_with_report(damaged, n, FRAME, INNER, space % 8192, CORRECTABLE);
 		}
 	}
-	correct_with_report(damaged, FRAME, FRAME, INNER, CORRECTABLE);
-	correct_with_report(lost, FRAME, FRAME, INNER, LOST);
+	reports();
 }
 
 // a frame with scattered wrong bits; with eight in each inner word, or many in three of them; noise; ones
@@ -240,7 +281,7 @@ static void correct_outer(size_t n, size_t space, int changed)
 		wrong_outer[(n - 1 - i) % 1024] = 1023;
 	struct lent in = lend_input(wrong_outer, sizeof wrong_outer, 2 * n), out = lend_output(2 * space);
 	uint32_t packed = exports_correct_outer((uint16_t *)in.bytes, n, (uint16_t *)out.bytes, space);
-	expect((packed & 255) != 0 || packed >> 8 == (uint32_t)changed, "outer changes", n, space);
+	expect(packed >> 8 == (packed & 255 ? 0 : (uint32_t)changed), "outer changes", n, space);
 	finish(in, out, 2, &entries[CORRECT_OUTER], after(changed), packed & 255, outer);
 }
 
@@ -264,15 +305,16 @@ static void outer_words(void)
 
 static uint8_t inner[256], wrong_inner[256];
 
-// the zero word, with one wrong bit in each of so many bytes, the last ones
-static void correct_inner(size_t n, size_t space, int changed)
+// the zero word, with so many wrong data places, from the last one back, and so many wrong parity places, from the first one on, each in another byte
+static void correct_inner(size_t n, size_t space, int data, int parity)
 {
 	memset(wrong_inner, 0, sizeof wrong_inner);
-	invert_apart(wrong_inner, changed, 8 * (INNER_BYTES - changed) + 7, 8);
+	invert_apart(wrong_inner, data, DATA_PLACES - 1, -8);
+	invert_apart(wrong_inner, parity, DATA_PLACES, 8);
 	struct lent in = lend_input(wrong_inner, sizeof wrong_inner, n), out = lend_output(space);
 	uint32_t packed = exports_correct_inner(in.bytes, n, out.bytes, space);
-	expect((packed & 255) != 0 || packed >> 8 == (uint32_t)changed, "inner changes", n, space);
-	finish(in, out, 1, &entries[CORRECT_INNER], after(changed), packed & 255, inner);
+	expect(packed >> 8 == (packed & 255 ? 0 : data + 256 * (uint32_t)parity), "inner changes", n, space);
+	finish(in, out, 1, &entries[CORRECT_INNER], after(data + parity), packed & 255, inner);
 }
 
 static void inner_words(void)
@@ -286,9 +328,13 @@ static void inner_words(void)
 			struct lent data = lend_input(inner, sizeof inner, n), out = lend_output(space);
 			int number = exports_encode_inner(data.bytes, n, out.bytes, space);
 			finish(data, out, 1, &entries[ENCODE_INNER], AS_SENT, number, inner);
-			correct_inner(n, space, 0);
-			correct_inner(n, space, RADIUS);
-			correct_inner(n, space, RADIUS + 1);
+			correct_inner(n, space, 0, 0);
+			correct_inner(n, space, RADIUS, 0);
+			correct_inner(n, space, 0, RADIUS);
+			correct_inner(n, space, 1, 1);
+			correct_inner(n, space, 5, 3);
+			correct_inner(n, space, 0, RADIUS + 1);
+			correct_inner(n, space, 5, 4);
 		}
 	}
 }

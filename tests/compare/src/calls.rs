@@ -3,26 +3,27 @@
 use crate::guarded::{Element, Guarded};
 use cases::random::Random;
 use cases::refusals::{Code::*, Entry, Operation::*};
-use second::Corrected;
+use second::{Changes, Corrected};
+use std::fmt::Debug;
 use wrapper::{frames, words, Refusal};
 
 /// 0 or the refusal's number, on which both sides agree; or what differs.
 pub type Answer = Result<u8, String>;
 
-/// A number with the answer, as the sum of a report, and the content of the buffer; or the refusal's number.
-type Expected<T> = Result<(Vec<T>, u32), u8>;
+/// The content of the buffer and the numbers of the answer, as the sum of a report; or the refusal's number.
+type Expected<T, N> = Result<(Vec<T>, N), u8>;
 
-fn compare<T: Element>(
+fn compare<T: Element, N: PartialEq + Debug>(
     entry: &str,
     input: &[T],
     out: &mut Guarded<T>,
-    expected: Expected<T>,
-    call: impl FnOnce(&[T], &mut [T]) -> Result<u32, Refusal>,
+    expected: Expected<T, N>,
+    call: impl FnOnce(&[T], &mut [T]) -> Result<N, Refusal>,
 ) -> Answer {
     let guarded = Guarded::new(input);
     let found = call(guarded.slice(), out.slice_mut()).map_err(Refusal::number);
-    let answers = expected.as_ref().map(|e| e.1).map_err(|n| *n);
-    if found != answers {
+    let answers = expected.as_ref().map(|e| &e.1).map_err(|n| *n);
+    if found.as_ref().map_err(|n| *n) != answers {
         return Err(format!("{entry}: the library answers {found:?}, the second {answers:?}"));
     }
     let told = |e| format!("{entry}: {e}");
@@ -43,70 +44,92 @@ pub fn symbols_before(random: &mut Random, space: usize) -> Guarded<u16> {
     Guarded::new(&symbols)
 }
 
-fn no_number<T>(answer: Result<Vec<T>, u8>) -> Expected<T> {
-    answer.map(|content| (content, 0))
+fn no_number<T>(answer: Result<Vec<T>, u8>) -> Expected<T, ()> {
+    answer.map(|content| (content, ()))
 }
 
 pub fn encode_frame(random: &mut Random, payload: &[u8], space: usize) -> Answer {
     let expected = no_number(second::encode_frame(payload, space));
-    compare("encode_frame", payload, &mut bytes_before(random, space), expected, |i, o| frames::encode(i, o).map(|()| 0))
+    compare("encode_frame", payload, &mut bytes_before(random, space), expected, frames::encode)
 }
 
 pub fn check_frame(block: &[u8]) -> Answer {
-    let expected = second::check_frame(block).map(|()| (vec![], 0));
-    compare("check_frame", block, &mut Guarded::new(&[]), expected, |i, _| frames::check(i).map(|()| 0))
+    let expected = no_number(second::check_frame(block).map(|()| vec![]));
+    compare("check_frame", block, &mut Guarded::new(&[]), expected, |i, _| frames::check(i))
 }
 
 pub fn extract_payload(random: &mut Random, block: &[u8], space: usize) -> Answer {
     let expected = no_number(second::extract_payload(block, space));
-    compare("extract_payload", block, &mut bytes_before(random, space), expected, |i, o| frames::extract(i, o).map(|()| 0))
+    compare("extract_payload", block, &mut bytes_before(random, space), expected, frames::extract)
 }
 
-/// The entry for C, and the one with the report: its sum, and the counts in a space for `places`.
-pub fn correct_frame(random: &mut Random, block: &[u8], space: usize, places: usize) -> Result<Result<Corrected, u8>, String> {
-    let answer = second::correct_frame(block, space);
-    let expected = |sum: bool| answer.as_ref().map(|c| (c.frame.clone(), if sum { c.sum } else { 0 })).map_err(|n| *n);
-    compare("correct_frame", block, &mut bytes_before(random, space), expected(false), |i, o| frames::correct(i, o).map(|()| 0))?;
-    let mut counts = symbols_before(random, places);
-    compare("correct_frame with its report", block, &mut bytes_before(random, space), expected(true), |i, o| {
-        frames::correct_with_report(i, o, counts.slice_mut())
-    })?;
-    if places == frames::INNER_WORDS {
-        counts.holds("the counts", answer.as_ref().map(|c| &c.counts).unwrap_or(&[0; frames::INNER_WORDS]))?;
+/// The spaces for the two lists of a report: the data places and the parity places of each inner word.
+pub type Lists = (usize, usize);
+
+/// Spaces that are right.
+pub const LISTS: Lists = (frames::INNER_WORDS, frames::INNER_WORDS);
+
+/// A list of a report: it is written only if it has exactly 64 places.
+fn compare_list(name: &str, list: &Guarded<u16>, expected: [u16; frames::INNER_WORDS]) -> Result<(), String> {
+    if list.len() == frames::INNER_WORDS {
+        list.holds(name, &expected)
     } else {
-        counts.kept("the counts")?;
+        list.kept(name)
     }
+}
+
+/// The entry for C, and the one with the report: its sum, and both lists, of a refusal too.
+pub fn correct_frame(random: &mut Random, block: &[u8], space: usize, lists: Lists) -> Result<Result<Corrected, u8>, String> {
+    let answer = second::correct_frame(block, space);
+    let restored = || answer.as_ref().map(|c| c.frame.clone()).map_err(|n| *n);
+    compare("correct_frame", block, &mut bytes_before(random, space), no_number(restored()), frames::correct)?;
+    let (changes, sum) = second::reported(&answer);
+    let (mut data, mut parity) = (symbols_before(random, lists.0), symbols_before(random, lists.1));
+    let expected = restored().map(|frame| (frame, u64::from(sum)));
+    compare("correct_frame with its report", block, &mut bytes_before(random, space), expected, |i, o| {
+        frames::correct_with_report(i, o, data.slice_mut(), parity.slice_mut())
+    })?;
+    compare_list("the list of data places", &data, changes.map(|c| c.data))?;
+    compare_list("the list of parity places", &parity, changes.map(|c| c.parity))?;
     Ok(answer)
 }
 
 pub fn check_outer(word: &[u16]) -> Answer {
-    let expected = second::check_outer(word).map(|()| (vec![], 0));
-    compare("check_outer", word, &mut Guarded::new(&[]), expected, |i, _| words::check_outer(i).map(|()| 0))
+    let expected = no_number(second::check_outer(word).map(|()| vec![]));
+    compare("check_outer", word, &mut Guarded::new(&[]), expected, |i, _| words::check_outer(i))
 }
 
 pub fn encode_outer(random: &mut Random, data: &[u16], space: usize) -> Answer {
     let expected = no_number(second::encode_outer(data, space));
-    compare("encode_outer", data, &mut symbols_before(random, space), expected, |i, o| words::encode_outer(i, o).map(|()| 0))
+    compare("encode_outer", data, &mut symbols_before(random, space), expected, words::encode_outer)
 }
 
 pub fn correct_outer(random: &mut Random, word: &[u16], space: usize) -> Answer {
-    let expected = second::correct_outer(word, space).map(|(content, changed)| (content, changed as u32));
+    let expected = second::correct_outer(word, space).map(|(content, changed)| (content, changed as u64));
     compare("correct_outer", word, &mut symbols_before(random, space), expected, words::correct_outer)
 }
 
 pub fn check_inner(word: &[u8]) -> Answer {
-    let expected = second::check_inner(word).map(|()| (vec![], 0));
-    compare("check_inner", word, &mut Guarded::new(&[]), expected, |i, _| words::check_inner(i).map(|()| 0))
+    let expected = no_number(second::check_inner(word).map(|()| vec![]));
+    compare("check_inner", word, &mut Guarded::new(&[]), expected, |i, _| words::check_inner(i))
 }
 
 pub fn encode_inner(random: &mut Random, data: &[u8], space: usize) -> Answer {
     let expected = no_number(second::encode_inner(data, space));
-    compare("encode_inner", data, &mut bytes_before(random, space), expected, |i, o| words::encode_inner(i, o).map(|()| 0))
+    compare("encode_inner", data, &mut bytes_before(random, space), expected, words::encode_inner)
 }
 
-pub fn correct_inner(random: &mut Random, word: &[u8], space: usize) -> Answer {
-    let expected = second::correct_inner(word, space).map(|(content, changed)| (content, changed as u32));
-    compare("correct_inner", word, &mut bytes_before(random, space), expected, words::correct_inner)
+/// The code word, and the data places and the parity places that are changed.
+pub fn correct_inner(random: &mut Random, word: &[u8], space: usize) -> Result<Result<(Vec<u8>, Changes), u8>, String> {
+    let answer = second::correct_inner(word, space);
+    let expected = answer.clone().map(|(content, changes)| (content, (u64::from(changes.data), u64::from(changes.parity))));
+    compare("correct_inner", word, &mut bytes_before(random, space), expected, words::correct_inner)?;
+    Ok(answer)
+}
+
+/// 0 or the refusal's number.
+pub fn number<T>(answer: Result<T, u8>) -> u8 {
+    answer.err().unwrap_or(0)
 }
 
 /// What an entry reads: symbols for the outer code, else bytes.
@@ -134,19 +157,19 @@ impl Input {
     }
 }
 
-/// The call of an entry of the table; the counts of a report are given a space for `places`.
-pub fn call(entry: &Entry, random: &mut Random, input: &Input, space: usize, places: usize) -> Answer {
+/// The call of an entry of the table, with the spaces for the lists of a report.
+pub fn call(entry: &Entry, random: &mut Random, input: &Input, space: usize, lists: Lists) -> Answer {
     match (entry.operation, entry.code, input) {
         (Encode, Frame, Bytes(payload)) => encode_frame(random, payload, space),
         (Check, Frame, Bytes(block)) => check_frame(block),
         (Extract, Frame, Bytes(block)) => extract_payload(random, block, space),
-        (Correct, Frame, Bytes(block)) => correct_frame(random, block, space, places).map(|answer| answer.err().unwrap_or(0)),
+        (Correct, Frame, Bytes(block)) => correct_frame(random, block, space, lists).map(number),
         (Check, Outer, Symbols(word)) => check_outer(word),
         (Encode, Outer, Symbols(data)) => encode_outer(random, data, space),
         (Correct, Outer, Symbols(word)) => correct_outer(random, word, space),
         (Check, Inner, Bytes(word)) => check_inner(word),
         (Encode, Inner, Bytes(data)) => encode_inner(random, data, space),
-        (Correct, Inner, Bytes(word)) => correct_inner(random, word, space),
+        (Correct, Inner, Bytes(word)) => correct_inner(random, word, space).map(number),
         _ => Err(format!("{} reads something else", entry.name)),
     }
 }
@@ -155,7 +178,7 @@ pub fn call(entry: &Entry, random: &mut Random, input: &Input, space: usize, pla
 mod tests {
     use super::*;
 
-    fn told(expected: Expected<u8>, call: impl FnOnce(&[u8], &mut [u8]) -> Result<u32, Refusal>) -> bool {
+    fn told(expected: Expected<u8, u64>, call: impl FnOnce(&[u8], &mut [u8]) -> Result<u64, Refusal>) -> bool {
         compare("entry", &[1, 2, 3], &mut Guarded::new(&[4, 5]), expected, call).is_ok()
     }
 
@@ -186,5 +209,20 @@ mod tests {
             o[1] = 6;
             Err(Refusal::BufferSize)
         }));
+    }
+
+    #[test]
+    fn a_list_is_written_whole_or_kept() {
+        let expected: [u16; frames::INNER_WORDS] = std::array::from_fn(|k| k as u16);
+        let mut list = Guarded::new(&[7; frames::INNER_WORDS]);
+        assert!(compare_list("it", &list, expected).is_err());
+        list.slice_mut().copy_from_slice(&expected);
+        assert!(compare_list("it", &list, expected).is_ok());
+        for places in [0, 63, 65] {
+            let mut list = Guarded::new(&vec![7; places]);
+            assert!(compare_list("it", &list, expected).is_ok());
+            list.slice_mut().fill(0);
+            assert_eq!(compare_list("it", &list, expected).is_ok(), places == 0);
+        }
     }
 }

@@ -1,13 +1,14 @@
 //! Cases on whole frames.
 
-use crate::calls::{self, Answer};
+use crate::calls::{self, Answer, LISTS};
 use crate::Done;
-use cases::damage::{self, in_symbols_of_lost, in_word, in_words, invert, inverted};
+use cases::damage::{self, in_data_and_parity, in_symbols_of_lost, in_word, in_words, invert, inverted};
 use cases::layout::*;
 use cases::light;
 use cases::payloads;
 use cases::random::Random;
 use cases::refusals::UNCORRECTABLE;
+use second::Changes;
 
 fn sent(random: &mut Random) -> Vec<u8> {
     payloads::frame(&payloads::any(random))
@@ -45,31 +46,31 @@ fn check_both(random: &mut Random, block: &[u8]) -> Answer {
 }
 
 /// The premise of demand 3: inner words with more than eight wrong bits lie beyond eight of every inner code word, and no outer word has more than eight
-/// symbols with a wrong bit from one of them. Gives the wrong bits of each inner word, where it holds.
-fn premise(sent: &[u8], block: &[u8]) -> Option<[u16; INNER_WORDS]> {
+/// symbols with a wrong bit from one of them. Gives the wrong data places and parity places of each inner word, where it holds.
+fn premise(sent: &[u8], block: &[u8]) -> Option<[Changes; INNER_WORDS]> {
     let wrong = wrong_bits(sent, block);
-    let counts = counts(&wrong);
-    let lost = |k: usize| usize::from(counts[k]) > RADIUS;
+    let changes = changes(&wrong);
+    let lost = |k: usize| changes[k].total() as usize > RADIUS;
     let mut symbols: Vec<_> = wrong.iter().filter(|&&i| i < OUTER_BITS && lost(i % INNER_WORDS)).map(|&i| symbol_of(i)).collect();
     symbols.dedup();
     let within = (0..OUTER_WORDS).all(|w| symbols.iter().filter(|s| s.0 == w).count() <= RADIUS);
     let far = |k: usize| !lost(k) || second::correct_inner(&inner_word(block, k), INNER_BYTES).is_err();
-    (within && (0..INNER_WORDS).all(far)).then_some(counts)
+    (within && (0..INNER_WORDS).all(far)).then_some(changes)
 }
 
-/// Corrected on both sides; and within demand 3's premise the answer is the sent frame with exact counts.
+/// Corrected on both sides; and within demand 3's premise the answer is the sent frame with exact numbers.
 fn correct(random: &mut Random, sent: &[u8], block: &[u8]) -> Result<Done, String> {
-    let answer = calls::correct_frame(random, block, FRAME, INNER_WORDS)?;
-    if let Some(counts) = premise(sent, block) {
+    let answer = calls::correct_frame(random, block, FRAME, LISTS)?;
+    if let Some(changes) = premise(sent, block) {
         match &answer {
-            Ok(c) if c.frame == sent && c.counts == counts => {}
-            _ => return Err("within demand 3's premise both sides give something else than the sent frame with its counts".into()),
+            Ok(c) if c.frame == sent && c.changes == changes => {}
+            _ => return Err("within demand 3's premise both sides give something else than the sent frame with its numbers".into()),
         }
     }
     if random.chance(4) {
         check_both(random, block)?;
     }
-    Ok(Done { answer: answer.err().unwrap_or(0), damaged: block != sent })
+    Ok(Done { answer: calls::number(answer), damaged: block != sent })
 }
 
 /// Any number of wrong bits, anywhere.
@@ -143,6 +144,20 @@ pub fn outer_limit(random: &mut Random, _: u64) -> Result<Done, String> {
     for w in 0..OUTER_WORDS {
         let n = if w == chosen { random.from(7, 10) } else { random.from(0, 8) };
         invert(&mut block, in_symbols_of_lost(random, w, n, &lost));
+    }
+    correct(random, &sent, &block)
+}
+
+/// Inner words with wrong parity places, up to all 88, which no outer word has; by turns none of them, eight or all have wrong data places too.
+pub fn parity_places(random: &mut Random, number: u64) -> Result<Done, String> {
+    let sent = sent(random);
+    let mut block = sent.clone();
+    let most = [1, 8, 9, 88][number as usize % 4];
+    let with_data = [0, 8, INNER_WORDS][number as usize / 4 % 3];
+    for (i, k) in random.choose(INNER_WORDS, INNER_WORDS).into_iter().enumerate() {
+        let parity = random.from(0, most) as u16;
+        let data = if i < with_data { random.from(0, 9) as u16 } else { 0 };
+        invert(&mut block, in_data_and_parity(random, k, Changes { data, parity }));
     }
     correct(random, &sent, &block)
 }

@@ -1,7 +1,7 @@
 //! Cases on lengths, of every entry of the table: the number of the case is the length of one buffer, while the other is as it should be; and any lengths
 //! together. Where the table says that a call is refused for its lengths or symbols, that has to be the answer of both sides.
 
-use crate::calls::{self, Input};
+use crate::calls::{self, Input, Lists, LISTS};
 use crate::Done;
 use cases::damage::invert;
 use cases::layout::{data_symbols, symbols_in, FRAME, INNER_WORDS};
@@ -12,8 +12,8 @@ use cases::refusals::{entry_of, Code, Content, Entry, Given, Operation, Written,
 /// The length of an outer word or its data where another length is the case's.
 const SOME_SYMBOLS: usize = 100;
 
-fn answered(entry: &Entry, random: &mut Random, input: &Input, space: usize, places: usize) -> Result<Done, String> {
-    let answer = calls::call(entry, random, input, space, places)?;
+fn answered(entry: &Entry, random: &mut Random, input: &Input, space: usize, lists: Lists) -> Result<Done, String> {
+    let answer = calls::call(entry, random, input, space, lists)?;
     let refused = entry.answer(&Given { largest: input.largest(), ..Given::of_length(input.len(), space, Content::AsSent) });
     if refused != 0 && refused != answer {
         return Err(format!("{}: both sides answer {answer}, and its lengths and symbols are refused by {refused}", entry.name));
@@ -51,7 +51,7 @@ fn input(entry: &Entry, random: &mut Random, n: usize) -> Input {
 /// The entry with input of a length.
 pub fn of_input(entry: &Entry, random: &mut Random, n: usize) -> Result<Done, String> {
     let input = input(entry, random, n);
-    answered(entry, random, &input, entry.space(n), INNER_WORDS)
+    answered(entry, random, &input, entry.space(n), LISTS)
 }
 
 /// The entry with a space for what it writes; single words that it corrects have one wrong symbol or bit.
@@ -62,7 +62,7 @@ pub fn of_space(entry: &Entry, random: &mut Random, space: usize) -> Result<Done
         (Operation::Correct, Code::Inner) => Input::Bytes(payloads::to_bytes(&single_one(random, n))),
         _ => input(entry, random, n),
     };
-    answered(entry, random, &input, space, INNER_WORDS)
+    answered(entry, random, &input, space, LISTS)
 }
 
 /// A length that is right, near to it, or any up to 20,000.
@@ -96,7 +96,7 @@ fn mixed_input(entry: &Entry, random: &mut Random, n: usize) -> Input {
     Input::Symbols(symbols)
 }
 
-/// Two lengths at once, so that the order of refusals shows; outer words and data with a symbol above 1,023 in some.
+/// Several lengths at once, so that the order of refusals shows, those of the lists of a report among them; outer words and data with a symbol above 1,023 in some.
 pub fn together(random: &mut Random, number: u64) -> Result<Done, String> {
     let writing: Vec<&Entry> = ENTRIES.iter().filter(|entry| entry.written != Written::Nothing).collect();
     let entry = writing[number as usize % writing.len()];
@@ -105,9 +105,9 @@ pub fn together(random: &mut Random, number: u64) -> Result<Done, String> {
     let input = mixed_input(entry, random, length);
     let space = near(random, entry.space(right));
     if entry.operation != Operation::Correct {
-        return answered(entry, random, &input, space, INNER_WORDS);
+        return answered(entry, random, &input, space, LISTS);
     }
-    let places = if entry.code == Code::Frame { near(random, INNER_WORDS) } else { INNER_WORDS };
-    answered(entry_of(Operation::Check, entry.code), random, &input, 0, INNER_WORDS)?;
-    answered(entry, random, &input, space, places)
+    let lists = if entry.code == Code::Frame { (near(random, INNER_WORDS), near(random, INNER_WORDS)) } else { LISTS };
+    answered(entry_of(Operation::Check, entry.code), random, &input, 0, LISTS)?;
+    answered(entry, random, &input, space, lists)
 }

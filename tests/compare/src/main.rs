@@ -62,6 +62,7 @@ fn groups() -> Vec<Group> {
         group("mixed", 800, 9_600, frames::mixed),
         group("few-words", 1_600, 19_200, frames::few_words),
         group("outer-limit", 1_600, 19_200, frames::outer_limit),
+        group("parity-places", 1_200, 14_400, frames::parity_places),
         group("last-word", 1_600, 19_200, frames::last_word),
         group("no-frame", 400, 4_800, frames::no_frame),
         group("exchanged", 800, 9_600, frames::exchanged),

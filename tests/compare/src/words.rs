@@ -3,7 +3,7 @@
 use crate::calls;
 use crate::Done;
 use cases::damage::{invert, inverted, scattered, symbol_error, wrong_symbols};
-use cases::layout::{DATA_PLACES, INNER_BYTES, INNER_DATA, INNER_PARITY, OUTER_PARITY, PLACES, RADIUS};
+use cases::layout::{changes_of_word, DATA_PLACES, INNER_BYTES, INNER_DATA, INNER_PARITY, OUTER_PARITY, PLACES, RADIUS};
 use cases::light;
 use cases::payloads::outer_code_word;
 use cases::random::Random;
@@ -114,25 +114,30 @@ pub fn omitted_outer(random: &mut Random, _: u64) -> Result<Done, String> {
     Ok(Done { answer, damaged: true })
 }
 
-/// 0 to 10 wrong places by turns: anywhere, side by side, or near an end of the word.
+/// 0 to 10 wrong places by turns: anywhere, side by side, near an end of the word, in its parity alone, or around the border of data and parity, as near as
+/// can be or within 16 places. Up to eight are put right, and counted as data places and parity places.
 pub fn correct_inner(random: &mut Random, number: u64) -> Result<Done, String> {
-    let mut word = random.inner_code_word();
+    let sent = random.inner_code_word();
     let n = (number % 11) as usize;
-    let (from, among) = match random.below(4) {
+    let (from, among) = match random.below(7) {
         0 => (random.below(PLACES - 15), 16),
         1 => (0, 40),
         2 => (PLACES - 100, 100),
+        3 => (DATA_PLACES, PLACES - DATA_PLACES),
+        4 => (DATA_PLACES - n / 2, n),
+        5 => (DATA_PLACES - 8, 16),
         _ => (0, PLACES),
     };
-    invert(&mut word, random.choose(n, among).into_iter().map(|p| from + p));
+    let places: Vec<usize> = random.choose(n, among).into_iter().map(|p| from + p).collect();
+    let word = inverted(&sent, places.iter().copied());
     let answer = calls::correct_inner(random, &word, INNER_BYTES)?;
-    if n <= RADIUS && answer != 0 {
-        return Err(format!("{n} wrong places, and refused by {answer}"));
+    if n <= RADIUS && answer != Ok((sent, changes_of_word(&places))) {
+        return Err(format!("{n} wrong places, and both sides give something else than the sent word with its numbers"));
     }
     if random.chance(4) {
         calls::check_inner(&word)?;
     }
-    Ok(Done { answer, damaged: n > 0 })
+    Ok(Done { answer: calls::number(answer), damaged: n > 0 })
 }
 
 /// On the way to another code word that is 17 places away, or up to two places aside.
@@ -143,7 +148,7 @@ pub fn between_inner(random: &mut Random, _: u64) -> Result<Done, String> {
     invert(&mut word, random.choose(several, places.len()).into_iter().map(|p| places[p]));
     let few = random.below(3);
     invert(&mut word, scattered(random, few, 0..PLACES));
-    let answer = calls::correct_inner(random, &word, INNER_BYTES)?;
+    let answer = calls::number(calls::correct_inner(random, &word, INNER_BYTES)?);
     Ok(Done { answer, damaged: true })
 }
 
@@ -154,7 +159,7 @@ pub fn omitted_inner(random: &mut Random, _: u64) -> Result<Done, String> {
     invert(&mut word, places);
     let several = random.from(0, RADIUS - front);
     invert(&mut word, random.choose(several, PLACES));
-    let answer = calls::correct_inner(random, &word, INNER_BYTES)?;
+    let answer = calls::number(calls::correct_inner(random, &word, INNER_BYTES)?);
     Ok(Done { answer, damaged: true })
 }
 
@@ -165,6 +170,6 @@ pub fn any_inner(random: &mut Random, number: u64) -> Result<Done, String> {
         _ => random.bytes(INNER_BYTES),
     };
     calls::check_inner(&word)?;
-    let answer = calls::correct_inner(random, &word, INNER_BYTES)?;
+    let answer = calls::number(calls::correct_inner(random, &word, INNER_BYTES)?);
     Ok(Done { answer, damaged: false })
 }

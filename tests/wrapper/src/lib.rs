@@ -39,9 +39,16 @@ fn answer(number: u8) -> Result<(), Refusal> {
     }
 }
 
+/// The numbers of an answer that are packed above the refusal's number. No contract allows others than zeros with a refusal.
+fn unpacked(packed: u64) -> Result<u64, Refusal> {
+    let refused = answer(packed as u8);
+    assert!(refused.is_ok() || packed >> 8 == 0, "the library answered {packed}, a refusal with other numbers");
+    refused.map(|()| packed >> 8)
+}
+
 /// Payloads and frames, as include/g9751_i4.h declares them.
 pub mod frames {
-    use super::{answer, Refusal};
+    use super::{answer, unpacked, Refusal};
 
     pub const PAYLOAD_BYTES: usize = 15_296;
     pub const FRAME_BYTES: usize = 16_320;
@@ -52,7 +59,16 @@ pub mod frames {
         fn g9751_i4_check(block: *const u8, block_len: usize) -> u8;
         fn g9751_i4_extract(block: *const u8, block_len: usize, payload: *mut u8, payload_len: usize) -> u8;
         fn g9751_i4_correct(block: *const u8, block_len: usize, frame: *mut u8, frame_len: usize) -> u8;
-        fn exports_correct_frame(block: *const u8, block_len: usize, frame: *mut u8, frame_len: usize, counts: *mut u16, counts_len: usize) -> u64;
+        fn exports_correct_frame(
+            block: *const u8,
+            block_len: usize,
+            frame: *mut u8,
+            frame_len: usize,
+            data: *mut u16,
+            data_len: usize,
+            parity: *mut u16,
+            parity_len: usize,
+        ) -> u64;
     }
 
     /// Writes the frame of the payload.
@@ -75,16 +91,27 @@ pub mod frames {
         answer(unsafe { g9751_i4_correct(block.as_ptr(), block.len(), frame.as_mut_ptr(), frame.len()) })
     }
 
-    /// Writes the frame that is restored from the received block, and gives the report: the sum of wrong bits, and in `counts`, if it has place for exactly 64, those of each inner word (0 for a refusal).
-    pub fn correct_with_report(block: &[u8], frame: &mut [u8], counts: &mut [u16]) -> Result<u32, Refusal> {
-        let packed = unsafe { exports_correct_frame(block.as_ptr(), block.len(), frame.as_mut_ptr(), frame.len(), counts.as_mut_ptr(), counts.len()) };
-        answer(packed as u8).map(|()| (packed >> 8) as u32)
+    /// Writes the frame that is restored from the received block, and gives the report: the sum of wrong bits, and of each inner word the wrong data places
+    /// in `data` and the wrong parity places in `parity` (0 for a refusal). Each of the two is written only if it has place for exactly 64.
+    pub fn correct_with_report(block: &[u8], frame: &mut [u8], data: &mut [u16], parity: &mut [u16]) -> Result<u64, Refusal> {
+        unpacked(unsafe {
+            exports_correct_frame(
+                block.as_ptr(),
+                block.len(),
+                frame.as_mut_ptr(),
+                frame.len(),
+                data.as_mut_ptr(),
+                data.len(),
+                parity.as_mut_ptr(),
+                parity.len(),
+            )
+        })
     }
 }
 
 /// Single words of both codes.
 pub mod words {
-    use super::{answer, Refusal};
+    use super::{answer, unpacked, Refusal};
 
     extern "C" {
         fn exports_check_outer(word: *const u16, word_len: usize) -> u8;
@@ -106,9 +133,8 @@ pub mod words {
     }
 
     /// Writes the code word within eight symbols; returns how many it changed.
-    pub fn correct_outer(word: &[u16], out: &mut [u16]) -> Result<u32, Refusal> {
-        let packed = unsafe { exports_correct_outer(word.as_ptr(), word.len(), out.as_mut_ptr(), out.len()) };
-        answer(packed as u8).map(|()| packed >> 8)
+    pub fn correct_outer(word: &[u16], out: &mut [u16]) -> Result<u64, Refusal> {
+        unpacked(u64::from(unsafe { exports_correct_outer(word.as_ptr(), word.len(), out.as_mut_ptr(), out.len()) }))
     }
 
     /// Is the word a code word of the inner code?
@@ -121,10 +147,10 @@ pub mod words {
         answer(unsafe { exports_encode_inner(data.as_ptr(), data.len(), out.as_mut_ptr(), out.len()) })
     }
 
-    /// Writes the code word within eight places; returns how many it changed.
-    pub fn correct_inner(word: &[u8], out: &mut [u8]) -> Result<u32, Refusal> {
+    /// Writes the code word within eight places; returns how many data places and how many parity places it changed.
+    pub fn correct_inner(word: &[u8], out: &mut [u8]) -> Result<(u64, u64), Refusal> {
         let packed = unsafe { exports_correct_inner(word.as_ptr(), word.len(), out.as_mut_ptr(), out.len()) };
-        answer(packed as u8).map(|()| packed >> 8)
+        unpacked(u64::from(packed)).map(|changed| (changed % 256, changed / 256))
     }
 }
 
@@ -140,10 +166,17 @@ mod tests {
         let (payload, mut frame) = (payloads::of(Data::Each(0), frames::PAYLOAD_BYTES), [9; frames::FRAME_BYTES]);
         assert_eq!(frames::encode(&payload, &mut frame), Ok(()));
         assert_eq!(frame, zero_frame());
-        let block = inverted(&frame, [0, 64]);
-        let (mut restored, mut counts) = ([9; frames::FRAME_BYTES], [9; frames::INNER_WORDS]);
-        assert_eq!(frames::correct_with_report(&block, &mut restored, &mut counts), Ok(2));
-        assert_eq!((restored, counts[0], counts[1]), (frame, 2, 0));
+        let block = inverted(&frame, [0, 64, 130_559]);
+        let (mut restored, mut data, mut parity) = ([9; frames::FRAME_BYTES], [9; frames::INNER_WORDS], [9; frames::INNER_WORDS]);
+        assert_eq!(frames::correct_with_report(&block, &mut restored, &mut data, &mut parity), Ok(3));
+        assert_eq!((restored, data[0], data[63], parity[0], parity[63]), (frame, 2, 0, 0, 1));
+    }
+
+    #[test]
+    fn inner_words_of_zeros() {
+        let mut out = [9; 255];
+        assert_eq!(words::correct_inner(&inverted(&[0; 255], [0, 1_951, 1_952]), &mut out), Ok((2, 1)));
+        assert_eq!(out, [0; 255]);
     }
 
     #[test]

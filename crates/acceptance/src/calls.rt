@@ -1,6 +1,6 @@
 // The library's calls, named by two numbers: an operation and a code. Values go in and out as 16-bit numbers, which are narrowed to bytes and widened again
-// where a call takes bytes. A call's answer is printed: 0 or the refusal's number; of a correction also how many symbols or bits it changed, and of a
-// frame's the digest of its report's counts.
+// where a call takes bytes. A call's answer is printed: 0 or the refusal's number; then of a corrected outer word how many symbols were changed, of an inner
+// word how many data places and how many parity places, and of a frame the sum and the digests of both counts of its inner words.
 use crate::lines::number;
 use crate::lines::text;
 use crate::values::MOST;
@@ -39,7 +39,7 @@ fn refusal(n: u8) {
     number(n as usize);
 }
 
-fn correction(result: words::Correction) {
+fn outer_correction(result: words::Correction) {
     match result {
         words::Correction::Corrected { changed } => {
             refusal(0);
@@ -52,18 +52,35 @@ fn correction(result: words::Correction) {
     }
 }
 
+fn inner_correction(result: words::InnerCorrection) {
+    match result {
+        words::InnerCorrection::Corrected { data, parity } => {
+            refusal(0);
+            number(data as usize);
+            number(parity as usize);
+        }
+        words::InnerCorrection::Refused { number } => {
+            refusal(number);
+            refusal(0);
+            refusal(0);
+        }
+    }
+}
+
 fn report(result: frames::Report) {
-    let counts = result.counts;
+    let data = result.data;
+    let parity = result.parity;
     refusal(result.refusal);
     number(result.sum as usize);
-    number(digest(&counts));
+    number(digest(&data));
+    number(digest(&parity));
 }
 
 fn outer(operation: usize, word: &[u16], out: &mut [u16]) {
     match operation {
         CHECK => refusal(words::check_outer(word)),
         ENCODE => refusal(words::encode_outer(word, out)),
-        _ => correction(words::correct_outer(word, out)),
+        _ => outer_correction(words::correct_outer(word, out)),
     }
 }
 
@@ -71,7 +88,7 @@ fn inner(operation: usize, word: &[u8], out: &mut [u8]) {
     match operation {
         CHECK => refusal(words::check_inner(word)),
         ENCODE => refusal(words::encode_inner(word, out)),
-        _ => correction(words::correct_inner(word, out)),
+        _ => inner_correction(words::correct_inner(word, out)),
     }
 }
 

@@ -97,8 +97,10 @@ fn correct(data: usize, count: usize, first: usize, step: u16) {
 // Bits 0 to 512 are nine of inner word 0 and eight of each other one. Those eight are corrected. Inner word 0 has no code word within eight and is left; its
 // nine wrong bits stand in nine symbols of outer word 0, which then has no code word within eight: uncorrectable. Nine of one inner word in nine outer words
 // are corrected by the outer pass. 255 apart, 512 bits are eight of each inner word; 191 apart, 576 bits are nine of each. From 129,984 on nine bits are
-// parity bits of one inner word, of which no outer word has any. 1,008 apart, 124 bits are 31 of each of four inner words, at most eight in an outer word;
-// 976 apart, outer words have nine.
+// parity bits of one inner word, of which no outer word has any. 1,008 apart, 124 bits are 31 of each of four inner words, at most eight in an outer word,
+// and the next five are parity bits of them; 976 apart, outer words have nine. Bit 124,927 is the last data place of inner word 63, and 124,928 the first
+// parity place of inner word 0. From 124,672 on 512 bits are four data places and four parity places of each inner word; from 124,928 on 5,632 are all parity
+// bits.
 pub(crate) fn corrections() {
     correct(0, 0, 0, 1);
     correct(0, 1, 0, 1);
@@ -108,10 +110,15 @@ pub(crate) fn corrections() {
     correct(0, 513, 0, 1);
     correct(0, 9, 0, 12800);
     correct(0, 130560, 0, 1);
+    correct(0, 1, 124927, 1);
+    correct(0, 1, 124928, 1);
     correct(COUNTED, 0, 0, 1);
     correct(COUNTED, 512, 5, 255);
     correct(COUNTED, 576, 5, 191);
     correct(COUNTED, 9, 129984, 64);
     correct(COUNTED, 124, 3, 1008);
     correct(COUNTED, 128, 3, 976);
+    correct(COUNTED, 129, 3, 1008);
+    correct(COUNTED, 512, 124672, 1);
+    correct(COUNTED, 5632, 124928, 1);
 }

@@ -16,13 +16,13 @@ use crate::values::to_bytes;
 use crate::values::wide;
 use logging::Counters;
 
-// Stands for (5 k) mod 9 wrong bits of each inner word k, instead of a number of errors.
+// Stands for (5 k) mod 9 wrong bits of each inner word k, on both sides of the border between data places and parity places, instead of a number of errors.
 const GRADED: usize = 1_000_000;
 
 fn grade(block: &mut [u16]) {
     let mut k: usize = 0;
     while k < 64 {
-        add_errors(FRAME, block, (5 * k) % 9, 1, k, 64);
+        add_errors(FRAME, block, (5 * k) % 9, 1, 64 * (1946 + k % 7) + k, 64);
         k += 1;
     }
 }
@@ -37,7 +37,7 @@ fn damage(block: &mut [u16], count: usize, first: usize, step: u16) {
 
 fn describe(count: usize, first: usize, step: u16) {
     if count == GRADED {
-        text(b", (5 k) mod 9 errors of each inner word k");
+        text(b", (5 k) mod 9 errors of each inner word k from place 1946 + k mod 7");
     } else {
         part(b", errors ", count);
         part(b" from ", first);
@@ -105,18 +105,41 @@ pub(crate) fn counters() {
     counted(still, 513, 1, 16320, 16320);
 }
 
-fn worst(count: usize, first: usize, step: u16) {
-    let words = logging::worst_words(report(count, first, step, 16320, 16320));
+fn show_worst(answer: frames::Report) {
+    let words = logging::worst_words(answer);
     let mut numbers = [0u16; 8];
     from_bytes(&words, &mut numbers);
-    text(b"worst list");
-    describe(count, first, step);
     text(b":");
     list(&numbers);
     text(b"\n");
 }
 
-// 512 errors are eight of each inner word. Graded ones leave out words with as many errors as the last one listed, and words with fewer.
+fn worst(count: usize, first: usize, step: u16) {
+    text(b"worst list");
+    describe(count, first, step);
+    show_worst(report(count, first, step, 16320, 16320));
+}
+
+// A report that no correction gives: the two numbers of an inner word are together more than 16 bits hold.
+fn beyond_a_report() -> frames::Report {
+    let mut data = [0u16; 64];
+    let mut parity = [0u16; 64];
+    let mut k: usize = 0;
+    while k < 64 {
+        data[k] = (65535 - 512 * k) as u16;
+        parity[k] = (1024 * k) as u16;
+        k += 1;
+    }
+    frames::Report {
+        refusal: 0,
+        data: data,
+        parity: parity,
+        sum: 0,
+    }
+}
+
+// 512 errors are eight of each inner word. Graded ones leave out words with as many errors as the last one listed, and words with fewer; by the data places
+// or the parity places alone their list would be another one.
 pub(crate) fn worst_lists() {
     worst(0, 0, 1);
     worst(5, 37, 64);
@@ -124,4 +147,6 @@ pub(crate) fn worst_lists() {
     worst(512, 0, 1);
     worst(GRADED, 0, 0);
     worst(513, 0, 1);
+    text(b"worst list, data places 65535 - 512 k and parity places 1024 k of each inner word k");
+    show_worst(beyond_a_report());
 }

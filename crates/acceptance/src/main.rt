@@ -1,6 +1,7 @@
 // The rows of document 01 that are run by a program: single words, frames, their correction, and its logging. A line names the call and what it is lent, and
-// gives the answer: 0 or the refusal's number; of a correction then how many symbols or bits it changed, and of a frame's the digest of its report's counts;
-// last the buffer. `stdout` is what tests/vectors makes with the second encoder and decoder.
+// gives the answer: 0 or the refusal's number; of a correction then its numbers: changed symbols of an outer word, changed data places and parity places of an
+// inner word, the sum of a frame's report and the digests of its data places and its parity places; last the buffer. `stdout` is what tests/vectors makes with
+// the second encoder and decoder.
 mod calls;
 mod damage;
 mod data;

@@ -108,7 +108,8 @@ fn corrected(code: usize, d: usize, data: usize, n: usize, error: u16, places: [
     }
 }
 
-// The shortest outer word, one of a frame and the longest; inner words with errors anywhere, and in the parity alone.
+// The shortest outer word, one of a frame and the longest; inner words with errors anywhere, in the parity alone, and in the data alone, then on both sides of
+// the border between places 1,951 and 1,952.
 pub(crate) fn corrections() {
     corrected(OUTER, 1, 2, 17, 1023, [0, 16, 8, 1, 15, 9, 2, 14, 10]);
     corrected(
@@ -142,5 +143,13 @@ pub(crate) fn corrections() {
         255,
         1,
         [1952, 2039, 1995, 1953, 2038, 1996, 1954, 2037, 1997],
+    );
+    corrected(
+        INNER,
+        244,
+        255,
+        255,
+        1,
+        [1951, 0, 976, 1950, 1952, 1949, 1953, 1948, 1954],
     );
 }

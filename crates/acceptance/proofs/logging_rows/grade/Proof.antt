@@ -18,6 +18,15 @@ loop-holds c = search needs
 mul-add-errors : tie.Need-mul-add-errors Inv-loop μ-loop
 mul-add-errors c = search needs
 
+add-add-errors : tie.Need-add-add-errors Inv-loop μ-loop
+add-add-errors c = search needs
+
+mul-add-errors-2 : tie.Need-mul-add-errors-2 Inv-loop μ-loop
+mul-add-errors-2 c = search needs
+
+add-add-errors-2 : tie.Need-add-add-errors-2 Inv-loop μ-loop
+add-add-errors-2 c = search needs
+
 add-errors-requires : tie.Need-add-errors-requires Inv-loop μ-loop
 add-errors-requires c κs = search needs
 
@@ -44,6 +53,9 @@ grade-spec =
     μ-loop
     loop-holds
     mul-add-errors
+    add-add-errors
+    mul-add-errors-2
+    add-add-errors-2
     add-errors-requires
     add-k
     loop-less

@@ -13,8 +13,7 @@ ghost use mathlib.Core.Path.{_≡_};
 ghost use Prim.Native.Nat.{_%_, _≤_, _<_};
 ghost use lib.ListN.{length};
 ghost use Rattle.fields.specs.Elements.{powersB};
-ghost use Rattle.fields.specs.Places.{differs};
-ghost use Rattle.decoding.specs.Steps.Decoder.{Tables, locator, Decoded, weightOf};
+ghost use Rattle.decoding.specs.Steps.Decoder.{Tables, locator, Decoded, changeBetween, weightBetween};
 ghost use Rattle.decoding.specs.Steps.PowerTables.{PowerTables};
 
 mod annihilator;
@@ -83,23 +82,29 @@ pub fn decode_bits_by_tables(
     error_values::bits_valued(exp, log, n, t, places)
 }
 
-// 1 for a value that is not zero.
-fn changes(value: u16) -> u16
-    ensures { λ r. ⌜ (r ≡ differs value 0) × (r ≤ 1) ⌝ }
+// 1 for an error that is not zero at a place from `from` on and before `to`.
+fn changes(place: usize, value: u16, from: usize, to: usize) -> u16
+    ensures { λ r. ⌜ (r ≡ changeBetween from to place value) × (r ≤ 1) ⌝ }
 {
+    if place < from {
+        return 0;
+    }
+    if to <= place {
+        return 0;
+    }
     if value == 0 { 0 } else { 1 }
 }
 
-// How many of the errors are not zero: the number of places that they change.
-pub fn weight(e: Errors) -> u16
+// How many of the errors at places from `from` on and before `to` are not zero: the number of places there that they change.
+pub fn weight(e: Errors, from: usize, to: usize) -> u16
     requires { ⌜ e .places .count ≤ 8 ⌝ }
-    ensures { λ r. ⌜ r ≡ weightOf (e .values) (e .places .count) ⌝ }
+    ensures { λ r. ⌜ r ≡ weightBetween from to (e .places .at) (e .values) (e .places .count) ⌝ }
 {
     let places = e.places;
     let mut n: u16 = 0;
     let mut k: usize = 0;
     while k < places.count {
-        n += changes(e.values[k]);
+        n += changes(places.at[k] as usize, e.values[k], from, to);
         k += 1;
     }
     n

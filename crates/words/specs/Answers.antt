@@ -5,9 +5,11 @@ use mathlib.Core.Option.{Option, none, some}
 use Prim.Native.Nat.{ℕ}
 use lib.Dec.{eqb, leb}
 use lib.ListN.{length}
-use Rattle.fields.specs.Places.{at, allBelow, apart}
+use Rattle.fields.specs.Places.{at, allBelow, apartBetween, apart}
 use Rattle.words.specs.declared.Correction.{Correction}
 use Rattle.words.specs.declared.Correction.the-variants.{Corrected, Refused}
+use Rattle.words.specs.declared.InnerCorrection.{InnerCorrection}
+use Rattle.words.specs.declared.InnerCorrection.the-variants as Inner
 use Rattle.words.specs.Bits.{bitsOf, bytesOf}
 use Rattle.words.specs.OuterCode.{isOuter, outerParity}
 use Rattle.words.specs.InnerCode.{isInner, innerParity}
@@ -47,7 +49,7 @@ innerChecked w = firstOf (refusal (eqb (length w) 255) true true) (unless (isInn
 unfoldable pub innerEncoded : List ℕ → List ℕ → ℕ × List ℕ
 innerEncoded d buffer = answered (refusal (eqb (length d) 244) (eqb (length buffer) 11) true) (bytesOf 11 (at (innerParity (bitsOf d)))) buffer
 
--- document 01's numbers for each case of a correction's answer: 0 or the refusal's number, and how many symbols or places were changed
+-- document 01's numbers for each case of a correction's answer: 0 or the refusal's number, and how many symbols of an outer word were changed
 abbrev pub refusalOf : Correction → ℕ
 refusalOf (Corrected changed) = 0
 refusalOf (Refused number) = number
@@ -56,23 +58,40 @@ abbrev pub changedOf : Correction → ℕ
 changedOf (Corrected changed) = changed
 changedOf (Refused number) = 0
 
--- the answer for the word w, and the buffer: the code word that was found, with the number of changes; or refusal 5, none within the radius ("beyond reach")
-unfoldable pub found : (List ℕ → List ℕ) → List ℕ → List ℕ → Option (List ℕ) → Correction × List ℕ
-found content w buffer none = (Refused 5, buffer)
-found content w buffer (some c) = (Corrected (apart w c), content c)
+-- the same of an inner word, where changed data places and changed parity places are counted apart
+abbrev pub innerRefusalOf : InnerCorrection → ℕ
+innerRefusalOf (Inner.Corrected d p) = 0
+innerRefusalOf (Inner.Refused number) = number
+
+abbrev pub dataChangedOf : InnerCorrection → ℕ
+dataChangedOf (Inner.Corrected d p) = d
+dataChangedOf (Inner.Refused number) = 0
+
+abbrev pub parityChangedOf : InnerCorrection → ℕ
+parityChangedOf (Inner.Corrected d p) = p
+parityChangedOf (Inner.Refused number) = 0
+
+-- the answer, and the buffer: the code word that was found, with its changes; or refusal 5, none within the radius ("beyond reach")
+unfoldable pub found : {A : Type 0} → (ℕ → A) → (List ℕ → A) → (List ℕ → List ℕ) → List ℕ → Option (List ℕ) → A × List ℕ
+found refused changes content buffer none = (refused 5, buffer)
+found refused changes content buffer (some c) = (changes c, content c)
 
 -- the refusal n, if it is not 0; else the answer
-unfoldable pub corrected : ℕ → List ℕ → Correction × List ℕ → Correction × List ℕ
-corrected n buffer answer = cond (eqb n 0) answer (Refused n, buffer)
+unfoldable pub corrected : {A : Type 0} → (ℕ → A) → ℕ → List ℕ → A × List ℕ → A × List ℕ
+corrected refused n buffer answer = cond (eqb n 0) answer (refused n, buffer)
 
 -- the outer code word within eight symbols
 unfoldable pub outerCorrected : List ℕ → List ℕ → Correction × List ℕ
 outerCorrected w buffer =
-    corrected (refusal (within 17 1023 (length w)) (eqb (length buffer) (length w)) (allBelow 1024 w)) buffer
-    (found (λ c. c) w buffer (nearest isOuter 1024 8 w))
+    corrected Refused (refusal (within 17 1023 (length w)) (eqb (length buffer) (length w)) (allBelow 1024 w)) buffer
+    (found Refused (λ c. Corrected (apart w c)) (λ c. c) buffer (nearest isOuter 1024 8 w))
+
+-- the changes of an inner word: at places below 1,952, the data places, and from there on, the parity places
+unfoldable pub innerChanges : List ℕ → List ℕ → InnerCorrection
+innerChanges w c = Inner.Corrected (apartBetween 0 1952 w c) (apartBetween 1952 2040 w c)
 
 -- the inner code word within eight places
-unfoldable pub innerCorrected : List ℕ → List ℕ → Correction × List ℕ
+unfoldable pub innerCorrected : List ℕ → List ℕ → InnerCorrection × List ℕ
 innerCorrected w buffer =
-    corrected (refusal (eqb (length w) 255) (eqb (length buffer) 255) true) buffer
-    (found (λ c. bytesOf 255 (at c)) (bitsOf w) buffer (nearest isInner 2 8 (bitsOf w)))
+    corrected Inner.Refused (refusal (eqb (length w) 255) (eqb (length buffer) 255) true) buffer
+    (found Inner.Refused (innerChanges (bitsOf w)) (λ c. bytesOf 255 (at c)) buffer (nearest isInner 2 8 (bitsOf w)))

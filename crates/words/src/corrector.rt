@@ -54,6 +54,6 @@ pub fn correct_from(rest: Packed, word: &[u16], out: &mut [u16]) -> Correction
     }
     correct(word, e, out);
     Correction::Corrected {
-        changed: decoding::weight(e),
+        changed: decoding::weight(e, 0, word.len()),
     }
 }

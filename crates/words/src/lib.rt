@@ -58,6 +58,9 @@ impl Inner {
 
     pub const PARITY: usize = 88;
 
+    // The data places are those before this one, the parity places those from it on.
+    pub const DATA: usize = Inner::PLACES - Inner::PARITY;
+
     pub const BYTES: usize = Inner::PLACES / 8;
 
     pub const PARITY_BYTES: usize = Inner::PARITY / 8;
@@ -68,9 +71,15 @@ impl Inner {
     pub const RADIUS: usize = decoding::RADIUS;
 }
 
-// What a correction answers: how many symbols or places it changed, or the refusal's number.
+// What the correction of an outer word answers: how many symbols it changed, or the refusal's number.
 pub enum Correction {
     Corrected { changed: u16 },
+    Refused { number: u8 },
+}
+
+// What the correction of an inner word answers: how many data places and how many parity places it changed, or the refusal's number.
+pub enum InnerCorrection {
+    Corrected { data: u16, parity: u16 },
     Refused { number: u8 },
 }
 
@@ -150,23 +159,24 @@ pub fn encode_inner(data: &[u8], out: &mut [u8]) -> u8
 }
 
 // Writes the code word within eight places of the word; 6, 3 or 5.
-pub fn correct_inner(word: &[u8], out: &mut [u8]) -> Correction
+pub fn correct_inner(word: &[u8], out: &mut [u8]) -> InnerCorrection
     ensures { λ r. ⌜ (r, now (out .exit)) ≡ innerCorrected (now (word .entry)) (now (out .entry)) ⌝ }
 {
     if word.len() != Inner::BYTES {
-        return Correction::Refused { number: 6 };
+        return InnerCorrection::Refused { number: 6 };
     }
     if out.len() != Inner::BYTES {
-        return Correction::Refused { number: 3 };
+        return InnerCorrection::Refused { number: 3 };
     }
     let exp = fields::exp_b();
     let log = fields::log_b();
     let e = bch::errors(&exp, &log, word);
     if !wrong_places::explains(&exp, e) {
-        return Correction::Refused { number: 5 };
+        return InnerCorrection::Refused { number: 5 };
     }
     bch::correct(word, e, out);
-    Correction::Corrected {
-        changed: decoding::weight(e),
+    InnerCorrection::Corrected {
+        data: decoding::weight(e, 0, Inner::DATA),
+        parity: decoding::weight(e, Inner::DATA, Inner::PLACES),
     }
 }

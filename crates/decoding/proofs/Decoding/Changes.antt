@@ -1,23 +1,23 @@
 -- A word with errors added at listed places: in how many places it changes, and the syndromes. For any field and length. Assumes nothing.
 use mathlib.Core.Path.{_≡_, refl, sym, ap, ap₂, _∙_}
-use mathlib.Core.Bool.{Bool, true, false, cond}
+use mathlib.Core.Bool.{Bool, true, false, _&&_, cond}
 use mathlib.Core.List.{List}
-use Prim.Native.Nat.{ℕ, zero, suc, _+_, _^_, _≤_, _<_}
-use native.Mathlib.Decide.{ℕ-discrete}
-use native.Mathlib.Nat.{add-zero, le-refl, not-suc-le-zero}
+use Prim.Native.Nat.{ℕ, zero, suc, _+_, _-_, _^_, _≤_, _<_, zero-le}
+use native.Mathlib.Decide.{decLt, ℕ-discrete}
+use native.Mathlib.Nat.{add-zero, le-refl, not-suc-le-zero, zero-add}
 use native.Mathlib.Omega.{arith}
-use borrow.Author.Tests.{eq-eqb, eqb-true, ne-eqb}
-use lib.Dec.{eqb, lit<}
+use borrow.Author.Tests.{eq-eqb, eqb-true, le-leb, le-ltb, lt-leb, lt-ltb, ne-eqb}
+use lib.Dec.{eqb, ltb, leb, lit<}
 use lib.ListN.{length}
 use lib.Pow.{pow-pos}
 use Rattle.fields.specs.Elements.{xor}
 use Rattle.fields.specs.Steps.ByTables.{tableProduct, tablePower}
-use Rattle.fields.specs.Places.{at, allBelow, horner, sumTo, differs, apart}
+use Rattle.fields.specs.Places.{at, allBelow, horner, sumTo, differs, apartBetween, apart}
 use Rattle.fields.proofs.Lists.{tabulate-at, tabulate-length}
 use Rattle.fields.proofs.Xor.{xor-cancel, xor-lt, xor-self, xor-zero-l, xor-zero-r}
 use Rattle.fields.proofs.Places.Tests.{below-at, below-all}
 use Rattle.fields.proofs.Places.Counting.{differs-most, differs-self, sum-zero, sum-same, sum-add, apart-sum}
-use Rattle.decoding.specs.Steps.Decoder.{Tables, locator, xorTo, timesPower, syndrome, errorAt, Correctable, Decoded, weightOf, withErrors}
+use Rattle.decoding.specs.Steps.Decoder.{Tables, locator, xorTo, timesPower, syndrome, errorAt, Correctable, Decoded, changeBetween, weightBetween, withErrors}
 use Rattle.decoding.proofs.Algebra.PowerSums.{powerSum-add, horner-sums}
 use Rattle.decoding.proofs.Algebra.Tables.{tableOps, table-laws, table-powers, xorTo-same, table-value, syndrome-is}
 
@@ -47,6 +47,44 @@ differs-sum x y = sym (differs-added x (xor x y)) ∙ ap (differs x) (xor-cancel
 pub sum-weight : (w c : List ℕ) → sumTo (length w) (λ i. differs (xor (at w i) (at c i)) 0) ≡ apart w c
 sum-weight w c = sum-same (length w) _ _ (λ i l. differs-sum (at w i) (at c i)) ∙ sym (apart-sum w c)
 
+-- an error at a place from one on and before another, or at no such place
+module _ (from to p v : ℕ) where
+  pub change-before : p < from → 0 ≡ changeBetween from to p v
+  unfolding changeBetween
+  change-before l = rw (lt-leb from p l)
+
+  pub change-after : from ≤ p → to ≤ p → 0 ≡ changeBetween from to p v
+  unfolding changeBetween
+  change-after l h = rw (le-leb from p l, le-ltb p to h)
+
+  pub change-inside : from ≤ p → p < to → changeBetween from to p v ≡ differs v 0
+  unfolding changeBetween
+  change-inside l h = rw (le-leb from p l, lt-ltb p to h)
+
+  change-most : changeBetween from to p v ≤ 1
+  unfolding changeBetween
+  change-most = go (leb from p && ltb p to)
+    where
+      go : (b : Bool) → cond b (differs v 0) 0 ≤ 1
+      go true = differs-most v 0
+      go false = zero-le
+
+  change-sum : sumTo (to - from) (λ i. cond (eqb p (from + i)) (differs v 0) 0) ≡ changeBetween from to p v
+  change-sum = go (decLt p from) (decLt p to)
+    where
+      outside : ((i : ℕ) → i < to - from → p ≡ from + i → ⊥) → sumTo (to - from) (λ i. cond (eqb p (from + i)) (differs v 0) 0) ≡ 0
+      outside h = sum-zero (to - from) _ (λ i l. rw (ne-eqb p (from + i) (h i l)))
+
+      same : from ≤ p → (i : ℕ) → Dec (p - from ≡ i) → cond (eqb p (from + i)) (differs v 0) 0 ≡ cond (eqb (p - from) i) (differs v 0) 0
+      same l i (yes e) = rw (eq-eqb p (from + i) (omega arith), eq-eqb (p - from) i e)
+      same l i (no e) = rw (ne-eqb p (from + i) (λ q. e (omega arith)), ne-eqb (p - from) i e)
+
+      go : Dec (p < from) → Dec (p < to) → sumTo (to - from) (λ i. cond (eqb p (from + i)) (differs v 0) 0) ≡ changeBetween from to p v
+      go (yes l) h = outside (λ i b e. omega arith) ∙ change-before l
+      go (no l) (no h) = outside (λ i b e. omega arith) ∙ change-after (omega arith) (omega arith)
+      go (no l) (yes h) =
+          sum-same (to - from) _ _ (λ i b. same (omega arith) i (ℕ-discrete (p - from) i)) ∙ sum-single (to - from) (p - from) _ (omega arith) ∙ sym (change-inside (omega arith) h)
+
 module _ (places values : List ℕ) where
   -- there is no error at a place after those listed
   pub error-none : (k i : ℕ) → ((l : ℕ) → l < k → at places l < i) → errorAt places values k i ≡ 0
@@ -64,26 +102,33 @@ module _ (places values : List ℕ) where
       go true = h k (le-refl (suc k))
       go false = pow-pos m
 
-  pub weight-most : (k : ℕ) → weightOf values k ≤ k
-  unfolding weightOf sumTo
-  weight-most zero = le-refl 0
-  weight-most (suc k) = omega (arith, weight-most k, differs-most (at values k) 0)
+  pub weight-most : (from to k : ℕ) → weightBetween from to places values k ≤ k
+  unfolding weightBetween sumTo
+  weight-most from to zero = le-refl 0
+  weight-most from to (suc k) = omega (arith, weight-most from to k, change-most from to (at places k) (at values k))
 
-  -- the first k places are ascending, and places of a word of n symbols
+  -- the first k places are ascending
+  pub weight-between : (from to k : ℕ) → ((l m : ℕ) → l < m → m < k → at places l < at places m) →
+      sumTo (to - from) (λ i. differs (errorAt places values k (from + i)) 0) ≡ weightBetween from to places values k
+  unfolding weightBetween sumTo errorAt xorTo
+  weight-between from to zero ascending = sum-zero (to - from) _ (λ i l. differs-self 0)
+  weight-between from to (suc k) ascending =
+      sum-same (to - from) _ _ (λ i l. go (from + i) (eqb (at places k) (from + i)) refl)
+      ∙ sum-add (to - from) (λ i. differs (errorAt places values k (from + i)) 0) (λ i. cond (eqb (at places k) (from + i)) (differs (at values k) 0) 0)
+      ∙ ap₂ _+_ (weight-between from to k (λ l m b c. ascending l m b (omega arith))) (change-sum from to (at places k) (at values k))
+    where
+      go : (i : ℕ) (b : Bool) → eqb (at places k) i ≡ b →
+          differs (xor (errorAt places values k i) (cond (eqb (at places k) i) (at values k) 0)) 0 ≡ differs (errorAt places values k i) 0 + cond (eqb (at places k) i) (differs (at values k) 0) 0
+      go i true e = rw (e, error-none k i (λ l b. rw (← eqb-true (at places k) i e) (ascending l k b (le-refl (suc k)))), xor-zero-l) (omega (arith, differs-self 0))
+      go i false e = rw (e, xor-zero-r, add-zero)
+
+  -- of a word of n symbols
   module _ (n : ℕ) where
-    pub errors-weight : (k : ℕ) → ((l : ℕ) → l < k → at places l < n) → ((l m : ℕ) → l < m → m < k → at places l < at places m) →
-        sumTo n (λ i. differs (errorAt places values k i) 0) ≡ weightOf values k
-    unfolding weightOf sumTo errorAt xorTo
-    errors-weight zero below ascending = sum-zero n _ (λ i l. differs-self 0)
-    errors-weight (suc k) below ascending =
-        sum-same n _ _ (λ i l. go i (eqb (at places k) i) refl)
-        ∙ sum-add n (λ i. differs (errorAt places values k i) 0) (λ i. cond (eqb (at places k) i) (differs (at values k) 0) 0)
-        ∙ ap₂ _+_ (errors-weight k (λ l b. below l (omega arith)) (λ l m b c. ascending l m b (omega arith))) (sum-single n (at places k) _ (below k (le-refl (suc k))))
-      where
-        go : (i : ℕ) (b : Bool) → eqb (at places k) i ≡ b →
-            differs (xor (errorAt places values k i) (cond (eqb (at places k) i) (at values k) 0)) 0 ≡ differs (errorAt places values k i) 0 + cond (eqb (at places k) i) (differs (at values k) 0) 0
-        go i true e = rw (e, error-none k i (λ l b. rw (← eqb-true (at places k) i e) (ascending l k b (le-refl (suc k)))), xor-zero-l) (omega (arith, differs-self 0))
-        go i false e = rw (e, xor-zero-r, add-zero)
+    pub errors-weight : (k : ℕ) → ((l m : ℕ) → l < m → m < k → at places l < at places m) →
+        sumTo n (λ i. differs (errorAt places values k i) 0) ≡ weightBetween 0 n places values k
+    errors-weight k ascending =
+        let all : n - 0 ≡ n = omega arith in
+        sum-same n _ _ (λ i l. ap (λ (j : ℕ). differs (errorAt places values k j) 0) (sym (zero-add i))) ∙ (rw all at (weight-between 0 n k ascending))
 
     module _ (k : ℕ) (w : ℕ → ℕ) where
       pub errors-length : length (withErrors w places values k n) ≡ n
@@ -94,10 +139,18 @@ module _ (places values : List ℕ) where
       unfolding withErrors
       errors-at i l = tabulate-at n _ i 0 l
 
-      pub apart-errors : (c : List ℕ) → length c ≡ n → ((i : ℕ) → i < n → at c i ≡ w i) → ((l : ℕ) → l < k → at places l < n) → ((l m : ℕ) → l < m → m < k → at places l < at places m) →
-          apart c (withErrors w places values k n) ≡ weightOf values k
-      apart-errors c long same below ascending =
-          rw (apart-sum, long) (sum-same n _ _ (λ i l. ap₂ differs (same i l) (errors-at i l) ∙ differs-added (w i) (errorAt places values k i)) ∙ errors-weight k below ascending)
+      -- in how many places from one on and before another the errors change a word
+      module _ (c : List ℕ) (same : (i : ℕ) → i < n → at c i ≡ w i) (ascending : (l m : ℕ) → l < m → m < k → at places l < at places m) where
+        pub errors-between : (from to : ℕ) → to ≤ n → apartBetween from to c (withErrors w places values k n) ≡ weightBetween from to places values k
+        unfolding apartBetween
+        errors-between from to inside =
+            sum-same (to - from) _ _
+            (λ i l. let h : from + i < n = omega arith in ap₂ differs (same (from + i) h) (errors-at (from + i) h) ∙ differs-added (w (from + i)) (errorAt places values k (from + i)))
+            ∙ weight-between from to k ascending
+
+        pub apart-errors : length c ≡ n → apart c (withErrors w places values k n) ≡ weightBetween 0 n places values k
+        unfolding apart
+        apart-errors long = rw long (errors-between 0 n (le-refl n))
 
 -- ---- syndromes
 

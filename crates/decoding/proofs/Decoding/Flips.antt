@@ -109,7 +109,7 @@ module _ (es ls : List ℕ) (T : Tables es ls) where
         complete = λ w C.
             errors-unique es ls T n fits (errorAt (p .at) (e .values) (p .count)) w (errors-in es ls T (p .at) (e .values) (S .elements) (p .count)) (C .elements)
             (λ j h. sym (own j h) ∙ C .syndromes j h)
-            (omega (arith, errors-weight (p .at) (e .values) n (p .count) (R .below) (R .ascending), weight-most (p .at) (e .values) (p .count), R .few)) (C .few);
+            (omega (arith, errors-weight (p .at) (e .values) n (p .count) (R .ascending), weight-most (p .at) (e .values) 0 n (p .count), R .few)) (C .few);
       })
     where
       R : Roots es ls (L .polynomial) n n (p .at) (p .count)

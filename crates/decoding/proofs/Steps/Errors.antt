@@ -11,8 +11,9 @@ use Rattle.fields.specs.Steps.ByTables.{tableProduct, tableInverse, tablePower}
 use Rattle.fields.specs.Places.{at, sumTo, differs}
 use Rattle.fields.proofs.Places.Filling.{Filled, filled-next, filled-end}
 use Rattle.decoding.specs.declared.error_values.Errors.{Errors}
-use Rattle.decoding.specs.Steps.Decoder.{locator, timesPower, weightOf}
+use Rattle.decoding.specs.Steps.Decoder.{locator, timesPower, changeBetween, weightBetween}
 use Rattle.decoding.specs.Steps.ErrorValues.{filtered, filteredBy, filterFactor, errorValue, lessError, resolved}
+use Rattle.decoding.proofs.Decoding.Changes.{change-inside}
 
 -- the locator of a place, and of a place past the end
 pub locator-inside : (es : List ℕ) (n i r : ℕ) → i < n → r ≡ tablePower es (n - 1 - i) → r ≡ locator es n i
@@ -102,23 +103,24 @@ resolved-made es ls n k e v x left ev ex el = rw (el, ex, ev)
 
 -- ---- the weight
 
-pub changes-not : (v : ℕ) → v ≡ 0 → 0 ≡ differs v 0
-unfolding differs
-changes-not v e = rw (eq-eqb v 0 e)
+module _ (from to place v : ℕ) where
+  pub change-not : from ≤ place → place < to → v ≡ 0 → 0 ≡ changeBetween from to place v
+  unfolding differs
+  change-not l h e = rw (change-inside from to place v l h, eq-eqb v 0 e)
 
-pub changes-so : (v : ℕ) → (v ≡ 0 → ⊥) → 1 ≡ differs v 0
-unfolding differs
-changes-so v n = rw (ne-eqb v 0 n)
+  pub change-so : from ≤ place → place < to → (v ≡ 0 → ⊥) → 1 ≡ changeBetween from to place v
+  unfolding differs
+  change-so l h n = rw (change-inside from to place v l h, ne-eqb v 0 n)
 
-module _ (values : List ℕ) where
-  pub weight-none : 0 ≡ weightOf values 0
-  unfolding weightOf sumTo
+module _ (from to : ℕ) (places values : List ℕ) where
+  pub weight-none : 0 ≡ weightBetween from to places values 0
+  unfolding weightBetween sumTo
   weight-none = refl
 
-  module _ (k n : ℕ) (so-far : n ≡ weightOf values k) where
-    pub weight-next : (r : ℕ) → r ≡ differs (getD values k 0) 0 → n + r ≡ weightOf values (k + 1)
-    unfolding weightOf sumTo
+  module _ (k n : ℕ) (so-far : n ≡ weightBetween from to places values k) where
+    pub weight-next : (r : ℕ) → r ≡ changeBetween from to (getD places k 0) (getD values k 0) → n + r ≡ weightBetween from to places values (k + 1)
+    unfolding weightBetween sumTo
     weight-next r e = rw (add-one, ← so-far, e)
 
-    pub weight-end : (count : ℕ) → k ≤ count → count ≤ k → n ≡ weightOf values count
+    pub weight-end : (count : ℕ) → k ≤ count → count ≤ k → n ≡ weightBetween from to places values count
     weight-end count l h = let e : k ≡ count = omega arith in rw e at so-far

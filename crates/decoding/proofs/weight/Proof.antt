@@ -2,16 +2,16 @@
 use mathlib.Core.Path.{_≡_}
 use Prim.Native.Nat.{_-_, _≤_}
 use borrow.Author.Needs.{needs}
-use Rattle.decoding.specs.Steps.Decoder.{weightOf}
+use Rattle.decoding.specs.Steps.Decoder.{weightBetween}
 use Rattle.decoding.proofs.Steps.Errors.{weight-none, weight-next, weight-end}
 use Rattle.decoding.proofs.weight.Statement.{statement}
 use Rattle.decoding.proofs.weight.Tie as tie
 
 abbrev Inv-loop : tie.InvT-loop
-Inv-loop e places n₀ k₀ n k = (k ≤ places .count) × (n ≤ k) × (n ≡ weightOf (e .values) k)
+Inv-loop from to e places n₀ k₀ n k = (k ≤ places .count) × (n ≤ k) × (n ≡ weightBetween from to (places .at) (e .values) k)
 
 abbrev μ-loop : tie.MeasureT-loop
-μ-loop e places n₀ k₀ n k = places .count - k
+μ-loop from to e places n₀ k₀ n k = places .count - k
 
 loop-holds : tie.Need-loop-holds Inv-loop μ-loop
 loop-holds c = search (needs, weight-none)
@@ -21,6 +21,15 @@ mul-changes c = search needs
 
 element-copy-out-changes : tie.Need-element-copy-out-changes Inv-loop μ-loop
 element-copy-out-changes c = search needs
+
+cast-changes : tie.Need-cast-changes Inv-loop μ-loop
+cast-changes c = search needs
+
+mul-changes-2 : tie.Need-mul-changes-2 Inv-loop μ-loop
+mul-changes-2 c = search needs
+
+element-copy-out-changes-2 : tie.Need-element-copy-out-changes-2 Inv-loop μ-loop
+element-copy-out-changes-2 c = search needs
 
 changes-requires : tie.Need-changes-requires Inv-loop μ-loop
 changes-requires c κs = search needs
@@ -49,6 +58,9 @@ weight-spec =
     loop-holds
     mul-changes
     element-copy-out-changes
+    cast-changes
+    mul-changes-2
+    element-copy-out-changes-2
     changes-requires
     add-n
     add-k

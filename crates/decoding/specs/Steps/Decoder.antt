@@ -1,9 +1,9 @@
 -- What the decoder gives, over a field that is lent as its two tables: es the powers, ls the exponents. One decoder serves all codes.
 use mathlib.Core.Path.{_≡_}
-use mathlib.Core.Bool.{cond}
+use mathlib.Core.Bool.{_&&_, cond}
 use mathlib.Core.List.{List}
 use Prim.Native.Nat.{ℕ, zero, suc, _-_, _≤_, _<_}
-use lib.Dec.{eqb}
+use lib.Dec.{eqb, ltb, leb}
 use lib.ListN.{length}
 use Rattle.fields.specs.Lists.{tabulate}
 use Rattle.fields.specs.Elements.{xor}
@@ -53,9 +53,12 @@ pub record Decoded (es ls t : List ℕ) (n : ℕ) (places values : List ℕ) (co
   -- errors in at most eight places that have the syndromes t are found
   pub complete : (e : ℕ → ℕ) → Correctable es ls t n e → (i : ℕ) → i < n → errorAt places values count i ≡ e i
 
--- how many of the first k values are not zero
-unfoldable pub weightOf : List ℕ → ℕ → ℕ
-weightOf values k = sumTo k (λ l. differs (at values l) 0)
+-- 1 for an error that is not zero at a place from one on and before another; and how many of the first k errors are such
+unfoldable pub changeBetween : ℕ → ℕ → ℕ → ℕ → ℕ
+changeBetween from to place v = cond (leb from place && ltb place to) (differs v 0) 0
+
+unfoldable pub weightBetween : ℕ → ℕ → List ℕ → List ℕ → ℕ → ℕ
+weightBetween from to places values k = sumTo k (λ l. changeBetween from to (at places l) (at values l))
 
 -- a word with v added to the symbol at place i, if there is one
 unfoldable pub withError : List ℕ → ℕ → ℕ → List ℕ

@@ -166,9 +166,9 @@ module _ (block residues es : List ℕ) (k e : ℕ) (k-lt : k < 64) (long : leng
   near =
       omega (
         arith,
-        weight-most (q ∷ []) (1 ∷ []) 1,
-        apart-errors (q ∷ []) (1 ∷ []) 2040 1 b (innerWord (bitAt block) k) (inner-word-length (bitAt block) k) (λ p l. place-to-bit (bitAt block) k p l)
-            (λ l h. let z : l ≡ 0 = omega arith in rw z (omega arith)) (λ l m h g. absurd (omega arith)),
+        weight-most (q ∷ []) (1 ∷ []) 0 2040 1,
+        apart-errors (q ∷ []) (1 ∷ []) 2040 1 b (innerWord (bitAt block) k) (λ p l. place-to-bit (bitAt block) k p l) (λ l m h g. absurd (omega arith))
+            (inner-word-length (bitAt block) k),
       )
 
   restored : innerRestored (innerWord (bitAt block) k) ≡ c

@@ -1,6 +1,6 @@
 -- Inner words: what the decoder finds is the code word within eight places, and if it does not explain the word there is none. Assumes nothing.
 use mathlib.Core.Path.{_≡_, refl, sym, ap, ap₂, _∙_}
-use mathlib.Core.Bool.{Bool, true, false, cond, and-eq-true-iff}
+use mathlib.Core.Bool.{Bool, true, false, _&&_, cond, and-eq-true-iff}
 use mathlib.Core.List.{List}
 use mathlib.Core.Option.{none, some}
 use Prim.Native.Nat.{ℕ, zero, suc, _+_, _*_, _^_, _≤_, _<_}
@@ -8,18 +8,18 @@ use native.Mathlib.Decide.{decLt, ℕ-discrete}
 use native.Mathlib.Nat.{le-refl, not-suc-le-zero}
 use native.Mathlib.Omega.{arith}
 use borrow.Author.Tests.{eq-eqb, eqb-true, ne-eqb}
-use lib.Dec.{eqb, lit<}
+use lib.Dec.{eqb, ltb, leb, lit<}
 use lib.ListN.{length}
 use Rattle.fields.specs.Elements.{xor, powersB, exponentsB}
 use Rattle.fields.specs.Steps.ByTables.{tableProduct}
-use Rattle.fields.specs.Places.{at, allBelow, value, sumTo, differs, apart}
+use Rattle.fields.specs.Places.{at, allBelow, value, sumTo, differs, apartBetween, apart}
 use Rattle.fields.proofs.Lists.{tabulate-at}
 use Rattle.fields.proofs.Xor.{xor-lt, xor-self, xor-zero-l, xor-zero-r}
 use Rattle.fields.proofs.Places.Tests.{every-at, every-true, below-at, below-all}
 use Rattle.fields.proofs.Places.Counting.{differs-most, sum-same, apart-sum}
-use Rattle.decoding.specs.Steps.Decoder.{locator, xorTo, syndrome, errorAt, Correctable, Decoded, weightOf, withErrors}
+use Rattle.decoding.specs.Steps.Decoder.{locator, xorTo, syndrome, errorAt, Correctable, Decoded, changeBetween, weightBetween, withErrors}
 use Rattle.decoding.proofs.Algebra.Tables.{tables-b}
-use Rattle.decoding.proofs.Decoding.Changes.{differs-sum, error-none, error-lt, weight-most, errors-length, errors-at, apart-errors, syndrome-same, syndrome-add, none-left, few-leave-none}
+use Rattle.decoding.proofs.Decoding.Changes.{differs-sum, error-none, error-lt, weight-most, errors-length, errors-at, errors-between, syndrome-same, syndrome-add, none-left, few-leave-none}
 use Rattle.words.specs.Bits.{bitAt, bitsOf}
 use Rattle.words.specs.InnerCode.{powerB, isInner}
 use Rattle.words.specs.Nearest.{nearest}
@@ -57,9 +57,11 @@ unfolding differs
 differs-twice zero = refl
 differs-twice (suc x) = rw (ne-eqb (suc x) 0 (λ e. omega arith))
 
-flips-weight : (values : List ℕ) (k : ℕ) → k ≤ 8 → weightOf (flips values) k ≡ weightOf values k
-unfolding weightOf
-flips-weight values k h = sum-same k _ _ (λ l b. ap (λ (x : ℕ). differs x 0) (flip-at values l (omega arith)) ∙ differs-twice (at values l))
+flips-weight : (from to : ℕ) (places values : List ℕ) (k : ℕ) → k ≤ 8 → weightBetween from to places (flips values) k ≡ weightBetween from to places values k
+unfolding weightBetween changeBetween
+flips-weight from to places values k h =
+    sum-same k _ _ (λ l b. ap (λ (x : ℕ). cond (leb from (at places l) && ltb (at places l) to) x 0)
+    (ap (λ (x : ℕ). differs x 0) (flip-at values l (omega arith)) ∙ differs-twice (at values l)))
 
 -- the errors found in a word lent as 255 bytes
 module _ (w : List ℕ) (long : length w ≡ 255) (places values : List ℕ) (count : ℕ) (left : List ℕ) (E : InnerErrors w places values count left) where
@@ -127,13 +129,18 @@ module _ (w : List ℕ) (long : length w ≡ 255) (places values : List ℕ) (co
     c-code : isInner c ≡ true
     c-code = inner-code c c-long c-below (λ j h. let q : 2 * j + 1 ≡ suc (2 * j) = omega arith in rw q (c-root (2 * j) (omega arith)))
 
-    pub inner-changes : apart (bitsOf w) c ≡ weightOf values count
-    inner-changes =
-        apart-errors places (flips values) 2040 count (bitAt w) (bitsOf w) word-long (λ i l. bits-at w i) (D .below) (D .ascending)
-        ∙ flips-weight values count (D .few)
+    -- the places changed, from one on and before another
+    pub inner-changes : (from to : ℕ) → to ≤ 2040 → apartBetween from to (bitsOf w) c ≡ weightBetween from to places values count
+    inner-changes from to inside =
+        errors-between places (flips values) 2040 count (bitAt w) (bitsOf w) (λ i l. bits-at w i) (D .ascending) from to inside
+        ∙ flips-weight from to places values count (D .few)
+
+    c-near : apart (bitsOf w) c ≤ 8
+    unfolding apart
+    c-near = rw word-long (omega (arith, inner-changes 0 2040 (le-refl 2040), weight-most places values 0 2040 count, D .few))
 
     pub inner-found : nearest isInner 2 8 (bitsOf w) ≡ some c
-    inner-found = codes .inner-nearest .complete (bitsOf w) c word-long c-long c-code (omega (arith, inner-changes, weight-most places values count, D .few))
+    inner-found = codes .inner-nearest .complete (bitsOf w) c word-long c-long c-code c-near
 
   -- a code word within eight places is found: the errors explain the word
   module _ (c : List ℕ) (code : isInner c ≡ true) (near : apart (bitsOf w) c ≤ 8) where

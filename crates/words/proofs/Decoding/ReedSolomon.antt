@@ -17,7 +17,7 @@ use Rattle.fields.proofs.Lists.{tabulate-at}
 use Rattle.fields.proofs.Xor.{xor-lt, xor-self, xor-zero-r}
 use Rattle.fields.proofs.Places.Tests.{below-at, below-all}
 use Rattle.decoding.specs.Steps.ByTables.{tableValue, rootValue, rootValues}
-use Rattle.decoding.specs.Steps.Decoder.{Tables, syndrome, errorAt, Decoded, weightOf, withErrors}
+use Rattle.decoding.specs.Steps.Decoder.{Tables, syndrome, errorAt, Decoded, weightBetween, withErrors}
 use Rattle.decoding.proofs.Algebra.Tables.{exponents-length}
 use Rattle.decoding.proofs.Decoding.Changes.{sum-weight, error-lt, weight-most, errors-length, errors-at, apart-errors, syndrome-same, syndrome-add, value-syndrome, none-left, few-leave-none}
 use Rattle.words.specs.ReedSolomon.{valueAtRoot, isCodeWord}
@@ -82,13 +82,13 @@ module _ (m p : ℕ) (F : Field m p) where
           ∙ syndrome-add es ls n tables-of (at w) (errorAt places values count) j
           ∙ ap₂ xor (sym (root-at j l)) (sym (none-left es ls n t places values count left D test j l)) ∙ xor-self (at t j)
 
-      pub symbols-changed : apart w (withErrors (at w) places values count (length w)) ≡ weightOf values count
-      symbols-changed = apart-errors places values n count (at w) w refl (λ i l. refl) (D .below) (D .ascending)
+      pub symbols-changed : apart w (withErrors (at w) places values count (length w)) ≡ weightBetween 0 (length w) places values count
+      symbols-changed = apart-errors places values n count (at w) w (λ i l. refl) (D .ascending) refl
 
       pub symbols-found : length w < 2 ^ m → nearest (isCodeWord m p 0 16) (2 ^ m) 8 w ≡ some (withErrors (at w) places values count (length w))
       symbols-found short =
           reed-solomon m p 0 16 F .code-nearest 8 n (lit≤ tt) short .complete w c refl long (is-code m p 0 16 c c-below c-root)
-          (omega (arith, symbols-changed, weight-most places values count, D .few))
+          (omega (arith, symbols-changed, weight-most places values 0 n count, D .few))
 
     -- a code word near enough: the errors between it and w have the syndromes of w, so nothing is left
     module _ (c : List ℕ) (code : isCode c ≡ true) (same : length c ≡ n) (near : apart w c ≤ 8) (long : length left ≡ 16) where

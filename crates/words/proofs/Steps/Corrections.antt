@@ -18,7 +18,7 @@ use Rattle.fields.proofs.Lists.{tabulate-is, tabulate-same}
 use Rattle.fields.proofs.Xor.{xor-assoc, xor-zero-r}
 use Rattle.fields.proofs.Places.Tests.{below-at, below-all}
 use Rattle.decoding.specs.Steps.ByTables.{rootValues}
-use Rattle.decoding.specs.Steps.Decoder.{Tables, xorTo, errorAt, Decoded, weightOf, withError, withErrors}
+use Rattle.decoding.specs.Steps.Decoder.{Tables, xorTo, errorAt, Decoded, weightBetween, withError, withErrors}
 use Rattle.decoding.proofs.Steps.Symbols.{copied-same}
 use Rattle.decoding.proofs.Algebra.Tables.{powers-length}
 use Rattle.decoding.proofs.Decoding.Changes.{errors-length, errors-at}
@@ -114,7 +114,7 @@ module _ (w o : List ℕ) (least : 17 ≤ length w) (most : length w ≤ 1023) (
       unfolding outerCorrected corrected found
       correct-outer-lost q h test long n = rw (accepted, symbols-lost 10 1033 field-a w symbols places values count left D′ long (some-left q h (sym test ∙ not-true b n)))
 
-      pub correct-outer-found : b ≡ allBelow 1 left → not b ≡ false → (out : List ℕ) → out ≡ withErrors (at w) places values count (length w) → (changed : ℕ) → changed ≡ weightOf values count →
+      pub correct-outer-found : b ≡ allBelow 1 left → not b ≡ false → (out : List ℕ) → out ≡ withErrors (at w) places values count (length w) → (changed : ℕ) → changed ≡ weightBetween 0 (length w) places values count →
           _≡_ {A = Correction × List ℕ} (Corrected changed, out) (outerCorrected w o)
       unfolding outerCorrected corrected found
       correct-outer-found test n out e changed c =

@@ -43,12 +43,15 @@ correct-requires c κs = search needs
 weight-requires : tie.Need-weight-requires
 weight-requires c κs = search needs
 
+weight-requires-2 : tie.Need-weight-requires-2
+weight-requires-2 c κs = search needs
+
 same-length : tie.Need-same-length
 same-length c = search needs
 
 returns-4 : tie.Need-returns-4
 returns-4 c =
-    let bytes : (k : ℕ) → getD (c .before .before .before .correct .last .1 .1 .0) k 0 ≤ 255 = λ k. omega (arith, c .before .slice-known2 .given k) in
+    let bytes : (k : ℕ) → getD (c .before .before .before .before .correct .last .1 .1 .0) k 0 ≤ 255 = λ k. omega (arith, c .before .before .slice-known2 .given k) in
     search (needs, correct-inner-found, bytes)
 
 pub correct-inner-spec : {M : Type 1} → statement M
@@ -67,5 +70,6 @@ correct-inner-spec =
     returns-3
     correct-requires
     weight-requires
+    weight-requires-2
     same-length
     returns-4)

@@ -8,19 +8,20 @@ use native.Mathlib.Omega.{arith}
 use borrow.Author.Tests.{eqb-true, leb-true}
 use lib.Dec.{eqb, leb, eqb·suc-zero}
 use lib.ListN.{length}
-use Rattle.fields.specs.Places.{at, allBelow}
+use Rattle.fields.specs.Places.{at, allBelow, apart}
 use Rattle.words.specs.declared.Correction.the-variants.{Corrected, Refused}
+use Rattle.words.specs.declared.InnerCorrection.the-variants as Inner
 use Rattle.words.specs.Bits.{bitsOf, bytesOf}
 use Rattle.words.specs.OuterCode.{isOuter, outerParity}
 use Rattle.words.specs.InnerCode.{isInner}
 use Rattle.words.specs.Nearest.{isSome, nearest}
-use Rattle.words.specs.Answers.{unless, refusal, within, answered, firstOf, refusalOf, changedOf, found, corrected, outerChecked, outerEncoded, outerCorrected, innerChecked, innerEncoded, innerCorrected}
+use Rattle.words.specs.Answers.{unless, refusal, within, answered, firstOf, refusalOf, changedOf, innerRefusalOf, dataChangedOf, parityChangedOf, found, corrected, innerChanges, outerChecked, outerEncoded, outerCorrected, innerChecked, innerEncoded, innerCorrected}
 use Rattle.words.proofs.Bits.Bytes.{bytes-length}
 use Rattle.words.proofs.Codes.Proved.{codes}
 use Rattle.frames.specs.Frames.{outerWords, frameOf, payloadOf}
 use Rattle.frames.specs.Correction.{restoredFrame}
 use Rattle.frames.specs.Answers.{isFrame, frameEncoded, frameChecked, payloadExtracted, refused, reported, concluded, frameCorrected, withoutReport}
-use Rattle.frames.specs.Demands.{firstBroken, Refuses, withoutCount, Demand1}
+use Rattle.frames.specs.Demands.{firstBroken, Refuses, withoutCounts, Demand1}
 use Rattle.frames.proofs.Frames.FrameBits.{block-is, payloadOf-length, frame-length}
 use Rattle.frames.proofs.Correction.RestoredWords.{is-frame}
 
@@ -81,28 +82,29 @@ word-checked true true false = refl
 word-checked true false code = refl
 word-checked false symbols code = refl
 
--- correction
-module _ (content : List ℕ → List ℕ) (word buffer : List ℕ) where
-  word-corrected : (long room symbols : Bool) (near : Option (List ℕ)) →
-      (long ≡ true → room ≡ true → (c : List ℕ) → near ≡ some c → length (content c) ≡ length buffer) →
-      Refuses (withoutCount (corrected (refusal long room symbols) buffer (found content word buffer near))) buffer
-      ((6, long) ∷ (3, room) ∷ (7, symbols) ∷ (5, isSome near) ∷ [])
-  unfolding corrected refusal found firstBroken
-  word-corrected false room symbols near fits = refuses buffer _ 6 refl
-  word-corrected true false symbols near fits = refuses buffer _ 3 refl
-  word-corrected true true false near fits = refuses buffer _ 7 refl
-  word-corrected true true true none fits = refuses buffer _ 5 refl
-  word-corrected true true true (some c) fits = writes buffer _ (content c) refl (fits refl refl c refl)
+-- correction: refusals and changes in answers of any form
+module _ {A : Type 0} (refusedBy : ℕ → A) (changes : List ℕ → A) (content : List ℕ → List ℕ) (buffer : List ℕ) where
+  module _ (number : A → ℕ) (of-refused : (n : ℕ) → number (refusedBy n) ≡ n) (of-changes : (c : List ℕ) → number (changes c) ≡ 0) where
+    word-corrected : (long room symbols : Bool) (near : Option (List ℕ)) →
+        (long ≡ true → room ≡ true → (c : List ℕ) → near ≡ some c → length (content c) ≡ length buffer) →
+        (let a = corrected refusedBy (refusal long room symbols) buffer (found refusedBy changes content buffer near) in
+        Refuses (number (a .0), a .1) buffer ((6, long) ∷ (3, room) ∷ (7, symbols) ∷ (5, isSome near) ∷ []))
+    unfolding corrected refusal found firstBroken
+    word-corrected false room symbols near fits = refuses buffer _ _ (of-refused 6)
+    word-corrected true false symbols near fits = refuses buffer _ _ (of-refused 3)
+    word-corrected true true false near fits = refuses buffer _ _ (of-refused 7)
+    word-corrected true true true none fits = refuses buffer _ _ (of-refused 5)
+    word-corrected true true true (some c) fits = rw (of-changes c) (writes buffer _ (content c) refl (fits refl refl c refl))
 
-  word-alone : (long room symbols : Bool) (near : Option (List ℕ)) →
-      (let a = corrected (refusal long room symbols) buffer (found content word buffer near) .0 in
-      a ≡ cond (eqb (refusalOf a) 0) (Corrected (changedOf a)) (Refused (refusalOf a)))
-  unfolding corrected refusal found
-  word-alone false room symbols near = refl
-  word-alone true false symbols near = refl
-  word-alone true true false near = refl
-  word-alone true true true none = refl
-  word-alone true true true (some c) = refl
+  -- no refusal has the number 0
+  module _ (P : A → Type 0) (of-refused : (n : ℕ) → P (refusedBy (suc n))) (of-changes : (c : List ℕ) → P (changes c)) where
+    word-alone : (long room symbols : Bool) (near : Option (List ℕ)) → P (corrected refusedBy (refusal long room symbols) buffer (found refusedBy changes content buffer near) .0)
+    unfolding corrected refusal found
+    word-alone false room symbols near = of-refused 5
+    word-alone true false symbols near = of-refused 2
+    word-alone true true false near = of-refused 6
+    word-alone true true true none = of-refused 4
+    word-alone true true true (some c) = of-changes c
 
 -- the code word within eight symbols is as long as the word
 outer-fits : (word buffer c : List ℕ) → within 17 1023 (length word) ≡ true → eqb (length buffer) (length word) ≡ true → nearest isOuter 1024 8 word ≡ some c →
@@ -113,18 +115,19 @@ outer-fits word buffer c long room near =
     codes .outer-nearest (length word) short .sound word c refl near .0 ∙ sym (eqb-true (length buffer) (length word) room)
 
 inner-corrected : (word buffer : List ℕ) →
-    Refuses (withoutCount (innerCorrected word buffer)) buffer
+    Refuses (withoutCounts (innerCorrected word buffer)) buffer
     ((6, eqb (length word) 255) ∷ (3, eqb (length buffer) 255) ∷ (5, isSome (nearest isInner 2 8 (bitsOf word))) ∷ [])
-unfolding innerCorrected firstBroken
+unfolding innerCorrected innerChanges firstBroken
 inner-corrected word buffer =
     let bits = bitsOf word in
-    let r = word-corrected (λ c. bytesOf 255 (at c)) bits buffer (eqb (length word) 255) (eqb (length buffer) 255) true (nearest isInner 2 8 bits)
+    let r = word-corrected Inner.Refused (innerChanges bits) (λ c. bytesOf 255 (at c)) buffer innerRefusalOf (λ n. refl) (λ c. refl)
+    (eqb (length word) 255) (eqb (length buffer) 255) true (nearest isInner 2 8 bits)
     (λ long room c near. bytes-length 255 (at c) ∙ sym (eqb-true (length buffer) 255 room)) in
     record { number = r .number; kept = r .kept; fits = r .fits }
 
 pub demand-1 : Demand1
 unfolding frameEncoded frameChecked payloadExtracted frameCorrected withoutReport frameOf
-    outerChecked outerEncoded outerCorrected innerChecked innerEncoded innerCorrected refusal firstBroken
+    outerChecked outerEncoded outerCorrected innerChecked innerEncoded innerCorrected innerChanges refusal firstBroken
 demand-1 =
     record {
       encode = λ payload buffer. answers buffer (frameOf payload) 16320 0 (eqb (length payload) 15296) [] (frame-length (outerWords payload));
@@ -138,13 +141,16 @@ demand-1 =
       check-outer = λ word. word-checked (within 17 1023 (length word)) (allBelow 1024 word) (isOuter word);
       encode-outer = λ d buffer. answers buffer (outerParity d) 16 5 (within 1 1007 (length d)) ((7, allBelow 1024 d) ∷ []) (codes .outer-length d);
       correct-outer = λ word buffer.
-          word-corrected (λ c. c) word buffer (within 17 1023 (length word)) (eqb (length buffer) (length word)) (allBelow 1024 word)
-          (nearest isOuter 1024 8 word) (λ long room c. outer-fits word buffer c long room);
+          word-corrected Refused (λ c. Corrected (apart word c)) (λ c. c) buffer refusalOf (λ n. refl) (λ c. refl)
+          (within 17 1023 (length word)) (eqb (length buffer) (length word)) (allBelow 1024 word) (nearest isOuter 1024 8 word) (λ long room c. outer-fits word buffer c long room);
       outer-alone = λ word buffer.
-          word-alone (λ c. c) word buffer (within 17 1023 (length word)) (eqb (length buffer) (length word)) (allBelow 1024 word) (nearest isOuter 1024 8 word);
+          word-alone Refused (λ c. Corrected (apart word c)) (λ c. c) buffer (λ a. a ≡ cond (eqb (refusalOf a) 0) (Corrected (changedOf a)) (Refused (refusalOf a)))
+          (λ n. rw (eqb·suc-zero n)) (λ c. refl) (within 17 1023 (length word)) (eqb (length buffer) (length word)) (allBelow 1024 word) (nearest isOuter 1024 8 word);
       check-inner = λ word. word-checked (eqb (length word) 255) true (isInner (bitsOf word));
       encode-inner = λ d buffer. answers buffer _ 11 5 (eqb (length d) 244) [] (bytes-length 11 _);
       correct-inner = inner-corrected;
       inner-alone = λ word buffer.
-          word-alone (λ c. bytesOf 255 (at c)) (bitsOf word) buffer (eqb (length word) 255) (eqb (length buffer) 255) true (nearest isInner 2 8 (bitsOf word));
+          word-alone Inner.Refused (innerChanges (bitsOf word)) (λ c. bytesOf 255 (at c)) buffer
+          (λ a. a ≡ cond (eqb (innerRefusalOf a) 0) (Inner.Corrected (dataChangedOf a) (parityChangedOf a)) (Inner.Refused (innerRefusalOf a)))
+          (λ n. rw (eqb·suc-zero n)) (λ c. refl) (eqb (length word) 255) (eqb (length buffer) 255) true (nearest isInner 2 8 (bitsOf word));
     }

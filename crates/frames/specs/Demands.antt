@@ -12,12 +12,14 @@ use Rattle.fields.specs.Field.{Field}
 use Rattle.fields.specs.Places.{at, allBelow, sumTo, differs, apart}
 use Rattle.words.specs.declared.Correction.{Correction}
 use Rattle.words.specs.declared.Correction.the-variants.{Corrected, Refused}
+use Rattle.words.specs.declared.InnerCorrection.{InnerCorrection}
+use Rattle.words.specs.declared.InnerCorrection.the-variants as Inner
 use Rattle.words.specs.Bits.{bitAt, bitsOf}
 use Rattle.words.specs.OuterCode.{isOuter}
 use Rattle.words.specs.InnerCode.{isInner}
 use Rattle.words.specs.Nearest.{isSome, nearest}
 use Rattle.words.specs.InnerWords.{innerWord, innerPass, isLost}
-use Rattle.words.specs.Answers.{unless, within, refusalOf, changedOf, outerChecked, outerEncoded, outerCorrected, innerChecked, innerEncoded, innerCorrected}
+use Rattle.words.specs.Answers.{unless, within, refusalOf, changedOf, innerRefusalOf, dataChangedOf, parityChangedOf, outerChecked, outerEncoded, outerCorrected, innerChecked, innerEncoded, innerCorrected}
 use Rattle.words.specs.Codes.{Codes}
 use Rattle.frames.specs.Frames.{isPayload, isBlock, dataIn, frameOfWords, frameOf, wrongBits}
 use Rattle.frames.specs.Correction.{receivedBit, receivedWord, isPermitted, outerRestored, restoredFrame, dataCounts, parityCounts, allCounted}
@@ -43,6 +45,9 @@ pub record Refuses (answer : ℕ × List ℕ) (buffer : List ℕ) (rules : List 
 -- number and buffer of the answer to a single word's correction
 abbrev pub withoutCount : Correction × List ℕ → ℕ × List ℕ
 withoutCount a = (refusalOf (a .0), a .1)
+
+abbrev pub withoutCounts : InnerCorrection × List ℕ → ℕ × List ℕ
+withoutCounts a = (innerRefusalOf (a .0), a .1)
 
 -- each entry's answer, as its contract gives it (words/src/lib.rt, frames/src/lib.rt, frames/src/c_entries.rt), and its rules
 pub record Demand1 : Type 0 where
@@ -82,11 +87,11 @@ pub record Demand1 : Type 0 where
   pub encode-inner : (d buffer : List ℕ) → Refuses (innerEncoded d buffer) buffer ((6, eqb (length d) 244) ∷ (3, eqb (length buffer) 11) ∷ [])
   -- correction of an inner word: 6, its length; 3, size of the buffer; 5, no code word within eight places
   pub correct-inner : (word buffer : List ℕ) →
-      Refuses (withoutCount (innerCorrected word buffer)) buffer
+      Refuses (withoutCounts (innerCorrected word buffer)) buffer
       ((6, eqb (length word) 255) ∷ (3, eqb (length buffer) 255) ∷ (5, isSome (nearest isInner 2 8 (bitsOf word))) ∷ [])
-  -- the answer is a count with the number 0, else a number alone
+  -- the answer is two counts with the number 0, else a number alone
   pub inner-alone : (word buffer : List ℕ) → let a = innerCorrected word buffer .0 in
-      a ≡ cond (eqb (refusalOf a) 0) (Corrected (changedOf a)) (Refused (refusalOf a))
+      a ≡ cond (eqb (innerRefusalOf a) 0) (Inner.Corrected (dataChangedOf a) (parityChangedOf a)) (Inner.Refused (innerRefusalOf a))
 
 -- ---- demand 2: what encoder and extractor give, and the two-pass rule of the corrector
 

@@ -12,7 +12,7 @@ use lib.Bits.{bitAnd, bitOr, and-mask}
 use lib.Dec.{eqb}
 use lib.ListN.{length, take, drop}
 use lib.Seq.{length-take-le}
-use Rattle.fields.specs.Places.{at, allBelow}
+use Rattle.fields.specs.Places.{at, allBelow, apart}
 use Rattle.fields.specs.Steps.Buffers.{Placed}
 use Rattle.fields.proofs.Lists.{tabulate-is, tabulate-same}
 use Rattle.fields.proofs.Places.Differences.{apart-self}
@@ -117,16 +117,19 @@ module _ (outer : List ℕ) (long : length outer ≡ 12496) (w : ℕ) (h : w < 1
   pub slice-remainder : (x y z : ℕ) → Packs x y z (outerRemainder (wordIn outer w)) → Packs x y z (outerRemainder slice)
   slice-remainder x y z p = rw slice-is p
 
-  answer : outerCorrected slice word ≡ found (λ c. c) u word (nearest isOuter 1024 8 u)
+  -- the answer, if o is the nearest code word or none
+  abbrev outerFound : Option (List ℕ) → Correction × List ℕ
+  outerFound o = found Refused (λ c. Corrected (apart u c)) (λ c. c) word o
+
+  answer : outerCorrected slice word ≡ outerFound (nearest isOuter 1024 8 u)
   unfolding outerCorrected corrected refusal within
   answer =
       let least : 17 ≤ length u = omega (arith, word-length outer w, dataIn-is w h) in
       rw (slice-is, le-leb 17 (length u) least, le-leb (length u) 1023 (word-short outer w), eq-eqb (length word) (length u) (fits ∙ sym (word-length outer w)), below)
 
   module _ (r : Correction) (after : List ℕ) (told : _≡_ {A = Correction × List ℕ} (r, after) (outerCorrected slice word)) (k : ℕ) where
-    -- what is told, if o is the nearest code word or none
     abbrev Told : Correction → Option (List ℕ) → Type 0
-    Told s o = _≡_ {A = Correction × List ℕ} (s, after) (found (λ c. c) u word o)
+    Told s o = _≡_ {A = Correction × List ℕ} (s, after) (outerFound o)
 
     outer-lost : r ≡ Refused k → nearest isOuter 1024 8 u ≡ none
     unfolding found

@@ -2,12 +2,14 @@
 // and chains of products through tables that are bound once and lent. An answer of more than one number comes packed into one.
 use decoding::symbols;
 use words::Correction;
+use words::InnerCorrection;
 ghost use mathlib.Core.Path.{_≡_};
+ghost use Prim.Native.Nat.{_+_, _≤_};
 ghost use Rattle.fields.specs.Elements.{powersA, exponentsA, powersB, exponentsB};
-ghost use Rattle.words.specs.Answers.{outerChecked, outerEncoded, innerChecked, innerEncoded, refusalOf, changedOf, outerCorrected, innerCorrected};
+ghost use Rattle.words.specs.Answers.{outerChecked, outerEncoded, innerChecked, innerEncoded, refusalOf, changedOf, innerRefusalOf, dataChangedOf, parityChangedOf, outerCorrected, innerCorrected};
 ghost use Rattle.frames.specs.Answers.{frameCorrected};
 ghost use Rattle.exports.specs.Chains.{chain};
-ghost use Rattle.exports.specs.Packed.{packed, packedWord, packedFrame};
+ghost use Rattle.exports.specs.Packed.{packed, packedWord, packedInner, packedFrame};
 
 #[no_mangle]
 pub extern "C" fn exports_check_outer(word: &[u16]) -> u8
@@ -54,11 +56,22 @@ pub extern "C" fn exports_encode_inner(data: &[u8], out: &mut [u8]) -> u8
     words::encode_inner(data, out)
 }
 
+// 256 times the number of changed data places and 65,536 times that of changed parity places, or the refusal's number.
+fn packed_inner(c: InnerCorrection) -> u32
+    requires { ⌜ dataChangedOf c + parityChangedOf c ≤ 8 ⌝ }
+    ensures { λ r. ⌜ r ≡ packed (innerRefusalOf c) (packed (dataChangedOf c) (parityChangedOf c)) ⌝ }
+{
+    match c {
+        InnerCorrection::Corrected { data, parity } => 256 * data as u32 + 65536 * parity as u32,
+        InnerCorrection::Refused { number } => number as u32,
+    }
+}
+
 #[no_mangle]
 pub extern "C" fn exports_correct_inner(word: &[u8], out: &mut [u8]) -> u32
-    ensures { λ r. ⌜ (r, now (out .exit)) ≡ packedWord (innerCorrected (now (word .entry)) (now (out .entry))) ⌝ }
+    ensures { λ r. ⌜ (r, now (out .exit)) ≡ packedInner (innerCorrected (now (word .entry)) (now (out .entry))) ⌝ }
 {
-    packed_word(words::correct_inner(word, out))
+    packed_inner(words::correct_inner(word, out))
 }
 
 // 256 times the sum, plus the refusal's number; the counts of data places and those of parity places are written, each if there is place for exactly 64.

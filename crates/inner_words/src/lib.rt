@@ -31,7 +31,7 @@ impl Interleaved {
     pub const PLACE_BYTES: usize = Interleaved::WORDS / 8;
 
     // Data places of an inner word, and the bytes of all of them.
-    pub const DATA_PLACES: usize = Inner::PLACES - Inner::PARITY;
+    pub const DATA_PLACES: usize = Inner::DATA;
 
     pub const DATA_BYTES: usize = Interleaved::PLACE_BYTES * Interleaved::DATA_PLACES;
 

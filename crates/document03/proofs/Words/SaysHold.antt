@@ -4,7 +4,7 @@ use mathlib.Core.Bool.{Bool, true, false, not, _&&_, _||_, cond, and-eq-true-iff
 use mathlib.Core.List.{List}
 use mathlib.Core.Logic.{inl, inr}
 use mathlib.Core.Option.{Option, none, some}
-use Prim.Native.Nat.{ℕ, zero, suc, _≤_, _<_}
+use Prim.Native.Nat.{ℕ, zero, suc, _+_, _≤_, _<_}
 use native.Mathlib.Omega.{arith}
 use borrow.Author.Tests.{eq-eqb, eqb-true, leb-true, leb-false, lt-ltb, le-ltb, le-leb, lt-leb}
 use lib.Dec.{eqb, ltb, leb, eqb·suc-zero}
@@ -17,12 +17,16 @@ use Rattle.words.specs.OuterCode as Outer
 use Rattle.words.specs.InnerCode.{innerParity}
 use Rattle.words.specs.InnerCode as Inner
 use Rattle.words.specs.Nearest.{nearest, Decodes}
-use Rattle.words.specs.Answers.{unless, refusal, within, answered, outerChecked, outerEncoded, innerChecked, innerEncoded, refusalOf, changedOf, found, corrected, outerCorrected, innerCorrected}
+use Rattle.words.specs.Answers.{unless, refusal, within, answered, outerChecked, outerEncoded, innerChecked, innerEncoded, refusalOf, changedOf, innerRefusalOf, dataChangedOf, parityChangedOf, found, corrected, outerCorrected, innerChanges, innerCorrected}
 use Rattle.words.specs.declared.Correction.{Correction}
+use Rattle.words.specs.declared.Correction.the-variants as outer
+use Rattle.words.specs.declared.InnerCorrection.{InnerCorrection}
+use Rattle.words.specs.declared.InnerCorrection.the-variants as inner
 use Rattle.words.specs.Answers as Answers
 use Rattle.words.proofs.Bits.Bytes.{bits-below, bits-length}
 use Rattle.words.proofs.Codes.InnerParity.{inner-length}
 use Rattle.words.proofs.Codes.Proved.{codes}
+use Rattle.words.proofs.Steps.InnerCorrection.{changes-sum}
 use Rattle.document03.proofs.Fields.{pick}
 use Rattle.document03.proofs.Words.Statements.{when, outerChecks, isOuter, innerChecks, isInner, apart, isNear}
 use Rattle.document03.proofs.Words.Says.{firstOf, bitsOf, bytesOf, outerLong, OuterCheckSays, OuterMakeSays, InnerCheckSays, InnerMakeSays, Nearest, MendedWith, OuterMendSays, InnerMendSays}
@@ -142,51 +146,63 @@ near-is w c h =
 pub far-is : (w c : List ℕ) → isNear w c ≡ false → length c ≡ length w → 8 < Places.apart w c
 far-is w c h e = leb-false (Places.apart w c) 8 (rw (eq-eqb (length w) (length c) (sym e), apart-agrees w c (sym e)) at h)
 
--- a word w and the buffer o; our test of code words and the document's; what is stored of a code word, by ours and by the document
-module _ (isCode isCode′ : List ℕ → Bool) (agree : (c : List ℕ) → isCode′ c ≡ isCode c) (q : ℕ) (content out : List ℕ → List ℕ) (w o : List ℕ) where
+-- answers of any form, their number, and how many places they changed; a word w and the buffer o; our test of code words and the document's; what is stored
+-- of a code word, by ours and by the document
+module _ {A : Type 0} (refused : ℕ → A) (changes : List ℕ → A) (number changed : A → ℕ) (alone : (n : ℕ) → (number (refused n) ≡ n) × (changed (refused n) ≡ 0))
+    (isCode isCode′ : List ℕ → Bool) (agree : (c : List ℕ) → isCode′ c ≡ isCode c) (q : ℕ) (content out : List ℕ → List ℕ) (w o : List ℕ) where
   -- what holds of words of the right length
   abbrev Ready : Type 0
-  Ready = Decodes isCode q 8 (length w) × ((c : List ℕ) → length c ≡ length w → content c ≡ out c)
+  Ready =
+      Decodes isCode q 8 (length w)
+      × ((c : List ℕ) → length c ≡ length w → (number (changes c) ≡ 0) × (changed (changes c) ≡ Places.apart w c) × (content c ≡ out c))
 
-  nearest-says : Ready → (a : Option (List ℕ)) → nearest isCode q 8 w ≡ a → (let r = found content w o a in Nearest isCode′ w o (r .1) out (refusalOf (r .0)) (changedOf (r .0)))
+  nearest-says : Ready → (a : Option (List ℕ)) → nearest isCode q 8 w ≡ a →
+      (let r = found refused changes content o a in Nearest isCode′ w o (r .1) out (number (r .0)) (changed (r .0)))
   unfolding found
-  nearest-says (D, stores) none e = inr (λ c h. far-says w c (λ l. D .none-means-none w c refl e l (sym (agree c) ∙ h)), refl, refl, refl)
-  nearest-says (D, stores) (some c) e =
+  nearest-says (D, says) none e = inr (λ c h. far-says w c (λ l. D .none-means-none w c refl e l (sym (agree c) ∙ h)), alone 5 .0, alone 5 .1, refl)
+  nearest-says (D, says) (some c) e =
       let s = D .sound w c refl e in
-      inl (c, agree c ∙ s .1, near-says w c (s .0) (s .2), refl, sym (apart-agrees w c (sym (s .0))), stores c (s .0))
+      let t = says c (s .0) in
+      inl (c, agree c ∙ s .1, near-says w c (s .0) (s .2), t .0, t .1 ∙ sym (apart-agrees w c (sym (s .0))), t .2)
 
   mended-says : (long fits symbols : Bool) → (long ≡ true → Ready) →
-      (let f = refusal long fits symbols in let r = corrected f o (found content w o (nearest isCode q 8 w)) in MendedWith f isCode′ w o (r .1) out (refusalOf (r .0)) (changedOf (r .0)))
+      (let f = refusal long fits symbols in
+      let r = corrected refused f o (found refused changes content o (nearest isCode q 8 w)) in
+      MendedWith f isCode′ w o (r .1) out (number (r .0)) (changed (r .0)))
   unfolding refusal corrected
   mended-says true true true h = nearest-says (h refl) (nearest isCode q 8 w) refl
-  mended-says true true false h = (refl, refl, refl)
-  mended-says true false symbols h = (refl, refl, refl)
-  mended-says false fits symbols h = (refl, refl, refl)
+  mended-says true true false h = (alone 7 .0, alone 7 .1, refl)
+  mended-says true false symbols h = (alone 3 .0, alone 3 .1, refl)
+  mended-says false fits symbols h = (alone 6 .0, alone 6 .1, refl)
 
-  mend-says : (long fits symbols : Bool) → (long ≡ true → Ready) → (f : ℕ) → refusal long fits symbols ≡ f → (o′ : List ℕ) (r : Correction) →
-      _≡_ {A = Correction × List ℕ} (r, o′) (corrected (refusal long fits symbols) o (found content w o (nearest isCode q 8 w))) → MendedWith f isCode′ w o o′ out (refusalOf r) (changedOf r)
+  mend-says : (long fits symbols : Bool) → (long ≡ true → Ready) → (f : ℕ) → refusal long fits symbols ≡ f → (o′ : List ℕ) (r : A) →
+      _≡_ {A = A × List ℕ} (r, o′) (corrected refused (refusal long fits symbols) o (found refused changes content o (nearest isCode q 8 w))) → MendedWith f isCode′ w o o′ out (number r) (changed r)
   mend-says long fits symbols h f same o′ r e =
-      subst (λ (f : ℕ). MendedWith f isCode′ w o o′ out (refusalOf r) (changedOf r)) same
-      (subst (λ (a : Correction × List ℕ). MendedWith (refusal long fits symbols) isCode′ w o (a .1) out (refusalOf (a .0)) (changedOf (a .0))) (sym e) (mended-says long fits symbols h))
+      subst (λ (f : ℕ). MendedWith f isCode′ w o o′ out (number r) (changed r)) same
+      (subst (λ (a : A × List ℕ). MendedWith (refusal long fits symbols) isCode′ w o (a .1) out (number (a .0)) (changed (a .0))) (sym e) (mended-says long fits symbols h))
 
 pub outer-mend-says : (w o o′ : List ℕ) (r : Correction) → _≡_ {A = Correction × List ℕ} (r, o′) (outerCorrected w o) → OuterMendSays w o o′ (refusalOf r) (changedOf r)
 unfolding outerCorrected within
 outer-mend-says w o o′ r e =
     let fits = eqb (length o) (length w) in
     let symbols = allBelow 1024 w in
-    mend-says Outer.isOuter isOuter outer-agrees 1024 (λ c. c) (λ c. c) w o (outerLong w) fits symbols
-    (λ l. (codes .outer-nearest (length w) (leb-true (length w) 1023 (and-eq-true-iff (leb 17 (length w)) (leb (length w) 1023) .0 l .1)), λ c same. refl)) _
+    mend-says outer.Refused (λ c. outer.Corrected (Places.apart w c)) refusalOf changedOf (λ n. (refl, refl)) Outer.isOuter isOuter outer-agrees 1024
+    (λ c. c) (λ c. c) w o (outerLong w) fits symbols
+    (λ l. (codes .outer-nearest (length w) (leb-true (length w) 1023 (and-eq-true-iff (leb 17 (length w)) (leb (length w) 1023) .0 l .1)), λ c same. (refl, refl, refl))) _
     (refusal-says (outerLong w) fits symbols ∙ ap (λ (s : Bool). firstOf (when (not (outerLong w)) 6) (firstOf (when (not fits) 3) (when (not s) 7))) (sym (symbols-agree w)))
     o′ r e
 
-pub inner-mend-says : (w o o′ : List ℕ) (r : Correction) → _≡_ {A = Correction × List ℕ} (r, o′) (innerCorrected w o) → InnerMendSays w o o′ (refusalOf r) (changedOf r)
-unfolding innerCorrected
+-- what the document counts as changed are data places and parity places together
+pub inner-mend-says : (w o o′ : List ℕ) (r : InnerCorrection) → _≡_ {A = InnerCorrection × List ℕ} (r, o′) (innerCorrected w o) →
+    InnerMendSays w o o′ (innerRefusalOf r) (dataChangedOf r + parityChangedOf r)
+unfolding innerCorrected innerChanges
 inner-mend-says w o o′ r e =
     let long = eqb (length w) 255 in
     let fits = eqb (length o) 255 in
     let bits = Bits.bitsOf w in
-    subst (λ (b : List ℕ). MendedWith (firstOf (when (not long) 6) (when (not fits) 3)) isInner b o o′ bytesOf (refusalOf r) (changedOf r)) (sym (bits-agree w))
-    (mend-says Inner.isInner isInner InnerAgrees.inner-agrees 2 (λ c. Bits.bytesOf 255 (at c)) bytesOf bits o long fits true
+    subst (λ (b : List ℕ). MendedWith (firstOf (when (not long) 6) (when (not fits) 3)) isInner b o o′ bytesOf (innerRefusalOf r) (dataChangedOf r + parityChangedOf r)) (sym (bits-agree w))
+    (mend-says inner.Refused (innerChanges bits) innerRefusalOf (λ a. dataChangedOf a + parityChangedOf a) (λ n. (refl, refl)) Inner.isInner isInner InnerAgrees.inner-agrees 2
+    (λ c. Bits.bytesOf 255 (at c)) bytesOf bits o long fits true
     (λ l. let k : length bits ≡ 2040 = bits-length w ∙ omega (arith, eqb-true (length w) 255 l) in
-    (rw k (codes .inner-nearest), λ c same. sym (bytes-agree 255 c (same ∙ k)))) _
+    (rw k (codes .inner-nearest), λ c same. (refl, changes-sum bits c k, sym (bytes-agree 255 c (same ∙ k))))) _
     (refusal-says long fits true ∙ ap (firstOf (when (not long) 6)) (firstOf-zero (when (not fits) 3))) o′ r e)

@@ -2,31 +2,40 @@
 // the sum.
 use crate::Frame;
 use inner_words::places;
+use lanes::counters;
+use lanes::counters::Planes;
 ghost use mathlib.Core.Path.{_≡_};
-ghost use Prim.Native.Nat.{_≤_};
+ghost use Prim.Native.Nat.{_-_, _%_, _≤_};
 ghost use lib.ListN.{length};
 ghost use Rattle.frames.specs.Correction.{countsBetween, total};
 
-// The places of each inner word in which the two blocks differ, from one place on and before another.
+// The places of each inner word in which the two blocks differ, from one place on and before another. Eight places are counted at once.
 pub(crate) fn counts(
     block: &[u8],
     frame: &[u8],
     from: usize,
     to: usize,
 ) -> [u16; Frame::INNER_WORDS]
-    requires { ⌜ (length (now block) ≡ 16320) × (length (now frame) ≡ 16320) × (from ≤ to) × (to ≤ 2040) ⌝ }
+    requires { ⌜ (length (now block) ≡ 16320) × (length (now frame) ≡ 16320) × (from ≤ to) × (to ≤ 2040) × ((to - from) % 8 ≡ 0) ⌝ }
     ensures { λ r. ⌜ r ≡ countsBetween from to (now (block .entry)) (now (frame .entry)) ⌝ }
 {
-    let mut counts = [0u16; Frame::INNER_WORDS];
-    let mut p = from;
-    while p < to {
-        places::count(
-            &mut counts,
-            places::place(block, p) ^ places::place(frame, p),
-        );
-        p += 1;
+    let n = (to - from) / counters::STEP;
+    let mut planes = Planes {
+        ones: 0,
+        twos: 0,
+        fours: 0,
+        carry: 0,
+    };
+    let mut carries = [0u64; counters::EIGHTS];
+    let mut differences = [0u64; counters::STEP];
+    let mut i: usize = 0;
+    while i < n {
+        places::differences(block, frame, from + counters::STEP * i, &mut differences);
+        planes = counters::eight_more(planes, &differences, 0);
+        carries[i] = planes.carry;
+        i += 1;
     }
-    counts
+    counters::counts(planes, &carries, (n + counters::STEP - 1) / counters::STEP)
 }
 
 // The sum of counts: each is at most 65,535.

@@ -1,19 +1,18 @@
 // One place of every inner word: eight bytes of a block are the 64 bits of one number.
 use crate::Interleaved;
 use lanes::Lanes;
+use lanes::counters;
 ghost use mathlib.Core.Path.{_≡_};
-ghost use Prim.Native.Nat.{ℕ, _+_, _*_, _≤_, _<_};
+ghost use Prim.Native.Nat.{_+_, _*_, _≤_, _<_};
 ghost use lib.ListN.{length};
 ghost use Rattle.fields.specs.Lists.{tabulate};
-ghost use Rattle.fields.specs.Places.{at};
 ghost use Rattle.fields.specs.Steps.Buffers.{Placed};
 ghost use Rattle.lanes.specs.Steps.Sliced.{cells};
 ghost use Rattle.inner_words.specs.Steps.BitSliced.{placeAt, byteOf64};
-ghost use Rattle.inner_words.specs.Steps.InnerResidues.{loadedAt, begun};
-ghost use Rattle.inner_words.specs.Steps.Passes.{placeCounted};
+ghost use Rattle.inner_words.specs.Steps.InnerResidues.{loadedAt, differenceFrom, begun};
 
 // Place p of every inner word: bit k, the highest first, is that of word k.
-pub fn place(bytes: &[u8], p: usize) -> u64
+pub(crate) fn place(bytes: &[u8], p: usize) -> u64
     requires { ⌜ (p < 2040) × (8 * p + 8 ≤ length (now bytes)) ⌝ }
     ensures { λ r. ⌜ r ≡ placeAt (now (bytes .entry)) p ⌝ }
 {
@@ -84,17 +83,14 @@ pub(crate) fn put_place(block: &mut [u8], p: usize, x: u64)
     }
 }
 
-// Counts one place of every inner word: bit k of x, the highest first, is 1 where word k is wrong there.
-pub fn count(counts: &mut [u16], x: u64)
-    requires { ⌜ (length (now counts) ≡ 64) × ((k : ℕ) → at (now counts) k ≤ 2040) ⌝ }
-    ensures { λ _. ⌜ now (counts .exit) ≡ placeCounted (now (counts .entry)) x ⌝ }
+// Writes where two blocks differ, for eight places from place p on, the first of eight bytes the lowest.
+pub fn differences(block: &[u8], frame: &[u8], p: usize, out: &mut [u64])
+    requires { ⌜ (length (now block) ≡ 16320) × (length (now frame) ≡ 16320) × (p + 8 ≤ 2040) × (length (now out) ≡ 8) ⌝ }
+    ensures { λ _. ⌜ now (out .exit) ≡ tabulate 8 (differenceFrom (now (block .entry)) (now (frame .entry)) p) ⌝ }
 {
-    if x == 0 {
-        return;
-    }
-    let mut k: usize = 0;
-    while k < Interleaved::WORDS {
-        counts[k] += ((x >> (Interleaved::WORDS - 1 - k)) & 1) as u16;
-        k += 1;
+    let mut q: usize = 0;
+    while q < counters::STEP {
+        out[q] = load(block, p + q) ^ load(frame, p + q);
+        q += 1;
     }
 }

@@ -100,23 +100,23 @@ squares-tested = refl
 -- ---- the bits of inner word k
 
 module _ (k : ℕ) where
-  bit-lt : (x : ℕ) → laneBit k x < 2
+  pub bit-lt : (x : ℕ) → laneBit k x < 2
   unfolding laneBit
   bit-lt x = omega arith
 
-  bit-none : laneBit k 0 ≡ 0
+  pub bit-none : laneBit k 0 ≡ 0
   unfolding laneBit
   bit-none = rw zero-div
 
-  bit-sum : (x y : ℕ) → laneBit k (xor x y) ≡ xor (laneBit k x) (laneBit k y)
+  pub bit-sum : (x y : ℕ) → laneBit k (xor x y) ≡ xor (laneBit k x) (laneBit k y)
   unfolding laneBit
   bit-sum x y = rw (xor-high, xor-bit)
 
-  bit-masked : (x m : ℕ) → laneBit k (bitAnd x m) ≡ min (laneBit k x) (laneBit k m)
+  pub bit-masked : (x m : ℕ) → laneBit k (bitAnd x m) ≡ min (laneBit k x) (laneBit k m)
   unfolding laneBit
   bit-masked x m = rw and-shr (omega (arith, and-step (x / 2 ^ (63 - k)) (m / 2 ^ (63 - k))))
 
-  bit-some : (x y : ℕ) → laneBit k (bitOr x y) ≡ max (laneBit k x) (laneBit k y)
+  pub bit-some : (x y : ℕ) → laneBit k (bitOr x y) ≡ max (laneBit k x) (laneBit k y)
   unfolding laneBit
   bit-some x y = rw or-shr (omega (arith, or-step (x / 2 ^ (63 - k)) (y / 2 ^ (63 - k))))
 

@@ -8,7 +8,10 @@
 //     candidates   the three, one after the other
 //
 // What comes out are candidates: how wrong places are found is free, and the crate above takes a word only after a test.
+//
+// Apart from these, module counters counts for all inner words at once: in how many places two blocks differ.
 pub mod candidates;
+pub mod counters;
 mod elements;
 mod locators;
 mod search;

@@ -22,7 +22,7 @@ sum-at (suc n) f i l = go (sum-at n f i) (ℕ-discrete i n)
     go before (yes e) = rw e (omega arith)
     go before (no e) = omega (arith, before (omega arith))
 
-sum-plus : (m n : ℕ) (f : ℕ → ℕ) → sumTo (m + n) f ≡ sumTo m f + sumTo n (λ i. f (m + i))
+pub sum-plus : (m n : ℕ) (f : ℕ → ℕ) → sumTo (m + n) f ≡ sumTo m f + sumTo n (λ i. f (m + i))
 unfolding sumTo
 sum-plus m zero f = rw (add-zero m) (omega arith)
 sum-plus m (suc n) f = rw add-suc (omega (arith, sum-plus m n f))

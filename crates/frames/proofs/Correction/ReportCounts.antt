@@ -1,12 +1,11 @@
 -- The report: in how many places of each inner word two blocks differ, counted place by place, and the sum. Assumes nothing.
 use mathlib.Core.Path.{_≡_, refl, sym, ap, ap₂, _∙_}
 use mathlib.Core.List.{List}
-use Prim.Native.Nat.{ℕ, _+_, _-_, _*_, _≤_, _<_, zero-le}
+use Prim.Native.Nat.{ℕ, suc, _+_, _-_, _*_, _/_, _%_, _≤_, _<_, zero-le}
 use native.Mathlib.Nat.{le-refl, zero-add}
 use native.Mathlib.Numerals.{add-one}
 use native.Mathlib.Omega.{arith}
-use lib.Bits.{bitXor}
-use lib.ListN.{length, getD, replicate}
+use lib.ListN.{length, getD, set}
 use mir.Syntax.{w16, w32}
 use mir.Val.{Fits}
 use Rattle.fields.specs.Elements.{xor}
@@ -16,15 +15,17 @@ use Rattle.fields.proofs.Lists.{tabulate-at, tabulate-length, tabulate-same}
 use Rattle.fields.proofs.Places.Counting.{sum-add, sum-same}
 use Rattle.fields.proofs.Places.Differences.{apart-tables, between-plus, between-tables}
 use Rattle.decoding.proofs.Decoding.Changes.{differs-sum}
+use Rattle.lanes.specs.declared.counters.Planes.{Planes}
+use Rattle.lanes.specs.Steps.Sliced.{laneBit, turned}
+use Rattle.lanes.specs.Steps.Counters.{onesIn, lowest, EightMore, Carried, carriedCounts}
+use Rattle.lanes.proofs.Lanewise.{bit-lt, bit-sum}
+use Rattle.lanes.proofs.CarrySave.{ones-same, ones-first, carried-next}
 use Rattle.words.specs.Bits.{bitOf, bitAt}
 use Rattle.words.specs.InnerWords.{innerWord}
-use Rattle.words.proofs.Bits.Numbers.{bitOf-lt}
-use Rattle.words.proofs.Codes.ShiftedBits.{bitOf-sum}
-use Rattle.inner_words.specs.Steps.BitSliced.{placeAt}
-use Rattle.inner_words.specs.Steps.Passes.{placeCounted}
-use Rattle.inner_words.proofs.Interleaving.BitSliced.{place-bit}
+use Rattle.inner_words.specs.Steps.InnerResidues.{loadedAt, differenceFrom}
 use Rattle.inner_words.proofs.Interleaving.InterleavedBits.{inner-word-length}
-use Rattle.inner_words.proofs.Passes.Counts.{onesUpTo, Counting, counting-start, counting-few, counting-next, bit-is}
+use Rattle.inner_words.proofs.Interleaving.EightBytes.{loaded-bit}
+use Rattle.inner_words.proofs.Passes.Counts.{bit-is}
 use Rattle.frames.specs.Frames.{wrongBits}
 use Rattle.frames.specs.Correction.{countsBetween, dataCounts, parityCounts, total, allCounted}
 use Rattle.frames.specs.Demands.{wrongAt, wrongIn, wrongData, wrongParity}
@@ -66,52 +67,49 @@ module _ (block frame : List ℕ) where
 
 -- ---- places from one on and before another
 
--- the places of every inner word in which two blocks differ, from place `from` on
-unfoldable pub differences : List ℕ → List ℕ → ℕ → ℕ → ℕ
-differences block frame from i = xor (placeAt block (from + i)) (placeAt frame (from + i))
+laneBit-is : (k x : ℕ) → laneBit k x ≡ bitOf 64 x k
+unfolding laneBit bitOf
+laneBit-is k x = let e : 63 - k ≡ 64 - suc k = omega arith in rw e
 
--- the invariant: the places before p are counted
-pub record CountedTo (block frame : List ℕ) (from p : ℕ) (counts : List ℕ) : Type 0 where
-  pub begun : from ≤ p
-  pub counting : Counting (differences block frame from) (p - from) counts
-
-pub counted-start : {block frame : List ℕ} {from : ℕ} → CountedTo block frame from from (replicate 64 0)
-counted-start {block} {frame} {from} =
-    let none : from - from ≡ 0 = omega arith in
-    record { begun = le-refl from; counting = rw none (counting-start {xs = differences block frame from}) }
-
-module _ (block frame counts : List ℕ) (from p : ℕ) (so-far : CountedTo block frame from p counts) where
+module _ (block frame : List ℕ) (from : ℕ) where
   abbrev xs : ℕ → ℕ
-  xs = differences block frame from
+  xs = differenceFrom block frame from
 
-  pub counted-few : (to : ℕ) → to ≤ 2040 → p ≤ to → (k : ℕ) → at counts k ≤ 2040
-  counted-few to short within = counting-few xs counts (p - from) (so-far .counting) (omega arith)
-
-  place-differs : (i k : ℕ) → k < 64 → bitOf 64 (xs i) k ≡ differs (bitAt block (64 * (from + i) + k)) (bitAt frame (64 * (from + i) + k))
-  unfolding differences
+  place-differs : (i k : ℕ) → k < 64 → laneBit (turned k) (xs i) ≡ differs (bitAt block (64 * (from + i) + k)) (bitAt frame (64 * (from + i) + k))
+  unfolding differenceFrom
   place-differs i k l =
       let q = from + i in
-      bit-is _ (bitOf-lt 64 (xor (placeAt block q) (placeAt frame q)) k)
-      ∙ ap (λ (x : ℕ). differs x 0) (bitOf-sum 64 k (placeAt block q) (placeAt frame q) ∙ ap₂ xor (place-bit block q k l) (place-bit frame q k l))
+      let j = turned k in
+      bit-is _ (bit-lt j (xor (loadedAt block q) (loadedAt frame q)))
+      ∙ ap (λ (x : ℕ). differs x 0) (bit-sum j (loadedAt block q) (loadedAt frame q)
+      ∙ ap₂ xor (laneBit-is j (loadedAt block q) ∙ loaded-bit block q k l) (laneBit-is j (loadedAt frame q) ∙ loaded-bit frame q k l))
       ∙ differs-sum (bitAt block (64 * q + k)) (bitAt frame (64 * q + k))
 
-  pub counted-next : (x y : ℕ) (next : List ℕ) → x ≡ placeAt block p → y ≡ placeAt frame p → next ≡ placeCounted counts (bitXor x y) →
-      CountedTo block frame from (p + 1) next
-  unfolding differences xor
-  counted-next x y next ex ey e =
-      let here : from + (p - from) ≡ p = omega (arith, so-far .begun) in
-      let more : p + 1 - from ≡ p - from + 1 = omega (arith, so-far .begun) in
-      record {
-        begun = omega (arith, so-far .begun);
-        counting = rw more (counting-next xs counts (p - from) (so-far .counting) (bitXor x y) next (rw here (ap₂ bitXor ex ey)) e);
-      }
+  module _ (s : Planes) (carries : List ℕ) (i : ℕ) (so-far : Carried xs i s carries) where
+    -- eight places more
+    pub counted-next : (n to : ℕ) (r : Planes) (eight : List ℕ) → i < n → n ≡ (to - from) / 8 → to ≤ 2040 → length carries ≡ 256 →
+        eight ≡ tabulate 8 (differenceFrom block frame (from + 8 * i)) → EightMore (at eight) 0 s r → Carried xs (i + 1) r (set carries i (r .carry))
+    unfolding differenceFrom
+    counted-next n to r eight h en short long e more =
+        let few : n ≤ 256 = omega arith in
+        let here : (q : ℕ) → q < 8 → at eight (0 + q) ≡ xs (8 * i + q) = λ q l.
+        let p : from + 8 * i + q ≡ from + (8 * i + q) = omega arith in
+        ap (at eight) (zero-add q) ∙ ap (λ (c : List ℕ). at c q) e ∙ tabulate-at 8 (differenceFrom block frame (from + 8 * i)) q 0 l ∙ rw p in
+        carried-next so-far h few long (record { each = λ k. rw (ones-same k _ _ 8 here) at (more .each k) })
 
-  pub counted-end : (to : ℕ) → to ≤ 2040 → p ≤ to → to ≤ p → counts ≡ countsBetween from to block frame
-  unfolding onesUpTo countsBetween innerWord
-  counted-end to short within h =
-      let e : p ≡ to = omega arith in
-      rw e at (so-far .counting .value) ∙ tabulate-same 64 _ _ (λ k l. sum-same (to - from) _ _ (λ i b. place-differs i k l)
-      ∙ sym (between-tables from to 2040 (λ p. bitAt block (64 * p + k)) (λ p. bitAt frame (64 * p + k)) short))
+    pub counted-end : (n to : ℕ) (counts : List ℕ) → i ≤ n → n ≤ i → to ≤ 2040 → n ≡ (to - from) / 8 → (to - from) % 8 ≡ 0 →
+        counts ≡ carriedCounts s carries ((n + 8 - 1) / 8) → counts ≡ countsBetween from to block frame
+    unfolding carriedCounts onesIn countsBetween innerWord
+    counted-end n to counts h l short en whole e =
+        let ei : i ≡ n = omega arith in
+        let all : 8 * n ≡ to - from = omega arith in
+        e ∙ tabulate-same 64 _ _ (λ k b.
+        let j = turned k in
+        let first = ones-first j (at carries) n (8 * ((n + 8 - 1) / 8)) (rw ei at (so-far .none)) (omega arith) in
+        let counted : lowest j s + 8 * onesIn j (at carries) (8 * ((n + 8 - 1) / 8)) ≡ sumTo (8 * n) (λ p. laneBit j (xs p)) =
+        omega (arith, first, rw ei at (so-far .each j)) in
+        counted ∙ rw all (sum-same (to - from) _ _ (λ p m. place-differs p k b))
+        ∙ sym (between-tables from to 2040 (λ p. bitAt block (64 * p + k)) (λ p. bitAt frame (64 * p + k)) short))
 
 -- ---- the sum
 

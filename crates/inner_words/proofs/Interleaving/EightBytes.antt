@@ -1,24 +1,28 @@
 -- Eight bytes as a number, and a number as eight bytes. Assumes nothing.
-use mathlib.Core.Path.{_≡_, refl, sym, ap, _∙_}
+use mathlib.Core.Path.{_≡_, refl, sym, ap, ap₂, _∙_}
 use mathlib.Core.List.{List}
 use Prim.Native.Nat.{ℕ, zero, suc, _+_, _-_, _*_, _/_, _%_, _^_, _≤_, _<_}
 use native.Mathlib.Nat.{add-zero}
 use native.Mathlib.Omega.{arith}
-use lib.Bits.{bitAnd, bitOr, and-mask, or-shifted}
+use lib.Bits.{bitAnd, bitOr, bitXor, and-mask, or-shifted}
 use lib.Dec.{lit<}
-use lib.ListN.{getD}
+use lib.ListN.{getD, set}
 use lib.Pow.{pow-add, shl-exact, shl-lt}
 use mir.Facts.{fits-widen}
 use mir.Syntax.{w8, w64}
 use mir.Val.{Fits}
+use Rattle.fields.specs.Elements.{xor}
 use Rattle.fields.specs.Lists.{tabulate}
 use Rattle.fields.specs.Places.{at}
 use Rattle.fields.proofs.Lists.{tabulate-at, tabulate-lt}
+use Rattle.fields.proofs.Places.Filling.{Filled, filled-next}
+use Rattle.lanes.specs.Steps.Sliced.{turned}
+use Rattle.lanes.proofs.Sliced.{turned-lt, turned-twice}
 use Rattle.words.specs.Bits.{bitOf, numberOf, bitAt}
-use Rattle.words.proofs.Bits.Bytes.{places-read, number-of-bits}
+use Rattle.words.proofs.Bits.Bytes.{bitAt-lt, places-read, number-of-bits}
 use Rattle.words.proofs.Bits.Numbers.{bitOf-lt, bitOf-number, numberOf-lt, numberOf-same, number-parts}
 use Rattle.inner_words.specs.Steps.BitSliced.{placeAt, byteOf64}
-use Rattle.inner_words.specs.Steps.InnerResidues.{turned, swapped, loadedAt}
+use Rattle.inner_words.specs.Steps.InnerResidues.{swapped, loadedAt, differenceFrom}
 
 -- ---- eight bytes as a number
 
@@ -103,6 +107,18 @@ load-made bytes p small =
     ∙ numberOf-same 64 _ _ (λ k l. let q : (64 * p + (8 * (7 - k / 8) + k % 8)) / 8 ≡ 8 * p + (7 - k / 8) = omega arith in
     let r : (64 * p + (8 * (7 - k / 8) + k % 8)) % 8 ≡ k % 8 = omega arith in
     rw (q, r) (ap (λ (x : ℕ). bitOf 8 x (k % 8)) (byte-in bytes p (7 - k / 8))))
+
+pub loaded-bit : (bytes : List ℕ) (p k : ℕ) → k < 64 → bitOf 64 (loadedAt bytes p) (turned k) ≡ bitAt bytes (64 * p + k)
+unfolding loadedAt
+loaded-bit bytes p k l =
+    bitOf-number (λ k. bitAt bytes (64 * p + turned k)) (λ k. bitAt-lt bytes (64 * p + turned k)) 64 (turned k) (turned-lt k l)
+    ∙ ap (λ (j : ℕ). bitAt bytes (64 * p + j)) (turned-twice k l)
+
+-- where two blocks differ, in one place more
+pub difference-next : (block frame out : List ℕ) (p q x y : ℕ) → Filled 8 (differenceFrom block frame p) q out → q < 8 → x ≡ loadedAt block (p + q) →
+    y ≡ loadedAt frame (p + q) → Filled 8 (differenceFrom block frame p) (q + 1) (set out q (bitXor x y))
+unfolding differenceFrom xor
+difference-next block frame out p q x y so-far l ex ey = filled-next so-far l (ap₂ bitXor ex ey)
 
 -- ---- the bytes of a number
 

@@ -15,6 +15,8 @@ use Rattle.fields.specs.Lists.{tabulate}
 use Rattle.fields.specs.Places.{at, horner}
 use Rattle.fields.proofs.Lists.{tabulate-at, tabulate-is, tabulate-length, tabulate-same}
 use Rattle.fields.proofs.Xor.{xor-assoc, xor-bit, xor-high, xor-lt, xor-zero-l, xor-zero-r}
+use Rattle.lanes.specs.Steps.Sliced.{turned}
+use Rattle.lanes.proofs.Sliced.{turned-lt, turned-twice}
 use Rattle.words.specs.Bits.{bitOf, numberOf, bitAt}
 use Rattle.words.specs.InnerCode.{factors, remainder}
 use Rattle.words.proofs.Bits.Bytes.{bitAt-lt}
@@ -22,7 +24,7 @@ use Rattle.words.proofs.Bits.Numbers.{bitOf-number, bitOf-zero, numberOf-bits, 
 use Rattle.words.proofs.Codes.Horner.{scale-one, scale-zero}
 use Rattle.words.proofs.Codes.InnerParity.{remainder-short}
 use Rattle.words.proofs.Codes.ShiftedBits.{bitOf-sum, twice-high}
-use Rattle.inner_words.specs.Steps.InnerResidues.{coefficient, bitSliced, wordResidue, turned, swapped, loadedAt, residueOf, advanced, begun}
+use Rattle.inner_words.specs.Steps.InnerResidues.{coefficient, bitSliced, wordResidue, swapped, loadedAt, residueOf, advanced, begun}
 
 -- ---- numbers of bits
 
@@ -86,16 +88,6 @@ past : (x i : ℕ) → x < 2 ^ 5 → 5 ≤ i → coefficient i x ≡ 0
 past x i h l =
     let k : 2 ^ 5 ≤ 2 ^ i = pow-mono l in
     ap (λ (y : ℕ). y % 2) (div-eq-of-lt (omega arith))
-
--- ---- bytes turned round
-
-turned-lt : (k : ℕ) → k < 64 → turned k < 64
-unfolding turned
-turned-lt k h = omega arith
-
-turned-twice : (k : ℕ) → k < 64 → turned (turned k) ≡ k
-unfolding turned
-turned-twice k h = omega arith
 
 -- ---- residues, place by place
 

@@ -10,6 +10,7 @@ use Rattle.fields.specs.Elements.{xor, scale}
 use Rattle.fields.specs.Steps.ByTables.{tablePower}
 use Rattle.fields.specs.Places.{at, every}
 use Rattle.decoding.specs.Steps.Decoder.{xorTo}
+use Rattle.lanes.specs.Steps.Sliced.{turned}
 use Rattle.words.specs.Bits.{bitOf, numberOf, bitAt}
 use Rattle.words.specs.InnerCode.{factors, remainder}
 
@@ -31,9 +32,6 @@ residuesOf bytes n = tabulate 88 (λ c. numberOf 64 (λ k. coefficient (c % 11) 
 -- ---- the order of the steps
 
 -- eight bytes with the first the lowest: bit k is the one that is bit `turned k` if the first is the highest
-unfoldable pub turned : ℕ → ℕ
-turned k = 8 * (7 - k / 8) + k % 8
-
 unfoldable pub swapped : ℕ → ℕ
 swapped x = numberOf 64 (λ k. bitOf 64 x (turned k))
 
@@ -46,6 +44,10 @@ loadedAt bytes p = numberOf 64 (λ k. bitAt bytes (64 * p + turned k))
 
 unfoldable pub residueOf : ℕ → List ℕ → ℕ → List ℕ
 residueOf j bytes n = bitSliced 11 (λ k. wordResidue j bytes n (turned k))
+
+-- in that order, too: 1 where two blocks differ in place p + q
+unfoldable pub differenceFrom : List ℕ → List ℕ → ℕ → ℕ → ℕ
+differenceFrom block frame p q = xor (loadedAt block (p + q)) (loadedAt frame (p + q))
 
 -- the residues of inner word k of a block stand among those of all
 pub record WordResidues (residues : List ℕ) (k : ℕ) (block : List ℕ) : Type 0 where

@@ -2,11 +2,10 @@
 use mathlib.Core.Path.{_≡_}
 use mathlib.Core.Bool.{Bool, false, cond}
 use mathlib.Core.List.{List}
-use Prim.Native.Nat.{ℕ, _+_, _<_}
+use Prim.Native.Nat.{ℕ, _<_}
 use lib.ListN.{length}
-use Rattle.fields.specs.Lists.{tabulate}
-use Rattle.fields.specs.Places.{at, every}
-use Rattle.words.specs.Bits.{bitOf, numberOf, bitAt}
+use Rattle.fields.specs.Places.{every}
+use Rattle.words.specs.Bits.{numberOf, bitAt}
 use Rattle.words.specs.InnerCode.{isInner}
 use Rattle.words.specs.InnerWords.{innerWord, innerRestored, innerPass, isLost}
 
@@ -49,7 +48,3 @@ pub record InnerPassed (before after : List ℕ) (left : ℕ) : Type 0 where
   pub bits : (i : ℕ) → i < 130560 → bitAt after i ≡ innerPass (bitAt before) i
   pub lost : left ≡ lostWords (bitAt before)
   pub wrong : left ≡ wrongWords (bitAt after)
-
--- the counts, with one place of every inner word counted: bit k of x, the highest of 64 first, is that of inner word k
-unfoldable pub placeCounted : List ℕ → ℕ → List ℕ
-placeCounted counts x = tabulate 64 (λ k. at counts k + bitOf 64 x k)

@@ -12,6 +12,10 @@ cells s = s .r0 ∷ s .r1 ∷ s .r2 ∷ s .r3 ∷ s .r4 ∷ s .r5 ∷ s .r6 ∷ 
 unfoldable pub laneBit : ℕ → ℕ → ℕ
 laneBit k x = x / 2 ^ (63 - k) % 2
 
+-- the bit of inner word k where the first of eight bytes is the lowest, not the highest
+unfoldable pub turned : ℕ → ℕ
+turned k = 8 * (7 - k / 8) + k % 8
+
 -- the number whose bits, the lowest first, are those of inner word k in some numbers
 unfoldable pub lane : ℕ → List ℕ → ℕ
 lane k [] = 0

@@ -1,7 +1,7 @@
--- The report: in how many places of each inner word two blocks differ, counted place by place, and the sum. Assumes nothing.
+-- The report: in how many places of each inner word two blocks differ, counted eight places at a time, and the sum. Assumes nothing.
 use mathlib.Core.Path.{_≡_, refl, sym, ap, ap₂, _∙_}
 use mathlib.Core.List.{List}
-use Prim.Native.Nat.{ℕ, suc, _+_, _-_, _*_, _/_, _%_, _≤_, _<_, zero-le}
+use Prim.Native.Nat.{ℕ, _+_, _-_, _*_, _/_, _%_, _≤_, _<_, zero-le}
 use native.Mathlib.Nat.{le-refl, zero-add}
 use native.Mathlib.Numerals.{add-one}
 use native.Mathlib.Omega.{arith}
@@ -20,7 +20,7 @@ use Rattle.lanes.specs.Steps.Sliced.{laneBit, turned}
 use Rattle.lanes.specs.Steps.Counters.{onesIn, lowest, EightMore, Carried, carriedCounts}
 use Rattle.lanes.proofs.Lanewise.{bit-lt, bit-sum}
 use Rattle.lanes.proofs.CarrySave.{ones-same, ones-first, carried-next}
-use Rattle.words.specs.Bits.{bitOf, bitAt}
+use Rattle.words.specs.Bits.{bitAt}
 use Rattle.words.specs.InnerWords.{innerWord}
 use Rattle.inner_words.specs.Steps.InnerResidues.{loadedAt, differenceFrom}
 use Rattle.inner_words.proofs.Interleaving.InterleavedBits.{inner-word-length}
@@ -67,10 +67,6 @@ module _ (block frame : List ℕ) where
 
 -- ---- places from one on and before another
 
-laneBit-is : (k x : ℕ) → laneBit k x ≡ bitOf 64 x k
-unfolding laneBit bitOf
-laneBit-is k x = let e : 63 - k ≡ 64 - suc k = omega arith in rw e
-
 module _ (block frame : List ℕ) (from : ℕ) where
   abbrev xs : ℕ → ℕ
   xs = differenceFrom block frame from
@@ -82,7 +78,7 @@ module _ (block frame : List ℕ) (from : ℕ) where
       let j = turned k in
       bit-is _ (bit-lt j (xor (loadedAt block q) (loadedAt frame q)))
       ∙ ap (λ (x : ℕ). differs x 0) (bit-sum j (loadedAt block q) (loadedAt frame q)
-      ∙ ap₂ xor (laneBit-is j (loadedAt block q) ∙ loaded-bit block q k l) (laneBit-is j (loadedAt frame q) ∙ loaded-bit frame q k l))
+      ∙ ap₂ xor (loaded-bit block q k l) (loaded-bit frame q k l))
       ∙ differs-sum (bitAt block (64 * q + k)) (bitAt frame (64 * q + k))
 
   module _ (s : Planes) (carries : List ℕ) (i : ℕ) (so-far : Carried xs i s carries) where

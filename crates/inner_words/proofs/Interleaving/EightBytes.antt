@@ -16,7 +16,7 @@ use Rattle.fields.specs.Lists.{tabulate}
 use Rattle.fields.specs.Places.{at}
 use Rattle.fields.proofs.Lists.{tabulate-at, tabulate-lt}
 use Rattle.fields.proofs.Places.Filling.{Filled, filled-next}
-use Rattle.lanes.specs.Steps.Sliced.{turned}
+use Rattle.lanes.specs.Steps.Sliced.{laneBit, turned}
 use Rattle.lanes.proofs.Sliced.{turned-lt, turned-twice}
 use Rattle.words.specs.Bits.{bitOf, numberOf, bitAt}
 use Rattle.words.proofs.Bits.Bytes.{bitAt-lt, places-read, number-of-bits}
@@ -108,10 +108,15 @@ load-made bytes p small =
     let r : (64 * p + (8 * (7 - k / 8) + k % 8)) % 8 ≡ k % 8 = omega arith in
     rw (q, r) (ap (λ (x : ℕ). bitOf 8 x (k % 8)) (byte-in bytes p (7 - k / 8))))
 
-pub loaded-bit : (bytes : List ℕ) (p k : ℕ) → k < 64 → bitOf 64 (loadedAt bytes p) (turned k) ≡ bitAt bytes (64 * p + k)
+-- the bit of inner word k
+lane-bit : (k x : ℕ) → laneBit k x ≡ bitOf 64 x k
+unfolding laneBit bitOf
+lane-bit k x = let e : 63 - k ≡ 64 - suc k = omega arith in rw e
+
+pub loaded-bit : (bytes : List ℕ) (p k : ℕ) → k < 64 → laneBit (turned k) (loadedAt bytes p) ≡ bitAt bytes (64 * p + k)
 unfolding loadedAt
 loaded-bit bytes p k l =
-    bitOf-number (λ k. bitAt bytes (64 * p + turned k)) (λ k. bitAt-lt bytes (64 * p + turned k)) 64 (turned k) (turned-lt k l)
+    lane-bit (turned k) _ ∙ bitOf-number (λ k. bitAt bytes (64 * p + turned k)) (λ k. bitAt-lt bytes (64 * p + turned k)) 64 (turned k) (turned-lt k l)
     ∙ ap (λ (j : ℕ). bitAt bytes (64 * p + j)) (turned-twice k l)
 
 -- where two blocks differ, in one place more

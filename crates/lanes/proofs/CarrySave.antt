@@ -198,7 +198,8 @@ module _ (planes counts : List ℕ) (i weight : ℕ) (so-far : Weighing planes i
 -- of n times eight carries of weight 8, of those of weight 64 that they give, and of the four of weight 512, which give none
 module _ (low a b c : Planes) (eights sixty-fours last none : List ℕ) (n : ℕ) where
   pub all-counted : n ≤ 32 → Carried (at eights) n a sixty-fours → Carried (at sixty-fours) 4 b last → Carried (at last) 1 c none → (counts : List ℕ) →
-      counts ≡ planeCounts (low .ones ∷ low .twos ∷ low .fours ∷ a .ones ∷ a .twos ∷ a .fours ∷ b .ones ∷ b .twos ∷ b .fours ∷ c .ones ∷ c .twos ∷ c .fours ∷ []) →
+      counts ≡ planeCounts (low .ones ∷ low .twos ∷ low .fours ∷ a .ones ∷ a .twos ∷ a .fours
+      ∷ b .ones ∷ b .twos ∷ b .fours ∷ c .ones ∷ c .twos ∷ c .fours ∷ []) →
       counts ≡ carriedCounts low eights n
   unfolding weighed planeCounts carriedCounts
   all-counted h ca cb cc counts e = e ∙ tabulate-same 64 _ _ (λ k l.

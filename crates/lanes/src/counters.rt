@@ -2,7 +2,7 @@
 // bits of inner word k in the planes of weight 1, 2, 4, .. are the binary digits of its count. Full adders make of eight numbers and the planes of weight 1, 2
 // and 4 these planes anew and one carry of weight 8. The carries are numbers again, an eighth as many, and are counted in the same way.
 //
-// The numbers are as they are loaded, the first of eight bytes the lowest: no byte has to move, and only the counts are put in the order of the inner words.
+// The numbers are as they are loaded, the first of eight bytes the lowest: no byte has to move.
 ghost use mathlib.Core.Path.{_≡_};
 ghost use Prim.Native.Nat.{ℕ, _+_, _*_, _≤_, _<_};
 ghost use lib.ListN.{length};
@@ -87,7 +87,7 @@ fn count(xs: &[u64], n: usize, carries: &mut [u64]) -> Planes
     s
 }
 
-// Adds a plane to the counts. Few planes are not 0.
+// Adds a plane to the counts, which are put in the order of the inner words. Most planes are 0.
 fn add_plane(counts: &mut [u16], x: u64, weight: u16)
     requires { ⌜ (length (now counts) ≡ 64) × (weight ≤ 2048) × ((k : ℕ) → at (now counts) k < weight) ⌝ }
     ensures { λ _. ⌜ now (counts .exit) ≡ planeAdded (now (counts .entry)) x weight ⌝ }

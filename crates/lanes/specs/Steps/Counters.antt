@@ -24,17 +24,19 @@ pub record Carried (xs : ℕ → ℕ) (n : ℕ) (s : Planes) (carries : List ℕ
   pub each : (k : ℕ) → onesIn k xs (8 * n) ≡ lowest k s + 8 * onesIn k (at carries) n
   pub none : (i : ℕ) → n ≤ i → at carries i ≡ 0
 
--- the counts in the order of the inner words: with a plane of some weight added; from planes of weight 1, 2, 4, .. 2048; and from the lowest planes and the
--- carries of n times eight steps
+-- the counts, in the order of the inner words, with a plane of some weight added
 unfoldable pub planeAdded : List ℕ → ℕ → ℕ → List ℕ
 planeAdded counts x weight = tabulate 64 (λ k. at counts k + laneBit (turned k) x * weight)
 
+-- the number whose binary digits, the lowest first, are the bits of inner word k in the planes f 0, .. f (n - 1)
 unfoldable pub weighed : ℕ → (ℕ → ℕ) → ℕ → ℕ
 weighed k f zero = 0
 weighed k f (suc n) = weighed k f n + laneBit k (f n) * 2 ^ n
 
+-- the counts that twelve planes are, in that order
 unfoldable pub planeCounts : List ℕ → List ℕ
 planeCounts planes = tabulate 64 (λ k. weighed (turned k) (at planes) 12)
 
+-- the counts that the planes of weight 1, 2 and 4 and the first 8 n carries are, in that order
 unfoldable pub carriedCounts : Planes → List ℕ → ℕ → List ℕ
 carriedCounts low eights n = tabulate 64 (λ k. lowest (turned k) low + 8 * onesIn (turned k) (at eights) (8 * n))

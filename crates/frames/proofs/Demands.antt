@@ -24,12 +24,12 @@ two-passes =
       none-restored = none-restored;
       none-only = none-only;
       corrected = λ block buffer words fits room. corrected block buffer fits room words;
-      counted = both-counts;
-      summed = all-counted;
       uncorrectable = λ block buffer w fits room. uncorrectable block buffer fits room w;
       uncorrectable-only = uncorrectable-only;
       one-or-other = λ block. one-or-other (passed block);
       corrected-frame = corrected-frame;
+      counted = both-counts;
+      summed = all-counted;
     }
 
 pub demand-2 : Demand2

@@ -127,10 +127,6 @@ pub record TwoPasses : Type 0 where
   pub corrected : (block buffer : List ℕ) (words : List (List ℕ)) → length block ≡ 16320 → length buffer ≡ 16320 → Restored (innerPass (bitAt block)) words →
       let frame = frameOfWords words in
       frameCorrected block buffer ≡ (0, dataCounts block frame, parityCounts block frame, allCounted block frame, frame)
-  -- the two counts of an inner word together are its distance from the restored one, and the sum is the number of all bits in which the frame differs
-  pub counted : (block frame : List ℕ) (k : ℕ) → k < 64 →
-      at (dataCounts block frame) k + at (parityCounts block frame) k ≡ apart (innerWord (bitAt block) k) (innerWord (bitAt frame) k)
-  pub summed : (block frame : List ℕ) → allCounted block frame ≡ wrongBits block frame
   -- or refusal 5, exactly where there is none
   pub uncorrectable : (block buffer : List ℕ) (w : ℕ) → length block ≡ 16320 → length buffer ≡ 16320 → w < 16 → Uncorrectable (innerPass (bitAt block)) w →
       frameCorrected block buffer ≡ refused 5 buffer
@@ -142,6 +138,10 @@ pub record TwoPasses : Type 0 where
   -- a restored frame is a frame that the encoder writes
   pub corrected-frame : (block buffer d p frame : List ℕ) (sum : ℕ) → frameCorrected block buffer ≡ (0, d, p, sum, frame) →
       (isBlock frame ≡ true) × (isFrame frame ≡ true)
+  -- of the report: the two counts of an inner word together are its distance from the restored one, and the sum is the number of all bits that differ
+  pub counted : (block frame : List ℕ) (k : ℕ) → k < 64 →
+      at (dataCounts block frame) k + at (parityCounts block frame) k ≡ apart (innerWord (bitAt block) k) (innerWord (bitAt frame) k)
+  pub summed : (block frame : List ℕ) → allCounted block frame ≡ wrongBits block frame
 
 pub record Demand2 : Type 0 where
   -- the encoder writes exactly the frame of the payload

@@ -1,4 +1,4 @@
--- Answers of more than one number, packed into one: 256 times the second number, plus the refusal's number or 0.
+-- Answers of more than one number, packed into one: the refusal's number or 0, plus 256 times the second number, plus 65,536 times the third of an inner word.
 use mathlib.Core.List.{List}
 use Prim.Native.Nat.{ℕ, _+_, _*_}
 use Rattle.fields.specs.Steps.Buffers.{copied}

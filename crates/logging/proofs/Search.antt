@@ -13,7 +13,7 @@ use borrow.Author.Tests.{ltb-true, lt-ltb, eq-eqb, ne-eqb}
 use lib.Dec.{eqb, ltb}
 use lib.ListN.{getD}
 use Rattle.logging.specs.WorstList.{Counts, countOf, isBefore, isOpen, earlier, firstOpen}
-use Rattle.logging.proofs.Order.{count-outside}
+use Rattle.logging.proofs.Order.{none-outside}
 
 -- ---- what can be listed
 
@@ -24,7 +24,7 @@ module _ (counts : Counts) (listed : List Bool) (k : ℕ) where
 
   pub open-outside : 64 ≤ k → false ≡ isOpen counts listed k
   unfolding isOpen
-  open-outside h = rw (← count-outside counts k h)
+  open-outside h = rw (← none-outside counts k h)
 
   pub open-listed : getD listed k false ≡ true → false ≡ isOpen counts listed k
   unfolding isOpen
@@ -56,7 +56,7 @@ module _ (counts : Counts) (listed : List Bool) (k : ℕ) where
     where
       go : Dec (k < 64) → k < 64
       go (yes h) = h
-      go (no g) = absurd (omega (arith, open-count o, count-outside counts k (omega arith)))
+      go (no g) = absurd (omega (arith, open-count o, none-outside counts k (omega arith)))
 
   pub open-so : 0 < countOf counts k → getD listed k false ≡ false → Open
   open-so some e = sym (open-counted (countOf counts k) e refl) ∙ lt-ltb 0 (countOf counts k) some

@@ -9,7 +9,7 @@ use lib.ListN.{length, getD}
 use Rattle.frames.specs.Answers.{frameCorrected}
 use Rattle.frames.specs.declared.Report.{Report}
 use Rattle.logging.specs.Counting.{limited, Call, clear, count, after, since, sumOver, totals}
-use Rattle.logging.specs.WorstList.{Counts, countOf, isBefore, worstWords}
+use Rattle.logging.specs.WorstList.{Counts, countOf, dataOf, isBefore, worstWords}
 
 -- ---- counters
 
@@ -51,15 +51,19 @@ pub record CounterLaws : Type 0 where
 abbrev pub Before : Counts → ℕ → ℕ → Type 0
 Before counts j k = isBefore counts j k ≡ true
 
--- document 01 puts inner word j before inner word k: its count is larger, or equal and its number lower
+-- document 02, A.2, puts inner word j before inner word k: its total is larger; or the totals are equal, and it has more changes at data places ("below place
+-- 1,952"); or both are equal, and its number is higher
 abbrev pub PutFirst : Counts → ℕ → ℕ → Type 0
-PutFirst counts j k = (countOf counts k < countOf counts j) ⊎ ((countOf counts j ≡ countOf counts k) × (j < k))
+PutFirst counts j k =
+    (countOf counts k < countOf counts j)
+    ⊎ ((countOf counts j ≡ countOf counts k)
+    × ((dataOf counts k < dataOf counts j) ⊎ ((dataOf counts j ≡ dataOf counts k) × (k < j))))
 
 -- place i of a list
 abbrev pub placeOf : List ℕ → ℕ → ℕ
 placeOf list i = getD list i 64
 
--- what document 01 asks of the worst list of counts, where a count is that of data places and parity places together (document 02, A.1)
+-- what document 01 asks of the worst list of counts, where a count is that of data places and parity places together (document 02, A.1), and the order A.2's
 pub record Worst (counts : Counts) (list : List ℕ) : Type 0 where
   -- eight places, each empty or with an inner word whose count is above 0
   pub eight : length list ≡ 8
@@ -73,13 +77,13 @@ pub record Worst (counts : Counts) (list : List ℕ) : Type 0 where
       (i : ℕ) → i < 8 → (placeOf list i < 64) × Before counts (placeOf list i) k
 
 pub record WorstLaws : Type 0 where
-  -- the order is document 01's: what stands before is what it puts first, and nothing else
+  -- the order is document 02's: what stands before is what it puts first, and nothing else
   pub order : (counts : Counts) (j k : ℕ) → (Before counts j k → PutFirst counts j k) × (PutFirst counts j k → Before counts j k)
   -- it is a strict total order: nothing stands before itself, what stands before one stands before all that follow it, and of any two one stands before the other
   pub irreflexive : (counts : Counts) (k : ℕ) → Before counts k k → ⊥
   pub transitive : (counts : Counts) (i j k : ℕ) → Before counts i j → Before counts j k → Before counts i k
   pub comparable : (counts : Counts) (j k : ℕ) → (j ≡ k → ⊥) → Before counts j k ⊎ Before counts k j
-  -- the list is what document 01 asks for
+  -- the list is what the two documents ask for
   pub worst : (counts : Counts) → Worst counts (worstWords counts)
   -- and there is no other such list
   pub only : (counts : Counts) (list : List ℕ) → Worst counts list → list ≡ worstWords counts

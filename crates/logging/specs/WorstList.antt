@@ -9,13 +9,23 @@ use lib.ListN.{getD, set, replicate}
 abbrev pub Counts : Type 0
 Counts = List ℕ × List ℕ
 
--- the count of inner word k, of data places and parity places together; 64, an empty place, has none
-unfoldable pub countOf : Counts → ℕ → ℕ
-countOf counts k = cond (ltb k 64) (getD (counts .0) k 0 + getD (counts .1) k 0) 0
+-- what one of the two lists has for inner word k; 64, an empty place, has none
+unfoldable pub countIn : List ℕ → ℕ → ℕ
+countIn list k = cond (ltb k 64) (getD list k 0) 0
 
--- the order: inner word j stands before inner word k if its count is larger, or equal and its number lower
+-- the count of inner word k, of data places and parity places together ("total"); and that of its data places alone
+unfoldable pub countOf : Counts → ℕ → ℕ
+countOf counts k = countIn (counts .0) k + countIn (counts .1) k
+
+abbrev pub dataOf : Counts → ℕ → ℕ
+dataOf counts k = countIn (counts .0) k
+
+-- the order: inner word j stands before inner word k if its count is larger; or equal, and that of its data places larger; or both equal, and its number higher
 unfoldable pub isBefore : Counts → ℕ → ℕ → Bool
-isBefore counts j k = ltb (countOf counts k) (countOf counts j) || (eqb (countOf counts j) (countOf counts k) && ltb j k)
+isBefore counts j k =
+    ltb (countOf counts k) (countOf counts j)
+    || (eqb (countOf counts j) (countOf counts k)
+    && (ltb (dataOf counts k) (dataOf counts j) || (eqb (dataOf counts j) (dataOf counts k) && ltb k j)))
 
 -- inner word k can be listed next: its count is above 0, and it is not listed yet
 unfoldable pub isOpen : Counts → List Bool → ℕ → Bool

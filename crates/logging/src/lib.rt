@@ -9,7 +9,7 @@ ghost use mathlib.Core.Bool.{cond};
 ghost use Prim.Native.Nat.{_+_, _≤_};
 ghost use lib.Dec.{eqb};
 ghost use Rattle.logging.specs.Counting.{limited, cleared, counted};
-ghost use Rattle.logging.specs.WorstList.{countOf, isBefore, isOpen, earlier, firstOpen, worstWords};
+ghost use Rattle.logging.specs.WorstList.{countIn, countOf, isBefore, isOpen, earlier, firstOpen, worstWords};
 
 // What the corrector's answers since the last clearing add up to ("tally"). Each number stops at the largest that it can be.
 pub struct Counters {
@@ -88,18 +88,26 @@ fn wide(n: u16) -> u32
     n as u32
 }
 
-// The count of inner word k, of data places and parity places together; an empty place has none.
-fn count(data: &[u16; Frame::INNER_WORDS], parity: &[u16; Frame::INNER_WORDS], k: usize) -> u32
-    ensures { λ r. ⌜ r ≡ countOf (now («data» .entry), now (parity .entry)) k ⌝ }
+// What one list of counts has for inner word k; an empty place has none.
+fn count_in(list: &[u16; Frame::INNER_WORDS], k: usize) -> u32
+    ensures { λ r. ⌜ (r ≡ countIn (now (list .entry)) k) × (r ≤ 65535) ⌝ }
 {
     if k < Frame::INNER_WORDS {
-        wide(data[k]) + wide(parity[k])
+        wide(list[k])
     } else {
         0
     }
 }
 
-// The order of the list: inner word j stands before inner word k if its count is larger, or equal and its number lower.
+// The count of inner word k, of data places and parity places together.
+fn count(data: &[u16; Frame::INNER_WORDS], parity: &[u16; Frame::INNER_WORDS], k: usize) -> u32
+    ensures { λ r. ⌜ r ≡ countOf (now («data» .entry), now (parity .entry)) k ⌝ }
+{
+    count_in(data, k) + count_in(parity, k)
+}
+
+// The order of the list: inner word j stands before inner word k if its count is larger; or equal, and that of its data places larger; or both equal, and its
+// number higher.
 fn is_before(
     data: &[u16; Frame::INNER_WORDS],
     parity: &[u16; Frame::INNER_WORDS],
@@ -110,13 +118,15 @@ fn is_before(
 {
     let of_j = count(data, parity, j);
     let of_k = count(data, parity, k);
-    if of_k < of_j {
-        return true;
+    let data_j = count_in(data, j);
+    let data_k = count_in(data, k);
+    if of_j != of_k {
+        return of_k < of_j;
     }
-    if of_j == of_k {
-        return j < k;
+    if data_j != data_k {
+        return data_k < data_j;
     }
-    false
+    k < j
 }
 
 // Inner word k can be listed next: its count is above 0, and it is not listed yet.

@@ -1,9 +1,10 @@
 -- Document 03 on the tally and the worst list: its definitions as it writes them, but that its structs are ours: `Tally` with taken, beyond and mended is
--- `Counters` with frames, uncorrectable and bits, the number of a `Report` is its refusal, and its counts are data plus parity. Assumes nothing.
+-- `Counters` with frames, uncorrectable and bits, the number of a `Report` is its refusal, and its counts are data plus parity. `WithoutTies` is not its own: document
+-- 02, A.2, has another order of equal counts. Assumes nothing.
 use mathlib.Core.Path.{_≡_}
 use mathlib.Core.Bool.{_&&_, _||_, not}
 use mathlib.Core.List.{List, [], _∷_}
-use Prim.Native.Nat.{ℕ, zero, suc, _+_}
+use Prim.Native.Nat.{ℕ, zero, suc, _+_, _<_}
 use lib.Dec.{eqb, ltb, leb}
 use lib.ListN.{getD}
 use Rattle.frames.specs.declared.Report.{Report}
@@ -39,3 +40,7 @@ counts r = together (r .«data») (r .parity)
 
 abbrev pub WorstSays : Report → List ℕ → Type 0
 WorstSays r ws = ws ≡ worstOf 8 (counts r) []
+
+-- the counts above 0 are different
+abbrev pub WithoutTies : List ℕ → Type 0
+WithoutTies cs = (j k : ℕ) → j < k → k < 64 → 0 < getD cs k 0 → getD cs j 0 ≡ getD cs k 0 → ⊥

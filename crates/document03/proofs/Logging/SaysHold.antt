@@ -14,7 +14,7 @@ use Rattle.logging.specs.WorstList.{worstWords}
 use Rattle.document03.proofs.Fields.{pick}
 use Rattle.document03.proofs.Words.Statements.{when}
 use Rattle.document03.proofs.Logging.WorstListAgrees.{list-agrees}
-use Rattle.document03.proofs.Logging.Says.{top32, lesser, ClearSays, CountSays, WorstSays}
+use Rattle.document03.proofs.Logging.Says.{top32, lesser, ClearSays, CountSays, counts, WorstSays, WithoutTies}
 
 -- ---- the tally
 
@@ -51,7 +51,8 @@ count-says t r u e =
 
 -- ---- the worst list
 
-pub worst-says : (r : Report) (ws : List ℕ) → ws ≡ worstWords (r .«data», r .parity) → WorstSays r ws
+-- where no two counts above 0 are equal
+pub worst-says : (r : Report) (ws : List ℕ) → ws ≡ worstWords (r .«data», r .parity) → WithoutTies (counts r) → WorstSays r ws
 unfolding worstWords
-worst-says r ws e =
-    e ∙ sym (list-agrees 8 (r .«data», r .parity) [] (replicate 65 false) (length-replicate 65 false, λ k l. getD-replicate 65 k false false (omega arith)))
+worst-says r ws e differ =
+    e ∙ sym (list-agrees (r .«data», r .parity) differ 8 [] (replicate 65 false) (length-replicate 65 false, λ k l. getD-replicate 65 k false false (omega arith)))

@@ -1,48 +1,43 @@
--- Document 03's worst list is ours. It has the words that are taken, where ours has a mark for each word that is listed. Assumes nothing.
-use mathlib.Core.Path.{_≡_, refl, sym, ap, ap₂, _∙_}
+-- Document 03's worst list is ours where no two counts above 0 are equal. It has the words that are taken, where ours has a mark for each word that is listed.
+-- Assumes nothing.
+use mathlib.Core.Path.{_≡_, refl, sym, ap, _∙_}
 use mathlib.Core.Logic.{_⊎_, inl, inr, ⊎-elim}
 use mathlib.Core.Bool.{Bool, true, false, _&&_, _||_, not, cond, and-assoc, and-comm}
 use mathlib.Core.List.{List, _∷_}
 use Prim.Native.Nat.{ℕ, zero, suc, _+_, _≤_, _<_}
-use native.Mathlib.Decide.{decLt}
 use native.Mathlib.Nat.{le-refl}
 use native.Mathlib.Omega.{arith}
-use borrow.Author.Tests.{eq-eqb, eqb-true, eqb-false, lt-ltb, le-ltb}
+use borrow.Author.Tests.{eq-eqb, eqb-true, eqb-false, leb-true}
 use lib.Dec.{eqb, ltb, leb}
 use lib.ListN.{length, getD, set, length-set}
 use lib.Seq.{getD-set-same, getD-set-other}
 use Rattle.logging.specs.WorstList.{Counts, countOf, isBefore, isOpen, earlier, firstOpen}
 use Rattle.logging.specs.WorstList as WorstList
-use Rattle.logging.proofs.Order.{count-inside, in-words}
+use Rattle.logging.proofs.Order.{count-inside, count-together, before-count}
 use Rattle.logging.proofs.WorstOfAll.{top}
 use Rattle.document03.proofs.Counts.{together, together-at}
 use Rattle.document03.proofs.Fields.{pick, isIn}
-use Rattle.document03.proofs.Logging.Says.{worstFrom, worstOf}
+use Rattle.document03.proofs.Logging.Says.{worstFrom, worstOf, WithoutTies}
 
 -- the marks where some words are taken
 abbrev Marks : List ℕ → List Bool → Type 0
 Marks taken listed = (length listed ≡ 65) × ((k : ℕ) → k < 64 → getD listed k false ≡ isIn k taken)
 
-module _ (cs : Counts) (taken : List ℕ) (listed : List Bool) (marks : Marks taken listed) where
+module _ (cs : Counts) (differ : WithoutTies (together (cs .0) (cs .1))) (taken : List ℕ) (listed : List Bool) (marks : Marks taken listed) where
   -- its counts
   abbrev xs : List ℕ
   xs = together (cs .0) (cs .1)
 
   count-at : (k : ℕ) → k < 64 → getD xs k 0 ≡ countOf cs k
-  count-at k h = together-at (cs .0) (cs .1) k h ∙ count-inside cs k _ _ h refl refl
+  count-at k h = together-at (cs .0) (cs .1) k h ∙ count-together cs k _ _ (count-inside (cs .0) k _ h refl) (count-inside (cs .1) k _ h refl)
 
   -- its test of word k against the best so far
   abbrev Test : ℕ → ℕ → Bool
   Test best k = not (isIn k taken) && (leb 1 (getD xs k 0) && (eqb best 64 || ltb (getD xs best 0) (getD xs k 0)))
 
-  -- it looks at the words by their numbers, so that one it comes to stands before an earlier one only by a larger count
-  later-before : (j k : ℕ) → j < k → k < 64 → isBefore cs k j ≡ ltb (getD xs j 0) (getD xs k 0)
-  later-before j k l h = rw (count-at j (omega arith), count-at k h) (go (isBefore cs k j) refl (decLt (countOf cs j) (countOf cs k)))
-    where
-      go : (t : Bool) → isBefore cs k j ≡ t → Dec (countOf cs j < countOf cs k) → isBefore cs k j ≡ ltb (countOf cs j) (countOf cs k)
-      go t e (yes larger) = in-words cs k j .1 (inl larger) ∙ sym (lt-ltb (countOf cs j) (countOf cs k) larger)
-      go true e (no g) = ⊎-elim (λ larger. absurd (g larger)) (λ p. absurd (omega (arith, p .1))) (in-words cs k j .0 e)
-      go false e (no g) = e ∙ sym (le-ltb (countOf cs j) (countOf cs k) (omega arith))
+  -- of two words one stands before the other by its count alone, as no two above 0 are equal
+  later-before : (j k : ℕ) → j < k → k < 64 → 0 < getD xs k 0 → isBefore cs k j ≡ ltb (getD xs j 0) (getD xs k 0)
+  later-before j k l h some = sym (before-count cs k j _ _ (count-at k h) (count-at j (omega arith)) (λ e. differ j k l h some (sym e)))
 
   -- what can be listed
   open-agrees : (k : ℕ) → k < 64 → isOpen cs listed k ≡ (not (isIn k taken) && leb 1 (getD xs k 0))
@@ -51,11 +46,17 @@ module _ (cs : Counts) (taken : List ℕ) (listed : List Bool) (marks : Marks ta
 
   test-agrees : (b k : ℕ) → (b ≡ 64) ⊎ (b < k) → k < 64 → (isOpen cs listed k && (eqb b 64 || isBefore cs k b)) ≡ Test b k
   test-agrees b k best h =
-      ap₂ _&&_ (open-agrees k h) (place best) ∙ and-assoc (not (isIn k taken)) (leb 1 (getD xs k 0)) (eqb b 64 || ltb (getD xs b 0) (getD xs k 0))
+      ap (λ (t : Bool). t && (eqb b 64 || isBefore cs k b)) (open-agrees k h)
+      ∙ and-assoc (not (isIn k taken)) (leb 1 (getD xs k 0)) (eqb b 64 || isBefore cs k b)
+      ∙ ap (λ (t : Bool). not (isIn k taken) && t) (counted (leb 1 (getD xs k 0)) refl)
     where
-      place : (b ≡ 64) ⊎ (b < k) → (eqb b 64 || isBefore cs k b) ≡ (eqb b 64 || ltb (getD xs b 0) (getD xs k 0))
-      place (inl empty) = rw (eq-eqb b 64 empty)
-      place (inr l) = ap (λ (t : Bool). eqb b 64 || t) (later-before b k l h)
+      place : (b ≡ 64) ⊎ (b < k) → 0 < getD xs k 0 → (eqb b 64 || isBefore cs k b) ≡ (eqb b 64 || ltb (getD xs b 0) (getD xs k 0))
+      place (inl empty) some = rw (eq-eqb b 64 empty)
+      place (inr l) some = ap (λ (t : Bool). eqb b 64 || t) (later-before b k l h some)
+
+      counted : (t : Bool) → leb 1 (getD xs k 0) ≡ t → (t && (eqb b 64 || isBefore cs k b)) ≡ (t && (eqb b 64 || ltb (getD xs b 0) (getD xs k 0)))
+      counted true e = place best (leb-true 1 (getD xs k 0) e)
+      counted false e = refl
 
   pick-earlier : (b k : ℕ) → (b ≡ 64) ⊎ (b < k) → k < 64 → pick (Test b k) k b ≡ earlier cs listed b k
   unfolding earlier
@@ -89,10 +90,11 @@ module _ (cs : Counts) (taken : List ℕ) (listed : List Bool) (marks : Marks ta
           ap (λ (j : ℕ). getD (set listed w true) j false) is ∙ getD-set-same listed w true false (omega (arith, marks .0, is))
       go k h false e = getD-set-other listed w k true false (eqb-false k w e) ∙ marks .1 k h
 
-pub list-agrees : (n : ℕ) (cs : Counts) (taken : List ℕ) (listed : List Bool) → Marks taken listed → worstOf n (together (cs .0) (cs .1)) taken ≡ WorstList.worstFrom n cs listed
-unfolding WorstList.worstFrom
-list-agrees zero cs taken listed marks = refl
-list-agrees (suc n) cs taken listed marks =
-    let w = firstOpen cs listed 64 in
-    rw (word-agrees cs taken listed marks)
-    (ap (λ (rest : List ℕ). w ∷ rest) (list-agrees n cs (w ∷ taken) (set listed w true) (marks-next cs taken listed marks w)))
+module _ (cs : Counts) (differ : WithoutTies (together (cs .0) (cs .1))) where
+  pub list-agrees : (n : ℕ) (taken : List ℕ) (listed : List Bool) → Marks taken listed → worstOf n (together (cs .0) (cs .1)) taken ≡ WorstList.worstFrom n cs listed
+  unfolding WorstList.worstFrom
+  list-agrees zero taken listed marks = refl
+  list-agrees (suc n) taken listed marks =
+      let w = firstOpen cs listed 64 in
+      rw (word-agrees cs differ taken listed marks)
+      (ap (λ (rest : List ℕ). w ∷ rest) (list-agrees n (w ∷ taken) (set listed w true) (marks-next cs differ taken listed marks w)))

@@ -1,3 +1,4 @@
 -- What the exported functions give.
 pub mod Chains
+pub mod Lists
 pub mod Packed

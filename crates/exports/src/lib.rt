@@ -1,6 +1,9 @@
 // What the programs of tests/ and bench/ call and a terminal does not, exported for C and Rust: the entries on single words, the corrector with its report,
-// and chains of products through tables that are bound once and lent. An answer of more than one number comes packed into one.
+// the worst list of any counts, and chains of products through tables that are bound once and lent. An answer of more than one number comes packed into one,
+// and a list in a buffer that is lent.
 use decoding::symbols;
+use frames::Frame;
+use frames::Report;
 use words::Correction;
 use words::InnerCorrection;
 ghost use mathlib.Core.Path.{_≡_};
@@ -9,6 +12,7 @@ ghost use Rattle.fields.specs.Elements.{powersA, exponentsA, powersB, exponents
 ghost use Rattle.words.specs.Answers.{outerChecked, outerEncoded, innerChecked, innerEncoded, refusalOf, changedOf, innerRefusalOf, dataChangedOf, parityChangedOf, outerCorrected, innerCorrected};
 ghost use Rattle.frames.specs.Answers.{frameCorrected};
 ghost use Rattle.exports.specs.Chains.{chain};
+ghost use Rattle.exports.specs.Lists.{listedWords};
 ghost use Rattle.exports.specs.Packed.{packed, packedWord, packedInner, packedFrame};
 
 #[no_mangle]
@@ -92,6 +96,25 @@ pub extern "C" fn exports_correct_frame(
     symbols::copy(&in_data, data);
     symbols::copy(&in_parity, parity);
     256 * report.sum as u64 + report.refusal as u64
+}
+
+// The worst list of a report with these counts of data places and of parity places, of which there are 64 each, or they stand for zeros; written if there is
+// place for exactly eight.
+#[no_mangle]
+pub extern "C" fn exports_worst_words(data: &[u16], parity: &[u16], list: &mut [u8])
+    ensures { λ _. ⌜ now (list .exit) ≡ listedWords (now («data» .entry)) (now (parity .entry)) (now (list .entry)) ⌝ }
+{
+    let mut in_data = [0u16; Frame::INNER_WORDS];
+    let mut in_parity = [0u16; Frame::INNER_WORDS];
+    symbols::copy(data, &mut in_data);
+    symbols::copy(parity, &mut in_parity);
+    let words = logging::worst_words(Report {
+        refusal: 0,
+        data: in_data,
+        parity: in_parity,
+        sum: 0,
+    });
+    symbols::copy_bytes(&words, list);
 }
 
 fn products(exp: &[u16], log: &[u16], x: u16, y: u16, n: u32) -> u16

@@ -339,6 +339,47 @@ static void inner_words(void)
 	}
 }
 
+// ---- worst list
+
+enum { LISTED = 8, EMPTY = INNER };
+
+// of ten inner words; no two have as many places together, or as many of one kind above 0
+static const uint16_t data_places[INNER] = { [5] = 40, [8] = 3, [9] = 2, [17] = 12, [30] = 60, [33] = 7, [41] = 5, [63] = 1952 };
+static const uint16_t parity_places[INNER] = { [0] = 87, [5] = 10, [17] = 60, [33] = 2, [41] = 3, [52] = 30, [63] = 88 };
+
+// the list if there are 64 counts of neither kind, of parity places alone, of data places alone, of both
+static const uint8_t listed[2][2][LISTED] = {
+	{ { EMPTY, EMPTY, EMPTY, EMPTY, EMPTY, EMPTY, EMPTY, EMPTY }, { 63, 0, 17, 52, 5, 41, 33, EMPTY } },
+	{ { 63, 30, 5, 17, 33, 41, 8, 9 }, { 63, 0, 17, 30, 5, 52, 33, 41 } },
+};
+
+// so many counts of data places and of parity places, and places of the list
+static void worst_words(size_t n, size_t m, size_t space)
+{
+	struct lent data = lend_input(data_places, sizeof data_places, 2 * n), parity = lend_input(parity_places, sizeof parity_places, 2 * m);
+	struct lent list = lend_output(space);
+	exports_worst_words((uint16_t *)data.bytes, n, (uint16_t *)parity.bytes, m, list.bytes, space);
+	expect(kept(data) && kept(parity), "counts of a worst list", n, m);
+	if (space == LISTED)
+		expect(memcmp(list.bytes, listed[n == INNER][m == INNER], LISTED) == 0, "worst list", n, m);
+	else
+		expect(untouched(list), "worst list", n, space);
+	give_back(data);
+	give_back(parity);
+	give_back(list);
+	calls++;
+}
+
+// As many counts and places as there should be, none, one less and one more.
+static void worst_lists(void)
+{
+	static const size_t counts[] = { INNER, 0, INNER - 1, INNER + 1 }, places[] = { LISTED, 0, LISTED - 1, LISTED + 1 };
+	for (int i = 0; i < 4; i++)
+		for (int k = 0; k < 4; k++)
+			for (int p = 0; p < 4; p++)
+				worst_words(counts[i], counts[k], places[p]);
+}
+
 int main(int argc, char **argv)
 {
 	pages = argc > 1 && strcmp(argv[1], "pages") == 0;
@@ -347,6 +388,7 @@ int main(int argc, char **argv)
 		any_contents();
 		outer_words();
 		inner_words();
+		worst_lists();
 	}
 	printf("entries: %u calls on buffers from %s as expected\n", calls, pages ? "pages" : "malloc");
 	return 0;

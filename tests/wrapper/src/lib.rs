@@ -1,5 +1,6 @@
-//! The proved library for programs in Rust: its entries on frames, from the archive that a terminal links (`libframes.a`), and those on single words and the
-//! corrector with its report, which an archive of their own exports for tests (`libexports.a`). Buffers are slices, and every answer is a value or a refusal.
+//! The proved library for programs in Rust: its entries on frames, from the archive that a terminal links (`libframes.a`), and those on single words, the
+//! corrector with its report and the worst list, which an archive of their own exports for tests (`libexports.a`). Buffers are slices, and every answer is a
+//! value or a refusal.
 //!
 //! Each call is safe for all slices: the library takes any length, reads and writes within the slices that it is lent, writes nothing that is lent as `&`,
 //! keeps no state and no pointer, and does not unwind. A `&` and a `&mut` slice of a call never overlap, which is what the entries ask of their caller.
@@ -154,6 +155,21 @@ pub mod words {
     }
 }
 
+/// What is logged of a report.
+pub mod logging {
+    pub const LISTED: usize = 8;
+
+    extern "C" {
+        fn exports_worst_words(data: *const u16, data_len: usize, parity: *const u16, parity_len: usize, list: *mut u8, list_len: usize);
+    }
+
+    /// Writes the worst list of a report with these counts of data places and of parity places, of which there are 64 each, or they stand for zeros. The list
+    /// is written only if it has exactly eight places.
+    pub fn worst_words(data: &[u16], parity: &[u16], list: &mut [u8]) {
+        unsafe { exports_worst_words(data.as_ptr(), data.len(), parity.as_ptr(), parity.len(), list.as_mut_ptr(), list.len()) }
+    }
+}
+
 #[cfg(test)]
 mod tests {
     use super::*;
@@ -177,6 +193,18 @@ mod tests {
         let mut out = [9; 255];
         assert_eq!(words::correct_inner(&inverted(&[0; 255], [0, 1_951, 1_952]), &mut out), Ok((2, 1)));
         assert_eq!(out, [0; 255]);
+    }
+
+    #[test]
+    fn worst_lists_of_a_few_counts() {
+        let (mut data, mut parity, mut list) = ([0; frames::INNER_WORDS], [0; frames::INNER_WORDS], [9; logging::LISTED]);
+        (data[0], data[37], parity[0], parity[63]) = (2, 8, 9, 88);
+        logging::worst_words(&data, &parity, &mut list[1..]);
+        assert_eq!(list, [9; logging::LISTED]);
+        logging::worst_words(&data, &parity, &mut list);
+        assert_eq!(list, [63, 0, 37, 64, 64, 64, 64, 64]);
+        logging::worst_words(&data, &parity[1..], &mut list);
+        assert_eq!(list, [37, 0, 64, 64, 64, 64, 64, 64]);
     }
 
     #[test]

@@ -44,13 +44,14 @@ impl Counters {
     }
 }
 
-/// The inner words with a changed place, most changes first, data places and
-/// parity places together, equal ones by the lower number, as far as there are
-/// places in the list; empty places hold 64.
+/// The inner words with a changed place, as far as there are places in the list.
+/// Most changes come first, data places and parity places together; of equal
+/// totals the word with more changed data places; of words equal in both the
+/// higher number. Empty places hold 64.
 pub fn worst_words(changes: &[Changes; INNER_WORDS]) -> [u8; LISTED] {
-    let total = |k: u8| changes[usize::from(k)].total();
-    let mut words: Vec<u8> = (0..EMPTY).filter(|&k| total(k) > 0).collect();
-    words.sort_by_key(|&k| (Reverse(total(k)), k));
+    let of = |k: u8| changes[usize::from(k)];
+    let mut words: Vec<u8> = (0..EMPTY).filter(|&k| of(k).total() > 0).collect();
+    words.sort_by_key(|&k| Reverse((of(k).total(), of(k).data, k)));
     let mut list = [EMPTY; LISTED];
     for (place, word) in list.iter_mut().zip(words) {
         *place = word;

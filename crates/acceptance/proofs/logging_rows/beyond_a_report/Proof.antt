@@ -31,11 +31,17 @@ array-write-data c = search needs
 mul-parity : tie.Need-mul-parity Inv-loop μ-loop
 mul-parity c = search needs
 
+mul-parity-2 : tie.Need-mul-parity-2 Inv-loop μ-loop
+mul-parity-2 c = search needs
+
+add-parity : tie.Need-add-parity Inv-loop μ-loop
+add-parity c = search needs
+
 cast-parity : tie.Need-cast-parity Inv-loop μ-loop
 cast-parity c = search needs
 
-mul-parity-2 : tie.Need-mul-parity-2 Inv-loop μ-loop
-mul-parity-2 c = search needs
+mul-parity-3 : tie.Need-mul-parity-3 Inv-loop μ-loop
+mul-parity-3 c = search needs
 
 array-write-parity : tie.Need-array-write-parity Inv-loop μ-loop
 array-write-parity c = search needs
@@ -65,8 +71,10 @@ beyond-a-report-spec =
     mul-data-2
     array-write-data
     mul-parity
-    cast-parity
     mul-parity-2
+    add-parity
+    cast-parity
+    mul-parity-3
     array-write-parity
     add-k
     loop-less

@@ -19,6 +19,7 @@ pub fn write_all(folder: &Path) {
     correctable(folder, "outer_pass", &sent, &spread());
     correctable(folder, "parity_places", &sent, &parity_places());
     correctable(folder, "data_and_parity", &sent, &data_and_parity());
+    correctable(folder, "ties", &sent, &ties());
     // nine wrong bits of inner word 37 stand in nine symbols of outer word 7
     assert!(far::nine_in_frame(&burst(513)));
     refusal(folder, "uncorrectable", &inverted(&sent, burst(513)), UNCORRECTABLE);
@@ -59,6 +60,14 @@ fn parity_places() -> Vec<usize> {
 fn data_and_parity() -> Vec<usize> {
     let words = [(2, 5, 0), (7, 3, 0), (11, 0, 6), (20, 3, 4), (29, 9, 4), (33, 0, 5), (38, 0, 3), (47, 2, 2), (50, 3, 2), (56, 1, 1)];
     words.into_iter().flat_map(at_the_border).collect()
+}
+
+/// Fifteen inner words: two with six wrong bits, twelve with four, one with three. The list ends among five of the twelve that have equally many data places.
+/// Inner word 58 has more data places than most, and the smallest total.
+fn ties() -> Vec<usize> {
+    let six = [(6, 1, 5), (44, 0, 6)];
+    let four = [(9, 4, 0), (15, 3, 1), (48, 3, 1), (1, 2, 2), (20, 2, 2), (26, 2, 2), (35, 2, 2), (52, 2, 2), (40, 1, 3), (63, 1, 3), (31, 0, 4), (59, 0, 4)];
+    six.into_iter().chain(four).chain([(58, 3, 0)]).flat_map(at_the_border).collect()
 }
 
 /// A frame with wrong bits that the two passes correct.

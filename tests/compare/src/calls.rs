@@ -5,7 +5,7 @@ use cases::random::Random;
 use cases::refusals::{Code::*, Entry, Operation::*};
 use second::{Changes, Corrected};
 use std::fmt::Debug;
-use wrapper::{frames, words, Refusal};
+use wrapper::{frames, logging, words, Refusal};
 
 /// 0 or the refusal's number, on which both sides agree; or what differs.
 pub type Answer = Result<u8, String>;
@@ -69,9 +69,9 @@ pub type Lists = (usize, usize);
 /// Spaces that are right.
 pub const LISTS: Lists = (frames::INNER_WORDS, frames::INNER_WORDS);
 
-/// A list of a report: it is written only if it has exactly 64 places.
-fn compare_list(name: &str, list: &Guarded<u16>, expected: [u16; frames::INNER_WORDS]) -> Result<(), String> {
-    if list.len() == frames::INNER_WORDS {
+/// A list of a report, or the worst list: it is written only if it has exactly as many places.
+fn compare_list<T: Element, const PLACES: usize>(name: &str, list: &Guarded<T>, expected: [T; PLACES]) -> Result<(), String> {
+    if list.len() == PLACES {
         list.holds(name, &expected)
     } else {
         list.kept(name)
@@ -125,6 +125,22 @@ pub fn correct_inner(random: &mut Random, word: &[u8], space: usize) -> Result<R
     let expected = answer.clone().map(|(content, changes)| (content, (u64::from(changes.data), u64::from(changes.parity))));
     compare("correct_inner", word, &mut bytes_before(random, space), expected, words::correct_inner)?;
     Ok(answer)
+}
+
+/// Counts that are not 64 stand for zeros.
+fn counts(lent: &[u16]) -> [u16; frames::INNER_WORDS] {
+    lent.try_into().unwrap_or([0; frames::INNER_WORDS])
+}
+
+/// The worst list of a report with these counts of data places and of parity places, with a space for it.
+pub fn worst_words(random: &mut Random, data: &[u16], parity: &[u16], space: usize) -> Result<(), String> {
+    let (of_data, of_parity) = (counts(data), counts(parity));
+    let expected = second::logging::worst_words(&std::array::from_fn(|k| Changes { data: of_data[k], parity: of_parity[k] }));
+    let (data, parity, mut list) = (Guarded::new(data), Guarded::new(parity), bytes_before(random, space));
+    logging::worst_words(data.slice(), parity.slice(), list.slice_mut());
+    data.kept("the counts of data places")?;
+    parity.kept("the counts of parity places")?;
+    compare_list("the worst list", &list, expected)
 }
 
 /// 0 or the refusal's number.

@@ -66,7 +66,7 @@ pub fn of_space(entry: &Entry, random: &mut Random, space: usize) -> Result<Done
 }
 
 /// A length that is right, near to it, or any up to 20,000.
-fn near(random: &mut Random, right: usize) -> usize {
+pub fn near(random: &mut Random, right: usize) -> usize {
     match random.below(3) {
         0 => right,
         1 => (right + random.below(3)).saturating_sub(1),

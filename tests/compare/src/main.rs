@@ -10,6 +10,7 @@ mod calls;
 mod frames;
 mod guarded;
 mod lengths;
+mod logging;
 mod words;
 
 use cases::random::Random;
@@ -80,6 +81,7 @@ fn groups() -> Vec<Group> {
         group("between-inner", 20_000, 200_000, words::between_inner),
         group("omitted-inner", 20_000, 200_000, words::omitted_inner),
         group("any-inner", 20_000, 200_000, words::any_inner),
+        group("worst-lists", 100_000, 1_000_000, logging::worst_lists),
     ];
     groups.extend(ENTRIES.iter().flat_map(sweeps));
     groups.push(group("lengths-together", 14_000, 140_000, lengths::together));

@@ -51,8 +51,8 @@ pub record CounterLaws : Type 0 where
 abbrev pub Before : Counts → ℕ → ℕ → Type 0
 Before counts j k = isBefore counts j k ≡ true
 
--- document 02, A.2, puts inner word j before inner word k: its total is larger; or the totals are equal, and it has more changes at data places ("below place
--- 1,952"); or both are equal, and its number is higher
+-- document 02, A.2, puts inner word j before inner word k: its count is larger; or the counts are equal, and it has more at data places; or both are equal, and
+-- its number is higher
 abbrev pub PutFirst : Counts → ℕ → ℕ → Type 0
 PutFirst counts j k =
     (countOf counts k < countOf counts j)

@@ -13,7 +13,7 @@ Counts = List ℕ × List ℕ
 unfoldable pub countIn : List ℕ → ℕ → ℕ
 countIn list k = cond (ltb k 64) (getD list k 0) 0
 
--- the count of inner word k, of data places and parity places together ("total"); and that of its data places alone
+-- the count of inner word k, of data places and parity places together ("total"); and that of its data places alone ("changes below place 1,952")
 unfoldable pub countOf : Counts → ℕ → ℕ
 countOf counts k = countIn (counts .0) k + countIn (counts .1) k
 

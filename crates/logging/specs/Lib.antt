@@ -1,4 +1,4 @@
--- Logging: counters ("tally") and worst list, in document 01's order, and what is proved of them.
+-- Logging: counters ("tally"), then the worst list, and what is proved of them.
 pub mod Counting
 pub mod WorstList
 pub mod Laws

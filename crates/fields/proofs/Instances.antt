@@ -1,8 +1,8 @@
--- The two fields, and that their tables are tables of a field. Assumes nothing.
+-- The three fields, that their tables are tables of a field, and the products that pin field C. Assumes nothing.
 use mathlib.Core.Path.{refl}
 use lib.Dec.{lit<}
-use Rattle.fields.specs.Elements.{xor, scale, doubled, powersA, exponentsA, powersB, exponentsB}
-use Rattle.fields.specs.Field.{Field}
+use Rattle.fields.specs.Elements.{xor, scale, doubled, times, timesFrom, powersA, exponentsA, powersB, exponentsB, powersC, exponentsC}
+use Rattle.fields.specs.Field.{Field, PinnedC}
 use Rattle.fields.specs.Steps.ByTables.{FieldTables}
 use Rattle.fields.proofs.Cycle.{Cyclic, cyclic}
 use Rattle.fields.proofs.Laws.{field}
@@ -26,3 +26,17 @@ field-b = field 11 2053 cyclic-b
 
 pub field-tables-b : FieldTables 11 2053 powersB exponentsB
 field-tables-b = record { field = field-b; exp = refl; log = refl }
+
+cyclic-c : Cyclic 8 285
+unfolding doubled scale xor
+cyclic-c = cyclic 8 285 (lit< tt) tt refl
+
+pub field-c : Field 8 285
+field-c = field 8 285 cyclic-c
+
+pub field-tables-c : FieldTables 8 285 powersC exponentsC
+field-tables-c = record { field = field-c; exp = refl; log = refl }
+
+pub pinned-c : PinnedC
+unfolding times timesFrom doubled scale xor
+pinned-c = record { carry = refl; square = refl; half = refl }

@@ -67,3 +67,13 @@ powersB = powers 11 2053
 
 abbrev pub exponentsB : List ℕ
 exponentsB = exponents 11 2053
+
+-- field C: 256 elements, from z^8 + z^4 + z^3 + z^2 + 1
+abbrev pub timesC : ℕ → ℕ → ℕ
+timesC = times 8 285
+
+abbrev pub powersC : List ℕ
+powersC = powers 8 285
+
+abbrev pub exponentsC : List ℕ
+exponentsC = exponents 8 285

@@ -1,8 +1,8 @@
--- What is proved of a field, for any degree m and polynomial p.
+-- What is proved of a field, for any degree m and polynomial p, and products that tell field C from others.
 use mathlib.Core.Path.{_≡_}
 use mathlib.Core.Logic.{_⊎_}
 use Prim.Native.Nat.{ℕ, _+_, _-_, _/_, _%_, _^_, _<_}
-use Rattle.fields.specs.Elements.{xor, times, power, exponent, inverse}
+use Rattle.fields.specs.Elements.{xor, times, power, exponent, inverse, timesC}
 
 -- the numbers below 2^m are a field of characteristic two, in which every element but 0 is a power of 2, once
 pub record Field (m p : ℕ) : Type 0 where
@@ -43,3 +43,9 @@ pub record Field (m p : ℕ) : Type 0 where
   -- products add exponents; an inverse has the opposite exponent
   pub times-exponents : (x y : ℕ) → 0 < x → x < 2 ^ m → 0 < y → y < 2 ^ m → times m p x y ≡ power m p (exponent m p x + exponent m p y)
   pub inverse-exponent : (x : ℕ) → 0 < x → x < 2 ^ m → inverse m p x ≡ power m p (2 ^ m - 1 - exponent m p x)
+
+-- field C by its products: all of the above holds for other polynomials of degree 8 as well, and these do not
+pub record PinnedC : Type 0 where
+  pub carry : timesC 128 2 ≡ 29
+  pub square : timesC 255 255 ≡ 226
+  pub half : timesC 142 2 ≡ 1

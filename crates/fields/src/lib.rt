@@ -6,11 +6,11 @@
 // so that one text serves every field. An operand stands for the element that its low m bits are, so that every u16 is answered; tables of
 // any other content and length are answered too, as `by_table` and `by_tables` say, and never read out of range.
 //
-// exp_a, log_a, exp_b and log_b hand the tables out by value. A caller binds them once and lends them on: what it lends is not copied again.
+// exp_a, log_a and those of fields B and C hand the tables out by value. A caller binds them once and lends them on: what it lends is not copied again.
 ghost use mathlib.Core.Path.{_≡_};
 ghost use Prim.Native.Nat.{ℕ, _-_, _%_, _^_, _<_};
 ghost use lib.ListN.{length, getD};
-ghost use Rattle.fields.specs.Elements.{times, power, inverse, powers, powersA, exponentsA, powersB, exponentsB};
+ghost use Rattle.fields.specs.Elements.{times, power, inverse, powers, powersA, exponentsA, powersB, exponentsB, powersC, exponentsC};
 ghost use Rattle.fields.specs.Field.{Field};
 ghost use Rattle.fields.specs.Steps.ByTables.{placeIn, wrapped, powerNear, tablePower, tableProduct, tableInverse, FieldTables};
 
@@ -40,6 +40,19 @@ pub fn log_b() -> [u16; 2048]
     ensures { λ r. ⌜ r ≡ exponentsB ⌝ }
 {
     tables::log_b::LOG_B
+}
+
+// Field C: 256 elements, from z^8 + z^4 + z^3 + z^2 + 1.
+pub fn exp_c() -> [u16; 255]
+    ensures { λ r. ⌜ r ≡ powersC ⌝ }
+{
+    tables::exp_c::EXP_C
+}
+
+pub fn log_c() -> [u16; 256]
+    ensures { λ r. ⌜ r ≡ exponentsC ⌝ }
+{
+    tables::log_c::LOG_C
 }
 
 // 2 to the i-th.

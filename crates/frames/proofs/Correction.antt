@@ -1,5 +1,4 @@
 -- The two passes of the corrector, what they restore, and the report.
-pub mod Options
 pub mod OuterPass
 pub mod RestoredWords
 pub mod ReportCounts

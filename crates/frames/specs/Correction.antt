@@ -1,8 +1,8 @@
 -- Correction ("mending") of a received block: the outer pass on the result of the inner pass (`innerPass` of words), the restored frame, and the report. Bits are
 -- a function b, as in Frames.
 use mathlib.Core.Bool.{Bool, _&&_, _||_, cond}
-use mathlib.Core.List.{List, [], _∷_}
-use mathlib.Core.Option.{Option, none, some, Option·map}
+use mathlib.Core.List.{List}
+use mathlib.Core.Option.{Option, Option·map}
 use Prim.Native.Nat.{ℕ, _+_, _-_, _*_, _%_}
 use lib.Dec.{eqb, ltb}
 use lib.ListN.{length}
@@ -10,7 +10,7 @@ use Rattle.fields.specs.Lists.{tabulate}
 use Rattle.fields.specs.Places.{at, sumTo, apartBetween}
 use Rattle.words.specs.Bits.{bitAt}
 use Rattle.words.specs.OuterCode.{isOuter}
-use Rattle.words.specs.Nearest.{nearest}
+use Rattle.words.specs.Nearest.{nearest, everyOf}
 use Rattle.words.specs.InnerWords.{innerWord, innerPass}
 use Rattle.frames.specs.Frames.{dataIn, symbolAt, frameOfWords}
 
@@ -38,16 +38,6 @@ outerRestored b w = nearest (isPermitted w) 1024 8 (receivedWord b w)
 
 unfoldable pub outerPass : (ℕ → ℕ) → List (Option (List ℕ))
 outerPass b = tabulate 16 (outerRestored b)
-
--- all answers of a list; none, if one is missing
-unfoldable pub consTo : {A : Type 0} → Option A → Option (List A) → Option (List A)
-consTo none rest = none
-consTo (some a) none = none
-consTo (some a) (some rest) = some (a ∷ rest)
-
-unfoldable pub everyOf : {A : Type 0} → List (Option A) → Option (List A)
-everyOf [] = some []
-everyOf (o ∷ os) = consTo o (everyOf os)
 
 -- the frame of the sixteen words that an outer pass over the bits b restores, with parity bits made afresh; none, if some word has none
 unfoldable pub outerFrame : (ℕ → ℕ) → Option (List ℕ)

@@ -4,6 +4,7 @@ pub mod ShiftedBits
 pub mod BinaryRegister
 pub mod TableValues
 pub mod Division
+pub mod Options
 pub mod Nearest
 pub mod GeneratorRoots
 pub mod ReedSolomon

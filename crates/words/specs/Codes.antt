@@ -25,7 +25,10 @@ pub record ReedSolomon (m p first roots : ℕ) : Type 0 where
   -- the distance is above the number of roots: code words of one length below 2^m that differ in at most so many symbols are the same
   pub code-far : (c d : List ℕ) → isCodeWord m p first roots c ≡ true → isCodeWord m p first roots d ≡ true → length c ≡ length d → length c < 2 ^ m →
       apart c d ≤ roots → c ≡ d
-  -- so a word has at most one code word within a radius of half as many symbols, and that is found
+  -- so different ones differ in more symbols than there are roots: the minimum distance, for a field of any size and any word length below it
+  pub distance : (c d : List ℕ) → isCodeWord m p first roots c ≡ true → isCodeWord m p first roots d ≡ true → length c ≡ length d → length c < 2 ^ m →
+      (c ≡ d → ⊥) → suc roots ≤ apart c d
+  -- and a word has at most one code word within a radius of half as many symbols, and that is found
   pub code-nearest : (t n : ℕ) → 2 * t ≤ roots → n < 2 ^ m → Decodes (isCodeWord m p first roots) (2 ^ m) t n
 
 pub record Codes : Type 0 where
@@ -35,6 +38,8 @@ pub record Codes : Type 0 where
   pub outer-length : (d : List ℕ) → length (outerParity d) ≡ 16
   pub outer-made : (d : List ℕ) → allBelow 1024 d ≡ true → isOuter (d ++ outerParity d) ≡ true
   pub outer-only : (d q : List ℕ) → length d ≤ 1007 → length q ≡ 16 → isOuter (d ++ q) ≡ true → q ≡ outerParity d
+  -- different outer code words of one length differ in at least 17 symbols: the distance above, with its parameters
+  pub outer-distance : (c d : List ℕ) → isOuter c ≡ true → isOuter d ≡ true → length c ≡ length d → length c < 1024 → (c ≡ d → ⊥) → 17 ≤ apart c d
   -- outer code words of one length that differ in at most 16 symbols are the same
   pub outer-far : (c d : List ℕ) → isOuter c ≡ true → isOuter d ≡ true → length c ≡ length d → length c ≤ 1023 → apart c d ≤ 16 → c ≡ d
   -- so a word has at most one outer code word within eight symbols, and that is found

@@ -44,3 +44,13 @@ nearest = nearestBy apart
 
 abbrev pub Decodes : (List ℕ → Bool) → ℕ → ℕ → ℕ → Type 0
 Decodes = DecodesBy apart
+
+-- all answers of a list; none, if one is missing
+unfoldable pub consTo : {A : Type 0} → Option A → Option (List A) → Option (List A)
+consTo none rest = none
+consTo (some a) none = none
+consTo (some a) (some rest) = some (a ∷ rest)
+
+unfoldable pub everyOf : {A : Type 0} → List (Option A) → Option (List A)
+everyOf [] = some []
+everyOf (o ∷ os) = consTo o (everyOf os)

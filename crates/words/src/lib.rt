@@ -23,7 +23,7 @@ pub mod corrector;
 pub mod digit_table;
 mod division;
 pub mod packed;
-mod reed_solomon;
+pub mod reed_solomon;
 pub mod wrong_places;
 
 // The outer code. Lengths are counted in symbols.
@@ -71,7 +71,7 @@ impl Inner {
     pub const RADIUS: usize = decoding::RADIUS;
 }
 
-// What the correction of an outer word answers: how many symbols it changed, or the refusal's number.
+// What the correction of Reed-Solomon words answers: how many symbols it changed, or the refusal's number.
 pub enum Correction {
     Corrected { changed: u16 },
     Refused { number: u8 },

@@ -42,7 +42,7 @@ fn value(exp: &[u16], log: &[u16], word: &[u16], x: u16) -> u16
 }
 
 // The word's values at the sixteen roots a^0 to a^15.
-pub(crate) fn root_values(exp: &[u16], log: &[u16], word: &[u16]) -> [u16; Outer::PARITY]
+pub fn root_values(exp: &[u16], log: &[u16], word: &[u16]) -> [u16; Outer::PARITY]
     ensures { λ r. ⌜ r ≡ rootValues (now (exp .entry)) (now (log .entry)) (now (word .entry)) ⌝ }
 {
     let mut values = [0u16; Outer::PARITY];

@@ -17,7 +17,7 @@ use Rattle.inner_words.proofs.Interleaving.InterleavedBits.{inner-word-length}
 use Rattle.frames.specs.Frames as Frames
 use Rattle.frames.specs.Correction.{restoredFrame}
 use Rattle.frames.specs.Demands.{Restored, Premise}
-use Rattle.frames.proofs.Correction.Options.{some-same, some-not-none}
+use Rattle.words.proofs.Codes.Options.{some-same, some-not-none}
 use Rattle.frames.proofs.Correction.ReportCounts.{wrong-in}
 use Rattle.frames.proofs.Demands as Ours
 use Rattle.document03.proofs.Fields.{isIn, fields}

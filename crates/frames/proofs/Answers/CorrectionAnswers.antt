@@ -16,13 +16,13 @@ use Rattle.fields.specs.Places.{at}
 use Rattle.fields.proofs.Lists.{tabulate-at, tabulate-same}
 use Rattle.decoding.proofs.Steps.Symbols.{copied-same}
 use Rattle.words.specs.Bits.{bitAt, bytesOf}
-use Rattle.words.specs.Nearest.{nearest}
+use Rattle.words.specs.Nearest.{nearest, everyOf}
 use Rattle.words.specs.InnerWords.{withParity, innerPass}
 use Rattle.words.proofs.Bits.Numbers.{numberOf-same}
 use Rattle.inner_words.specs.Steps.Passes.{innerCodes, InnerPassed}
 use Rattle.inner_words.proofs.Passes.WrongWords.{none-wrong}
 use Rattle.frames.specs.Frames.{symbolAt, dataIn, frameOfWords}
-use Rattle.frames.specs.Correction.{receivedBit, receivedSymbol, receivedWord, isPermitted, outerRestored, outerPass, everyOf, outerFrame, restoredFrame, countsBetween, dataCounts, parityCounts, total, allCounted}
+use Rattle.frames.specs.Correction.{receivedBit, receivedSymbol, receivedWord, isPermitted, outerRestored, outerPass, outerFrame, restoredFrame, countsBetween, dataCounts, parityCounts, total, allCounted}
 use Rattle.frames.specs.Answers.{CorrectorAnswer, noCounts, refused, reported, concluded, frameCorrected, withoutReport}
 use Rattle.frames.specs.Steps.Received.{outerCodes}
 use Rattle.frames.specs.Steps.Symbols.{Concatenated, Sent, wordIn}

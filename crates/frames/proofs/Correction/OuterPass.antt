@@ -20,17 +20,17 @@ use Rattle.words.specs.Bits.{bitAt}
 use Rattle.words.specs.OuterCode.{isOuter}
 use Rattle.words.specs.Steps.Division.{outerRemainder}
 use Rattle.words.specs.Steps.SixSymbols.{Packs}
-use Rattle.words.specs.Nearest.{nearest}
+use Rattle.words.specs.Nearest.{nearest, everyOf}
 use Rattle.words.specs.Answers.{refusal, within, found, corrected, outerCorrected}
 use Rattle.words.specs.declared.Correction.{Correction}
 use Rattle.words.specs.declared.Correction.the-variants.{Corrected, Refused}
 use Rattle.words.proofs.Codes.Proved.{codes}
 use Rattle.frames.specs.Frames.{dataIn}
-use Rattle.frames.specs.Correction.{receivedSymbol, isPadded, isPermitted, outerRestored, outerPass, everyOf}
+use Rattle.frames.specs.Correction.{receivedSymbol, isPadded, isPermitted, outerRestored, outerPass}
 use Rattle.frames.specs.Steps.Symbols.{partFrom, wordIn}
 use Rattle.frames.specs.Steps.Passes.{provided, OuterWordRestored, wordsIn}
 use Rattle.frames.proofs.Frames.FrameBits.{dataIn-le, dataIn-is}
-use Rattle.frames.proofs.Correction.Options.{every-some, every-missing}
+use Rattle.words.proofs.Codes.Options.{every-some, every-missing}
 use Rattle.frames.proofs.OuterSymbols.Permitted.{permitted-none, permitted-some, permitted-not}
 use Rattle.frames.proofs.OuterSymbols.Words.{word-length, symbols-word-part, part-is, word-tested, received-word, word-before, received-below}
 

@@ -17,7 +17,7 @@ use Rattle.fields.proofs.Places.Differences.{apart-self}
 use Rattle.words.specs.Bits.{bitAt}
 use Rattle.words.specs.OuterCode.{isOuter}
 use Rattle.words.specs.InnerCode.{isInner}
-use Rattle.words.specs.Nearest.{isSome, nearest, Decodes}
+use Rattle.words.specs.Nearest.{isSome, nearest, Decodes, everyOf}
 use Rattle.words.specs.Answers.{unless}
 use Rattle.words.specs.InnerWords.{innerWord, innerRestored, innerPass, isLost}
 use Rattle.words.proofs.Codes.OuterWords.{outer-is}
@@ -28,13 +28,13 @@ use Rattle.inner_words.specs.Steps.Passes.{innerCodes}
 use Rattle.inner_words.proofs.Interleaving.InterleavedBits.{inner-word-length}
 use Rattle.inner_words.proofs.Passes.InnerPass.{restored-none, restored-some, restored-length, restored-is}
 use Rattle.frames.specs.Frames.{isBlock, dataIn, outerWord, outerWords, frameOfWords, frameOf, payloadOf}
-use Rattle.frames.specs.Correction.{receivedWord, isPermitted, outerRestored, outerPass, everyOf, outerFrame, restoredFrame, dataCounts, parityCounts, allCounted}
+use Rattle.frames.specs.Correction.{receivedWord, isPermitted, outerRestored, outerPass, outerFrame, restoredFrame, dataCounts, parityCounts, allCounted}
 use Rattle.frames.specs.Answers.{isFrame, CorrectorAnswer, refused, reported, concluded, frameCorrected}
 use Rattle.frames.specs.Steps.Received.{outerCodes}
 use Rattle.frames.specs.Demands.{Uncorrectable, Restored}
 use Rattle.frames.proofs.Frames.FrameBits.{frame-block, frame-inner, dataIn-le, outer-word-length, payloadOf-length}
 use Rattle.frames.proofs.OuterSymbols.Received.{received-length, received-words, received-own, code-words-frame, same-frame}
-use Rattle.frames.proofs.Correction.Options.{some-same, some-not-none, every-some, every-missing, every-none, every-all}
+use Rattle.words.proofs.Codes.Options.{some-same, some-not-none, every-some, every-missing, every-none, every-all}
 use Rattle.frames.proofs.OuterSymbols.Permitted.{permitted-is, permitted-nearest, padded-symbols, payload-permitted}
 
 -- ---- the inner pass

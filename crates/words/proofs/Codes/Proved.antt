@@ -41,6 +41,7 @@ codes =
       outer-length = outer-code .parity-length;
       outer-made = outer-code .parity-made;
       outer-only = λ d q short. outer-code .parity-only d q (omega arith);
+      outer-distance = outer-code .distance;
       outer-far = λ c d hc hd same short. outer-code .code-far c d hc hd same (omega arith);
       outer-nearest = λ n short. outer-code .code-nearest 8 n (lit≤ tt) (omega arith);
       factor-vanishes = factor-vanishes;

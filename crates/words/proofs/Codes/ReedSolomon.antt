@@ -3,7 +3,8 @@
 use mathlib.Core.Path.{_≡_, sym, ap, _∙_}
 use mathlib.Core.Bool.{Bool, true, and-eq-true-iff}
 use mathlib.Core.List.{List, _++_}
-use Prim.Native.Nat.{ℕ, _+_, _*_, _^_, _≤_, _<_}
+use Prim.Native.Nat.{ℕ, suc, _+_, _*_, _^_, _≤_, _<_}
+use native.Mathlib.Decide.{decLe}
 use native.Mathlib.Nat.{zero-add}
 use native.Mathlib.Omega.{arith}
 use borrow.Author.Tests.{eq-eqb, eqb-true}
@@ -67,6 +68,13 @@ module _ (m p first roots : ℕ) (F : Field m p) where
       let oc = code-is m p first roots c hc in
       let od = code-is m p first roots d hd in
       far-lists m p F first roots c d same (omega arith) (oc .symbols) (od .symbols) (λ j l. oc .zeros j l ∙ sym (od .zeros j l))
+
+  distance : (c d : List ℕ) → isCode c ≡ true → isCode d ≡ true → length c ≡ length d → length c < 2 ^ m → (c ≡ d → ⊥) → suc roots ≤ apart c d
+  distance c d hc hd same short other = go (decLe (suc roots) (apart c d))
+    where
+      go : Dec (suc roots ≤ apart c d) → suc roots ≤ apart c d
+      go (yes h) = h
+      go (no h) = absurd (other (code-far c d hc hd same short (omega arith)))
 
   code-nearest : (t n : ℕ) → 2 * t ≤ roots → n < 2 ^ m → Decodes isCode (2 ^ m) t n
   code-nearest t n half short =
@@ -141,5 +149,6 @@ module _ (m p first roots : ℕ) (F : Field m p) where
         parity-made = parity-made;
         parity-only = parity-only;
         code-far = code-far;
+        distance = distance;
         code-nearest = code-nearest;
       }

@@ -7,7 +7,7 @@ use native.Mathlib.Nat.{le-of-suc-le-suc, not-suc-le-zero, zero-lt-suc}
 use native.Mathlib.Omega.{arith}
 use lib.ListN.{length, getD}
 use Rattle.fields.specs.Lists.{tabulate}
-use Rattle.frames.specs.Correction.{consTo, everyOf}
+use Rattle.words.specs.Nearest.{consTo, everyOf}
 
 module _ {A : Type 0} where
   -- an answer is not none, and two that are the same have the same value

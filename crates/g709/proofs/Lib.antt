@@ -1,0 +1,9 @@
+-- Proofs of what the code does and of what is claimed.
+pub mod ByteCode
+pub mod Rows
+pub mod Overlays
+pub mod ByteProducts
+pub mod Lanes
+pub mod Folds
+pub mod Remainders
+pub mod RowSteps

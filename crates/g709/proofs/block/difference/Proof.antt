@@ -1,0 +1,14 @@
+-- `g709::block::difference` meets its contract. Assumes nothing.
+use Rattle.g709.proofs.RowSteps.{difference-none, difference-some}
+use borrow.Author.Needs.{needs}
+use Rattle.g709.proofs.block.difference.Statement.{statement}
+use Rattle.g709.proofs.block.difference.Tie as tie
+
+returns : tie.Need-returns
+returns c = difference-none (c .before .args .d) (c .before .args .x) (c .before .args .y) (c .if1 .taken)
+
+returns-2 : tie.Need-returns-2
+returns-2 c = difference-some (c .before .args .d) (c .before .args .x) (c .before .args .y) (c .if1 .left)
+
+pub difference-spec : {M : Type 1} → statement M
+difference-spec = tie.close (tie.spec returns returns-2)

@@ -1,0 +1,12 @@
+-- `g709::division::plus` meets its contract. Assumes nothing.
+use Rattle.fields.specs.Elements.{xor}
+use borrow.Author.Needs.{needs}
+use Rattle.g709.proofs.division.plus.Statement.{statement}
+use Rattle.g709.proofs.division.plus.Tie as tie
+
+returns : tie.Need-returns
+unfolding xor
+returns c = search needs
+
+pub plus-spec : {M : Type 1} → statement M
+plus-spec = tie.close (tie.spec returns)

@@ -1,0 +1,3 @@
+-- What the functions below the entries give.
+pub mod Registers
+pub mod Folding

@@ -7,3 +7,4 @@ pub mod Lanes
 pub mod Folds
 pub mod Remainders
 pub mod RowSteps
+pub mod Correcting

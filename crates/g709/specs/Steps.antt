@@ -1,3 +1,4 @@
 -- What the functions below the entries give.
 pub mod Registers
 pub mod Folding
+pub mod Restoring

@@ -10,12 +10,12 @@ ghost use Rattle.g709.specs.Steps.Registers.{over, rowDivided, rowRemain
 ghost use Rattle.g709.specs.Steps.Folding.{taps, QuotientTo};
 
 // Words in a row.
-const WORDS: usize = 16;
+pub(crate) const WORDS: usize = 16;
 
 // Sixteen registers of sixteen cells, and a column of zeros.
-pub const CELLS: usize = 272;
+pub(crate) const CELLS: usize = 272;
 
-fn plus(x: u8, y: u8) -> u8
+pub(crate) fn plus(x: u8, y: u8) -> u8
     ensures { λ r. ⌜ r ≡ xor x y ⌝ }
 {
     x ^ y

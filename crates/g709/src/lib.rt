@@ -13,6 +13,7 @@ ghost use mathlib.Core.Path.{_≡_};
 ghost use Rattle.g709.specs.Answers.{rowEncoded, rowChecked, rowExtracted, rowCorrected, rowsEncoded, rowsChecked, rowsExtracted, rowsCorrected};
 
 mod block;
+mod corrector;
 mod division;
 
 // Writes the frame of the payload and returns 0; 1 or 3.

@@ -8,3 +8,4 @@ pub mod Folds
 pub mod Remainders
 pub mod RowSteps
 pub mod Correcting
+pub mod WordByWord

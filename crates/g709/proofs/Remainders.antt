@@ -6,9 +6,11 @@ use Prim.Native.Nat.{ℕ, _+_, _*_, _<_}
 use native.Mathlib.Omega.{arith}
 use lib.Dec.{lit<}
 use lib.ListN.{length}
+use lib.Seq.{getD-append-add}
 use Rattle.fields.specs.Lists.{tabulate}
 use Rattle.fields.specs.Elements.{xor}
 use Rattle.fields.proofs.Lists.{tabulate-at, tabulate-length, tabulate-lt}
+use Rattle.fields.proofs.Xor.{xor-lt}
 use Rattle.fields.specs.Places.{at, allBelow, horner}
 use Rattle.fields.proofs.Places.Tests.{below-all}
 use Rattle.words.proofs.Codes.Horner.{iter, horner-same, horner-sum, horner-parts}
@@ -75,3 +77,12 @@ module _ (b : List ℕ) (r k : ℕ) (small : (i : ℕ) → at b i < 256) (hk : k
         ∙ sym (horner-sum (by j) (by-sum j) (at P) (λ i. c (239 + i)) 16)
         ∙ sym (horner-same (by j) (at M) (λ i. xor (at P i) (c (239 + i))) 16 M-at)
         ∙ sym (value-by M j ∙ ap (horner (by j) (at M)) (tabulate-length 16 _))
+
+  P-lt : (i : ℕ) → at P i < 256
+  P-lt i = rw (← getD-append-add D P i 0) (code-is 8 285 0 16 (D ++ P) code .symbols (length D + i))
+
+  pub lane-below : allBelow 256 (tabulate 16 (λ i. at (rowRemainders b (4080 * r)) (16 * i + k))) ≡ true
+  lane-below =
+      below-all 256 M (λ i l.
+      let m : i < 16 = omega (arith, tabulate-length {A = ℕ} 16 (λ i. at (rowRemainders b (4080 * r)) (16 * i + k))) in
+      rw (M-at i m) (xor-lt 8 _ _ (P-lt i) (small _)))

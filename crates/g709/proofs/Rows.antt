@@ -84,7 +84,7 @@ module _ (n : ℕ) where
   block-at ws i l = tabulate-at (4080 * n) _ i 0 l
 
   -- the words that a block was made of stand in it
-  words-in : (ws : List (List ℕ)) (w : ℕ) → w < 16 * n → length (getD ws w []) ≡ 255 → receivedBytes (blockOfWords n ws) w ≡ getD ws w []
+  pub words-in : (ws : List (List ℕ)) (w : ℕ) → w < 16 * n → length (getD ws w []) ≡ 255 → receivedBytes (blockOfWords n ws) w ≡ getD ws w []
   unfolding receivedBytes
   words-in ws w k long =
       sym (tabulate-is 255 _ (getD ws w []) 0 long (λ s l.

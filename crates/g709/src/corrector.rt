@@ -19,7 +19,7 @@ ghost use Rattle.decoding.specs.Steps.ByTables.{rootValues};
 ghost use Rattle.decoding.specs.Steps.Decoder.{withError};
 ghost use Rattle.g709.specs.Rows.{receivedBytes};
 ghost use Rattle.g709.specs.Steps.Registers.{rowRemainders};
-ghost use Rattle.g709.specs.Steps.Restoring.{laneOf, ByteValues, valuesAdded, wordCorrected, Restoring};
+ghost use Rattle.g709.specs.Steps.Restoring.{laneOf, ByteValues, valuesAdded, wordCorrected, Counted, Remains, WordDone, Restoring};
 
 // Bytes of a word, and of a row.
 const BYTES: usize = 255;
@@ -114,4 +114,96 @@ fn correct_word(
 pub struct Progress {
     pub reached: bool,
     pub changed: u16,
+}
+
+// The progress after a word.
+fn with_word(p: Progress, c: Correction) -> Progress
+    requires { ⌜ (p .reached ≡ true) × (p .changed ≤ 512) × (changedOf c ≤ 8) ⌝ }
+    ensures { λ q. ⌜ Counted (p .changed) c (q .reached) (q .changed) ⌝ }
+{
+    match c {
+        Correction::Corrected { changed } => Progress {
+            reached: true,
+            changed: p.changed + changed,
+        },
+        Correction::Refused { number } => Progress {
+            reached: false,
+            changed: 0,
+        },
+    }
+}
+
+// Corrects word k of row r, whose remainder is word k of `rest`, unless a word before it had no code word near it.
+fn next_word(
+    exp: &[u16],
+    log: &[u16],
+    rest: &[u8; CELLS],
+    r: usize,
+    k: usize,
+    out: &mut [u8],
+    p: Progress,
+) -> Progress
+    requires { ⌜ (now exp ≡ powersC) × (now log ≡ exponentsC) ⌝ }
+    requires { ⌜ (r < 4) × (k < 16) × (4080 * r + 4080 ≤ length (now out)) × (p .changed ≤ 512) ⌝ }
+    requires { ⌜ Remains (p .reached) (laneOf (now rest) k) (receivedBytes (now out) (16 * r + k)) ⌝ }
+    ensures { λ q. ⌜ WordDone (now (out .entry)) (16 * r + k) (p .reached) (p .changed) (now (out .exit)) (q .reached) (q .changed) ⌝ }
+    ensures { λ q. ⌜ q .changed ≤ p .changed + 8 ⌝ }
+{
+    if !p.reached {
+        return Progress {
+            reached: false,
+            changed: 0,
+        };
+    }
+    let cells = remainder(rest, k);
+    if symbols::all_below(&cells, 1) {
+        return p;
+    }
+    let t = reed_solomon::root_values(exp, log, &cells);
+    with_word(p, correct_word(exp, log, t, r, k, out))
+}
+
+// Corrects the words of row r in the copy of the block.
+fn correct_row(
+    exp: &[u16],
+    log: &[u16],
+    block: &[u8],
+    r: usize,
+    out: &mut [u8],
+    before: Progress,
+) -> Progress
+    requires { ⌜ (now exp ≡ powersC) × (now log ≡ exponentsC) ⌝ }
+    requires { ⌜ (r < 4) × (4080 * r + 4080 ≤ length (now block)) ⌝ }
+    requires { ⌜ Restoring (now block) (16 * r) (now out) (before .reached) (before .changed) ⌝ }
+    ensures { λ p. ⌜ Restoring (now (block .entry)) (16 * r + 16) (now (out .exit)) (p .reached) (p .changed) ⌝ }
+{
+    let mut rest = division::empty();
+    division::remainders(block, ROW * r, &mut rest);
+    let mut p = before;
+    let mut k: usize = 0;
+    while k < WORDS {
+        p = next_word(exp, log, &rest, r, k, out, p);
+        k += 1;
+    }
+    p
+}
+
+// Corrects the words of n rows in the copy of the block.
+pub(crate) fn restore(block: &[u8], n: usize, out: &mut [u8]) -> Progress
+    requires { ⌜ (n ≤ 4) × (length (now block) ≡ 4080 * n) ⌝ }
+    requires { ⌜ Restoring (now block) 0 (now out) true 0 ⌝ }
+    ensures { λ p. ⌜ Restoring (now (block .entry)) (16 * n) (now (out .exit)) (p .reached) (p .changed) ⌝ }
+{
+    let exp = fields::exp_c();
+    let log = fields::log_c();
+    let mut p = Progress {
+        reached: true,
+        changed: 0,
+    };
+    let mut r: usize = 0;
+    while r < n {
+        p = correct_row(&exp, &log, block, r, out, p);
+        r += 1;
+    }
+    p
 }

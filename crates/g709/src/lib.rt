@@ -13,6 +13,7 @@ ghost use mathlib.Core.Path.{_≡_};
 ghost use Rattle.g709.specs.Answers.{rowEncoded, rowChecked, rowExtracted, rowCorrected, rowsEncoded, rowsChecked, rowsExtracted, rowsCorrected};
 
 mod block;
+mod c_entries;
 mod corrector;
 mod division;
 
@@ -30,6 +31,20 @@ pub fn check(block: &[u8]) -> u8
     block::check(block, 4, 2)
 }
 
+// Writes the payload of a frame and returns 0; 2, 3 or 4.
+pub fn extract(block: &[u8], out: &mut [u8]) -> u8
+    ensures { λ r. ⌜ (r, now (out .exit)) ≡ rowsExtracted (now (block .entry)) (now (out .entry)) ⌝ }
+{
+    block::extract(block, 4, 2, out)
+}
+
+// Writes the frame whose words are within eight bytes of those received; 2, 3 or 5.
+pub fn correct(block: &[u8], out: &mut [u8]) -> Correction
+    ensures { λ r. ⌜ (r, now (out .exit)) ≡ rowsCorrected (now (block .entry)) (now (out .entry)) ⌝ }
+{
+    block::correct(block, 4, 2, out)
+}
+
 // Writes the row of the data and returns 0; 8 or 3.
 pub fn encode_row(payload: &[u8], out: &mut [u8]) -> u8
     ensures { λ r. ⌜ (r, now (out .exit)) ≡ rowEncoded (now (payload .entry)) (now (out .entry)) ⌝ }
@@ -42,4 +57,18 @@ pub fn check_row(row: &[u8]) -> u8
     ensures { λ r. ⌜ r ≡ rowChecked (now (row .entry)) ⌝ }
 {
     block::check(row, 1, 8)
+}
+
+// Writes the data of a row and returns 0; 8, 3 or 4.
+pub fn extract_row(row: &[u8], out: &mut [u8]) -> u8
+    ensures { λ r. ⌜ (r, now (out .exit)) ≡ rowExtracted (now (row .entry)) (now (out .entry)) ⌝ }
+{
+    block::extract(row, 1, 8, out)
+}
+
+// Writes the row whose words are within eight bytes of those received; 8, 3 or 5.
+pub fn correct_row(row: &[u8], out: &mut [u8]) -> Correction
+    ensures { λ r. ⌜ (r, now (out .exit)) ≡ rowCorrected (now (row .entry)) (now (out .entry)) ⌝ }
+{
+    block::correct(row, 1, 8, out)
 }

@@ -1,16 +1,19 @@
 -- How a block is restored word by word, in a copy of it.
 use mathlib.Core.Path.{_≡_}
 use mathlib.Core.Bool.{Bool, true, false, cond}
-use mathlib.Core.List.{List, []}
+use mathlib.Core.List.{List}
+use mathlib.Core.Logic.{_⊎_}
 use mathlib.Core.Option.{none, some}
 use Prim.Native.Nat.{ℕ, _+_, _*_, _/_, _%_, _≤_, _<_}
 use lib.Dec.{eqb}
-use lib.ListN.{length, getD}
+use lib.ListN.{length}
 use Rattle.fields.specs.Lists.{tabulate}
-use Rattle.fields.specs.Places.{at, sumTo, apart}
+use Rattle.fields.specs.Elements.{powersC, exponentsC}
+use Rattle.fields.specs.Places.{at, allBelow, sumTo, apart}
 use Rattle.words.specs.declared.Correction.{Correction}
 use Rattle.words.specs.declared.Correction.the-variants.{Corrected, Refused}
-use Rattle.words.specs.Answers.{found}
+use Rattle.words.specs.Answers.{changedOf, found}
+use Rattle.decoding.specs.Steps.ByTables.{rootValues}
 use Rattle.decoding.specs.Steps.Decoder.{withErrors}
 use Rattle.g709.specs.Rows.{receivedBytes, bytesRestored}
 
@@ -44,17 +47,34 @@ wordStored o w c = tabulate (length o) (λ i. cond (eqb (wordOf i) w) (at c (pla
 unfoldable pub wordCorrected : List ℕ → ℕ → Correction × List ℕ
 wordCorrected o w = found Refused (λ c. Corrected (apart (receivedBytes o w) c)) (wordStored o w) o (bytesRestored o w)
 
--- the first w words of the block b are restored in its copy o, and so many bytes were changed
-pub record RestoredTo (n : ℕ) (b : List ℕ) (w : ℕ) (o : List ℕ) (changed : ℕ) : Type 0 where
-  pub room : 4080 * n ≤ length o
-  pub words : List (List ℕ)
-  pub restored : (v : ℕ) → v < w → bytesRestored b v ≡ some (getD words v [])
-  pub done : (i : ℕ) → i < 4080 * n → wordOf i < w → at o i ≡ at (getD words (wordOf i) []) (placeOf i)
-  pub rest : (i : ℕ) → i < 4080 * n → w ≤ wordOf i → at o i ≡ at b i
-  pub count : changed ≡ sumTo w (λ v. apart (receivedBytes b v) (getD words v []))
-  pub few : changed ≤ 8 * w
+-- what next_word rests on, as long as all words before had a code word near them: a word's values at the roots are those of its remainder
+pub record Remains (reached : Bool) (lane word : List ℕ) : Type 0 where
+  pub values : reached ≡ true → rootValues powersC exponentsC lane ≡ rootValues powersC exponentsC word
+  pub bytes : reached ≡ true → allBelow 256 word ≡ true
 
--- the same, as long as no word was found without a code word near it
-pub record Restoring (n : ℕ) (b : List ℕ) (w : ℕ) (o : List ℕ) (reached : Bool) (changed : ℕ) : Type 0 where
-  pub so-far : reached ≡ true → RestoredTo n b w o changed
-  pub lost : reached ≡ false → (v : ℕ) × (v < 16 * n) × (bytesRestored b v ≡ none)
+-- the answer for a word joins the progress: still reached only where it was corrected, and its changes counted
+pub record Counted (changed : ℕ) (c : Correction) (still : Bool) (sum : ℕ) : Type 0 where
+  pub found : still ≡ true → (n : ℕ) × (c ≡ Corrected n) × (sum ≡ changed + n)
+  pub lost : still ≡ false → (n : ℕ) × (c ≡ Refused n)
+  pub most : sum ≤ changed + changedOf c
+
+-- a step over word w of the block o: it is restored, and its changes are counted; or it has no code word near it, or one before it had none
+pub record WordDone (o : List ℕ) (w : ℕ) (reached : Bool) (changed : ℕ) (next : List ℕ) (still : Bool) (sum : ℕ) : Type 0 where
+  pub long : length next ≡ length o
+  pub found : still ≡ true → (c : List ℕ) × (reached ≡ true) × (bytesRestored o w ≡ some c) × (next ≡ wordStored o w c) × (sum ≡ changed + apart (receivedBytes o w) c)
+  pub lost : still ≡ false → (reached ≡ false) ⊎ (bytesRestored o w ≡ none)
+
+-- the first w words of the block b are restored in its copy o, and so many bytes were changed
+pub record RestoredTo (b : List ℕ) (w : ℕ) (o : List ℕ) (changed : ℕ) : Type 0 where
+  pub words : ℕ → List ℕ
+  pub restored : (v : ℕ) → v < w → bytesRestored b v ≡ some (words v)
+  pub done : (i : ℕ) → i < length b → wordOf i < w → at o i ≡ at (words (wordOf i)) (placeOf i)
+  pub rest : (i : ℕ) → i < length b → w ≤ wordOf i → at o i ≡ at b i
+  pub count : changed ≡ sumTo w (λ v. apart (receivedBytes b v) (words v))
+
+-- the same, as long as all words had a code word near them
+pub record Restoring (b : List ℕ) (w : ℕ) (o : List ℕ) (reached : Bool) (changed : ℕ) : Type 0 where
+  pub room : length b ≤ length o
+  pub few : changed ≤ 8 * w
+  pub so-far : reached ≡ true → RestoredTo b w o changed
+  pub lost : reached ≡ false → (v : ℕ) × (v < w) × (bytesRestored b v ≡ none)

@@ -1,17 +1,11 @@
-// What the programs of bench/ on whole frames share: a frame and the block that becomes of it, and the comparison of two corrections of a block. Payloads,
-// damage and the numbers of refusals are those of tests/c.
+// What the programs of bench/ on I.4 frames share: a new frame, and the corrections of a block by both sides and their comparison. Damage is that of tests/c.
 #pragma once
-#include <string.h>
 #include "damage.h"
-#include "payloads.h"
 #include "peer_codec.h"
-#include "refusals.h"
+#include "sides.h"
 
-enum { UNTOUCHED = 0xa5 };
-
-// One payload and its frame, the block that became of it, and what each side has written; the third is the peers' with each of the kernel's answers tested.
-static uint8_t payload[PAYLOAD], frame[FRAME], block[FRAME];
-static uint8_t ours_out[FRAME], peers_out[FRAME], tested_out[FRAME];
+// What the peers have written with each of the kernel's answers tested.
+static uint8_t tested_out[FRAME];
 
 // Answers of the kernel's decoder that gave no code word, and blocks that the peers answered wrongly for it, of all whose corrections were compared.
 static int no_code_words, wrong_blocks, compared_blocks;
@@ -25,12 +19,17 @@ static inline void new_frame(void)
 	require(number == 0 && !memcmp(frame, block, FRAME), "the frames of both sides, proved answer %d", number);
 }
 
-static inline void clear_outputs(void)
+static inline int our_correct(void)
 {
-	memset(ours_out, UNTOUCHED, FRAME);
-	memset(peers_out, UNTOUCHED, FRAME);
-	memset(tested_out, UNTOUCHED, FRAME);
+	return g9751_i4_correct(block, FRAME, ours_out, FRAME);
 }
+
+static inline int peers_correct(void)
+{
+	return peer_correct(block, peers_out, NULL);
+}
+
+static const side correct[2] = { our_correct, peers_correct };
 
 // Both sides have corrected the block: `number` is the proved answer, `peers` that of the peers. Theirs may be another only where the kernel named places
 // that give no code word; with its answers tested they must agree.
@@ -38,6 +37,7 @@ static inline void compare_corrections(int number, int peers, const char *damage
 {
 	int before = no_code_words;
 	compared_blocks++;
+	memset(tested_out, UNTOUCHED, FRAME);
 	int tested = peer_correct(block, tested_out, &no_code_words);
 	require(tested == number && !memcmp(tested_out, ours_out, FRAME), "%s: proved answer %d, the peers' %d", damage, number, tested);
 	if (peers != number || memcmp(peers_out, ours_out, FRAME)) {

@@ -1,7 +1,6 @@
 // Corrections of blocks as cables deliver them, and of the slowest that are known: the proved corrector against the codec of peer_codec.c, on the same blocks in
 // turn, as in frames.c. The answer is not known beforehand: it is what the peers make of the block with each of the kernel's answers tested.
 #include "slow_words.h"
-#include "turns.h"
 
 enum { ROUNDS = 1001 };
 

@@ -1,7 +1,7 @@
 // Whole frames, from bytes to bytes: the proved entries of crates/frames against the codec of peer_codec.c, on the same payloads and blocks in one run. The
 // two take turns, and who goes first changes from frame to frame. Every answer is compared, outside of what is timed; so the kernel's answers are tested
 // there too, not in the peers' time.
-#include "turns.h"
+#include "blocks.h"
 
 enum { ROUNDS = 1001 };
 
@@ -98,11 +98,9 @@ int main(void)
 		for (int r = 0; r < ROWS; r++)
 			measure(r, round);
 	printf("medians of %d frames; the ratio is theirs to ours, above 1 where the proved code is faster\n\n", ROUNDS);
-	printf("| case | proved (µs) | libfec + kernel (µs) | ratio |\n|---|---|---|---|\n");
-	for (int r = 0; r < ROWS; r++) {
-		double a = median(times[r][0], ROUNDS), b = median(times[r][1], ROUNDS);
-		printf("| %s | %.1f | %.1f | %.2f |\n", rows[r].name, a / 1000, b / 1000, b / a);
-	}
+	print_heading("libfec + kernel");
+	for (int r = 0; r < ROWS; r++)
+		print_medians(rows[r].name, ROUNDS, times[r], 1);
 	printf("\n");
 	print_wrong_answers();
 	return 0;

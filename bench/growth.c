@@ -1,6 +1,6 @@
 // How the time of a correction grows with the number of damaged inner words: the proved corrector against the codec of peer_codec.c, on the same blocks in
 // turn, as in frames.c.
-#include "turns.h"
+#include "blocks.h"
 
 enum { ROUNDS = 301 };
 

@@ -1,17 +1,16 @@
 // The entries on G.709 frames and rows at lengths around every limit, null among them, on damage up to eight bytes of a word and past it, and frames against
 // their rows. The parity of three words and a sum over a whole frame are known from libfec.
+#include "damage.h"
 #include "exports.h"
 #include "lent.h"
 #include "payloads.h"
 #include "rows.h"
 
-typedef uint8_t (*writer)(const uint8_t *in, size_t n, uint8_t *out, size_t space);
-
 // The entries on frames or on rows, which of the table they are, and how many words they have. A row is the first of the frame.
 struct family {
 	int first, words;
 	writer encode, extract, correct;
-	uint8_t (*check)(const uint8_t *block, size_t n);
+	checker check;
 	uint32_t (*count)(const uint8_t *block, size_t n, uint8_t *out, size_t space);
 };
 
@@ -199,8 +198,7 @@ static void any_block(int kind)
 	else if (kind == 2)
 		change_words(block, FRAME_WORDS, RADIUS);
 	else if (kind == 3)
-		for (int i = 0; i < FRAME; i++)
-			block[i] = next_random(256);
+		noise(block);
 	else if (kind >= 4)
 		memset(block, kind == 4 ? 255 : 0, FRAME);
 }

@@ -5,6 +5,10 @@
 
 enum { FRAME_ROWS = 4, ROW = G709_ROW_BYTES, ROW_DATA = G709_ROW_DATA_BYTES, ROW_WORDS = 16, FRAME_WORDS = FRAME_ROWS * ROW_WORDS, WORD_BYTES = 255, WORD_DATA = 239 };
 
+// entries that write an answer, and those that only check
+typedef uint8_t (*writer)(const uint8_t *in, size_t n, uint8_t *out, size_t space);
+typedef uint8_t (*checker)(const uint8_t *block, size_t n);
+
 // byte s of word w
 static inline int byte_of(int w, int s)
 {

@@ -10,7 +10,7 @@ use Rattle.frames.specs.Answers.{CorrectorAnswer}
 unfoldable pub packed : ℕ → ℕ → ℕ
 packed number second = number + 256 * second
 
--- correction of an outer word: number and changes, and the buffer
+-- correction of an outer word, or of a G.709 frame or row: number and changes, and the buffer
 unfoldable pub packedWord : Correction × List ℕ → ℕ × List ℕ
 packedWord a = (packed (refusalOf (a .0)) (changedOf (a .0)), a .1)
 

@@ -1,6 +1,6 @@
-// What the programs of tests/ and bench/ call and a terminal does not, exported for C and Rust: the entries on single words, the corrector with its report,
-// the worst list of any counts, and chains of products through tables that are bound once and lent. An answer of more than one number comes packed into one,
-// and a list in a buffer that is lent.
+// What the programs of tests/ and bench/ call and a terminal does not, exported for C and Rust: the entries on single words, the corrector with its report, those of
+// G.709 frames and rows with their counts, the worst list of any counts, and chains of products through tables that are bound once and lent. An answer of more than
+// one number comes packed into one, and a list in a buffer that is lent.
 use decoding::symbols;
 use frames::Frame;
 use frames::Report;
@@ -11,6 +11,7 @@ ghost use Prim.Native.Nat.{_+_, _≤_};
 ghost use Rattle.fields.specs.Elements.{powersA, exponentsA, powersB, exponentsB};
 ghost use Rattle.words.specs.Answers.{outerChecked, outerEncoded, innerChecked, innerEncoded, refusalOf, changedOf, innerRefusalOf, dataChangedOf, parityChangedOf, outerCorrected, innerCorrected};
 ghost use Rattle.frames.specs.Answers.{frameCorrected};
+ghost use Rattle.g709.specs.Answers.{rowsCorrected, rowCorrected};
 ghost use Rattle.exports.specs.Chains.{chain};
 ghost use Rattle.exports.specs.Lists.{listedWords};
 ghost use Rattle.exports.specs.Packed.{packed, packedWord, packedInner, packedFrame};
@@ -96,6 +97,20 @@ pub extern "C" fn exports_correct_frame(
     symbols::copy(&in_data, data);
     symbols::copy(&in_parity, parity);
     256 * report.sum as u64 + report.refusal as u64
+}
+
+#[no_mangle]
+pub extern "C" fn exports_g709_correct(block: &[u8], out: &mut [u8]) -> u32
+    ensures { λ r. ⌜ (r, now (out .exit)) ≡ packedWord (rowsCorrected (now (block .entry)) (now (out .entry))) ⌝ }
+{
+    packed_word(g709::correct(block, out))
+}
+
+#[no_mangle]
+pub extern "C" fn exports_g709_correct_row(row: &[u8], out: &mut [u8]) -> u32
+    ensures { λ r. ⌜ (r, now (out .exit)) ≡ packedWord (rowCorrected (now (row .entry)) (now (out .entry))) ⌝ }
+{
+    packed_word(g709::correct_row(row, out))
 }
 
 // The worst list of a report with these counts of data places and of parity places, of which there are 64 each, or they stand for zeros; written if there is

@@ -65,5 +65,7 @@ int main(void)
 	printf("no buffer: %d\n", g709_encode_row(payload, DATA, NULL, 0));
 	printf("no row: check %d, extract %d, correct %d\n", g709_check_row(NULL, 0), g709_extract_row(NULL, 0, NULL, 0), g709_correct_row(NULL, 0, NULL, 0));
 	printf("a frame is no row: %d\n", g709_check_row(frame, sizeof frame));
+	printf("payload too short: %d\n", g709_encode(payload, sizeof payload - 1, frame, sizeof frame));
+	printf("no block: check %d, extract %d, correct %d\n", g709_check(NULL, 0), g709_extract(NULL, 0, NULL, 0), g709_correct(NULL, 0, NULL, 0));
 	return 0;
 }

@@ -1,6 +1,8 @@
 /*
  * I.4 frames of ITU-T G.975.1: encode, check, extract, correct.
  *
+ * A terminal needs these where both ends of its line run appendix I.4; older terminals run RS(255,239), for which G.709 frames are in g709.h.
+ *
  * A payload has 15,296 bytes, a frame and a received block 16,320. A buffer is lent as a pointer and its length in bytes; it stays the caller's, and nothing
  * of it is kept after the call. What is lent as const is never written. The two buffers of a call must not overlap. A pointer may be null only where its
  * length is 0.

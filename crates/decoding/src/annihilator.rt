@@ -298,7 +298,7 @@ fn annihilates(exp: &[u16], log: &[u16], t: [u16; SYNDROMES], v: [u16; COEFFICIE
 }
 
 // A polynomial that annihilates the syndromes. The shortest recurrence does, where it is not too long: that is tested, which costs less than to eliminate.
-pub(crate) fn annihilator(exp: &[u16], log: &[u16], t: [u16; SYNDROMES]) -> [u16; COEFFICIENTS]
+pub fn annihilator(exp: &[u16], log: &[u16], t: [u16; SYNDROMES]) -> [u16; COEFFICIENTS]
     requires { ⌜ Tables (now exp) (now log) ⌝ }
     ensures { λ r. ⌜ Annihilates (now (exp .entry)) (now (log .entry)) t r ⌝ }
 {

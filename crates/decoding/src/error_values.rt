@@ -116,7 +116,7 @@ fn resolved(exp: &[u16], log: &[u16], n: usize, e: Errors, k: usize) -> Errors
 }
 
 // The errors at the places found, in a word of n places that has the syndromes t.
-pub(crate) fn valued(
+pub fn valued(
     exp: &[u16],
     log: &[u16],
     n: usize,

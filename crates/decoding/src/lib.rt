@@ -16,11 +16,11 @@ ghost use Rattle.fields.specs.Elements.{powersB};
 ghost use Rattle.decoding.specs.Steps.Decoder.{Tables, locator, Decoded, changeBetween, weightBetween};
 ghost use Rattle.decoding.specs.Steps.PowerTables.{PowerTables};
 
-mod annihilator;
+pub mod annihilator;
 pub mod error_values;
 mod exponents;
 pub mod power_tables;
-mod root_search;
+pub mod root_search;
 pub mod symbols;
 
 // Errors in up to so many places are found.
@@ -28,7 +28,7 @@ pub const RADIUS: usize = 8;
 
 pub const SYNDROMES: usize = 2 * RADIUS;
 
-pub(crate) const COEFFICIENTS: usize = RADIUS + 1;
+pub const COEFFICIENTS: usize = RADIUS + 1;
 
 // The locator of place i of a word of n places.
 pub fn locator(exp: &[u16], n: usize, i: usize) -> u16

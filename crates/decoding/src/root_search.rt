@@ -169,7 +169,7 @@ pub struct Places {
 }
 
 // Place i is kept if there is room.
-pub(crate) fn keep(p: Places, i: u16) -> Places
+pub fn keep(p: Places, i: u16) -> Places
     requires { ⌜ p .count ≤ 8 ⌝ }
     ensures { λ r. ⌜ r ≡ kept i p ⌝ }
 {

@@ -2,3 +2,4 @@
 pub mod Registers
 pub mod Folding
 pub mod Restoring
+pub mod RootColumns

@@ -116,13 +116,7 @@ fn resolved(exp: &[u16], log: &[u16], n: usize, e: Errors, k: usize) -> Errors
 }
 
 // The errors at the places found, in a word of n places that has the syndromes t.
-pub fn valued(
-    exp: &[u16],
-    log: &[u16],
-    n: usize,
-    t: [u16; SYNDROMES],
-    places: Places,
-) -> Errors
+pub fn valued(exp: &[u16], log: &[u16], n: usize, t: [u16; SYNDROMES], places: Places) -> Errors
     requires { ⌜ Tables (now exp) (now log) ⌝ }
     requires { ⌜ (n ≤ length (now exp)) × (n < 65536) ⌝ }
     requires { ⌜ Located (now exp) (now log) t n (places .at) (places .count) ⌝ }

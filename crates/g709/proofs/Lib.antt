@@ -9,3 +9,4 @@ pub mod Remainders
 pub mod RowSteps
 pub mod Correcting
 pub mod WordByWord
+pub mod Proved

@@ -18,8 +18,6 @@ use Rattle.words.specs.declared.Correction.{Correction}
 use Rattle.words.specs.declared.Correction.the-variants.{Corrected, Refused}
 use Rattle.fields.proofs.Places.Counting.{sum-same, apart-sum}
 use Rattle.fields.proofs.Places.Tests.{below-at, below-all}
-use Rattle.fields.proofs.Instances.{field-a, field-c, pinned-c}
-use Rattle.words.proofs.Codes.ReedSolomon.{reed-solomon}
 use Rattle.words.proofs.Codes.Nearest.{nearest-lost}
 use Rattle.words.specs.Nearest.{everyOf}
 use Rattle.fields.proofs.Places.Differences.{sum-at, sum-plus, sum-grid, apart-tables, apart-self, apart-none}
@@ -27,8 +25,8 @@ use Rattle.words.proofs.Codes.Options.{every-some, every-missing, every-none, e
 use Rattle.words.specs.ReedSolomon.{isCodeWord, parityOf}
 use Rattle.g709.specs.Rows.{isPayloadOf, isBlockOf, isByteWord, byteParity, byteData, byteWord, blockOfWords, blockOf, payloadIn, isWritten, receivedBytes, bytesRestored, restoredBlock}
 use Rattle.g709.specs.Answers.{blockCorrected}
-use Rattle.g709.specs.Laws.{Beyond, Within, RowLaws, OlderFrames}
-use Rattle.g709.proofs.ByteCode.{code-c, byte-nearest, byte-lt, generator-c}
+use Rattle.g709.specs.Laws.{Beyond, Within, RowLaws}
+use Rattle.g709.proofs.ByteCode.{code-c, byte-nearest, byte-lt}
 
 -- ---- sums over a part of a block
 
@@ -310,16 +308,3 @@ module _ (n : ℕ) where
         uncorrectable = λ long block buffer w fits room. uncorrectable long block buffer fits room w;
         uncorrectable-only = λ long block buffer. uncorrectable-only long block buffer;
       }
-
-pub older-frames : OlderFrames
-older-frames =
-    record {
-      field-c = field-c;
-      pinned = pinned-c;
-      generator = generator-c;
-      outer-code = reed-solomon 10 1033 0 16 field-a;
-      byte-code = code-c;
-      byte-distance = code-c .distance;
-      row = row-laws 1;
-      frame = row-laws 4;
-    }

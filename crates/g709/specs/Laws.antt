@@ -1,6 +1,6 @@
 -- What is proved of G.709 frames and of single rows: of blocks of n rows, for any n.
 use mathlib.Core.Path.{_≡_}
-use mathlib.Core.Bool.{true}
+use mathlib.Core.Bool.{true, false}
 use mathlib.Core.List.{List, [], _∷_}
 use Prim.Native.Nat.{ℕ, _+_, _*_, _/_, _%_, _≤_, _<_}
 use lib.ListN.{length}
@@ -10,7 +10,7 @@ use Rattle.words.specs.declared.Correction.the-variants.{Corrected, Refused}
 use Rattle.words.specs.ReedSolomon.{generatorOf}
 use Rattle.words.specs.Codes.{ReedSolomon}
 use Rattle.g709.specs.Rows.{isPayloadOf, isBlockOf, isByteWord, byteWord, blockOf, payloadIn, isWritten, receivedBytes}
-use Rattle.g709.specs.Answers.{blockCorrected}
+use Rattle.g709.specs.Answers.{blockEncoded, blockChecked, blockExtracted, blockCorrected}
 
 -- word w of the block has no code word within eight bytes
 abbrev pub Beyond : List ℕ → ℕ → Type 0
@@ -52,6 +52,22 @@ pub record RowLaws (n : ℕ) : Type 0 where
   pub uncorrectable-only : (long : ℕ) (block buffer : List ℕ) → length block ≡ 4080 * n → length buffer ≡ 4080 * n → blockCorrected n long block buffer ≡ (Refused 5, buffer) →
       (w : ℕ) × (w < 16 * n) × Beyond block w
 
+-- the answers about n rows, where `long`, above 0, is the number of a wrong length: that refusal comes first, then 3, then 4; a refusal leaves the buffer as it was.
+-- The corrector's 5, and what it corrects, is above
+pub record RowRefusals (n long : ℕ) : Type 0 where
+  pub encode-length : (p o : List ℕ) → (length p ≡ 3824 * n → ⊥) → blockEncoded n long p o ≡ (long, o)
+  pub encode-space : (p o : List ℕ) → length p ≡ 3824 * n → (length o ≡ 4080 * n → ⊥) → blockEncoded n long p o ≡ (3, o)
+  pub encoded : (p o : List ℕ) → length p ≡ 3824 * n → length o ≡ 4080 * n → blockEncoded n long p o ≡ (0, blockOf n p)
+  pub check-length : (b : List ℕ) → (length b ≡ 4080 * n → ⊥) → blockChecked n long b ≡ long
+  pub checked : (b : List ℕ) → length b ≡ 4080 * n → isWritten n b ≡ true → blockChecked n long b ≡ 0
+  pub check-other : (b : List ℕ) → length b ≡ 4080 * n → isWritten n b ≡ false → blockChecked n long b ≡ 4
+  pub extract-length : (b o : List ℕ) → (length b ≡ 4080 * n → ⊥) → blockExtracted n long b o ≡ (long, o)
+  pub extract-space : (b o : List ℕ) → length b ≡ 4080 * n → (length o ≡ 3824 * n → ⊥) → blockExtracted n long b o ≡ (3, o)
+  pub extracted : (b o : List ℕ) → length b ≡ 4080 * n → length o ≡ 3824 * n → isWritten n b ≡ true → blockExtracted n long b o ≡ (0, payloadIn n b)
+  pub extract-other : (b o : List ℕ) → length b ≡ 4080 * n → length o ≡ 3824 * n → isWritten n b ≡ false → blockExtracted n long b o ≡ (4, o)
+  pub correct-length : (b o : List ℕ) → (length b ≡ 4080 * n → ⊥) → blockCorrected n long b o ≡ (Refused long, o)
+  pub correct-space : (b o : List ℕ) → length b ≡ 4080 * n → (length o ≡ 4080 * n → ⊥) → blockCorrected n long b o ≡ (Refused 3, o)
+
 -- the record to open first
 pub record OlderFrames : Type 0 where
   -- field C, and products and the generator's coefficients that tell it from the fields of other polynomials
@@ -65,3 +81,7 @@ pub record OlderFrames : Type 0 where
   pub byte-distance : (c d : List ℕ) → isByteWord c ≡ true → isByteWord d ≡ true → length c ≡ length d → length c < 256 → (c ≡ d → ⊥) → 17 ≤ apart c d
   pub row : RowLaws 1
   pub frame : RowLaws 4
+  -- a row's wrong length is 8; of frames the payload's is 1 and the block's 2
+  pub row-refusals : RowRefusals 1 8
+  pub payload-refusals : RowRefusals 4 1
+  pub frame-refusals : RowRefusals 4 2

@@ -1,28 +1,33 @@
-//! The two binary fields.
+//! The three binary fields.
 //!
 //! An element is a number whose bit i is the coefficient of z^i; a is the
-//! element 2, that is z. Both field polynomials are trinomials z^m + z^t + 1.
+//! element 2, that is z.
 
-/// Arithmetic modulo z^m + z^t + 1. Addition is the exclusive or.
+/// Arithmetic modulo a field polynomial of degree m. Addition is the exclusive
+/// or.
 pub trait Field {
+    /// The powers of z that add up to the field polynomial, the highest first:
+    /// m, then t, then those below.
+    const POWERS: &'static [u32];
     /// The m of the field polynomial.
-    const DEGREE: u32;
-    /// The t of the field polynomial.
-    const MIDDLE: u32;
+    const DEGREE: u32 = Self::POWERS[0];
     /// The order of a: the number of non-zero elements.
     const ORDER: usize = (1 << Self::DEGREE) - 1;
+    /// Folds that bring every degree up to 30 below m, at m - t each.
+    const FOLDS: u32 = (30 - Self::DEGREE) / (Self::DEGREE - Self::POWERS[1]) + 1;
 
     /// The remainder of a binary polynomial of degree at most 30.
     ///
-    /// One fold replaces the part h z^m by h (z^t + 1), and so lowers a degree
-    /// of m or more by at least m - t, which is at least 7, or to below m.
-    /// Three folds bring every degree up to 30 below m.
+    /// One fold replaces the part h z^m by h times the lower powers of the field
+    /// polynomial, and so lowers a degree of m or more by at least m - t, or to
+    /// below m.
     #[inline(always)]
     fn reduce(polynomial: u32) -> u32 {
         let mut rest = polynomial;
-        for _ in 0..3 {
+        for _ in 0..Self::FOLDS {
             let high = rest >> Self::DEGREE;
-            rest = (rest & ((1 << Self::DEGREE) - 1)) ^ high ^ (high << Self::MIDDLE);
+            let low = rest & ((1 << Self::DEGREE) - 1);
+            rest = Self::POWERS[1..].iter().fold(low, |sum, power| sum ^ (high << power));
         }
         rest
     }
@@ -74,14 +79,19 @@ pub trait Field {
 pub struct FieldA;
 
 impl Field for FieldA {
-    const DEGREE: u32 = 10;
-    const MIDDLE: u32 = 3;
+    const POWERS: &'static [u32] = &[10, 3, 0];
 }
 
 /// Field B, of the inner code: z^11 + z^2 + 1.
 pub struct FieldB;
 
 impl Field for FieldB {
-    const DEGREE: u32 = 11;
-    const MIDDLE: u32 = 2;
+    const POWERS: &'static [u32] = &[11, 2, 0];
+}
+
+/// Field C, of the words of G.709 rows: z^8 + z^4 + z^3 + z^2 + 1.
+pub struct FieldC;
+
+impl Field for FieldC {
+    const POWERS: &'static [u32] = &[8, 4, 3, 2, 0];
 }

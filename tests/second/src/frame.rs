@@ -4,7 +4,8 @@
 //! k, for data and parity alike. The first 1,952 groups are, one bit after the
 //! other, the sixteen outer words.
 
-use crate::{bits, inner, outer, Changes, Corrected};
+use crate::reed_solomon::OUTER;
+use crate::{bits, inner, Changes, Corrected};
 
 pub const PAYLOAD_BYTES: usize = 15_296;
 pub const FRAME_BYTES: usize = 16_320;
@@ -68,7 +69,7 @@ fn encode_outer_word(payload: &[bool], w: usize) -> Vec<u16> {
     let (data_bits, padding) = data_layout(w);
     let data = &payload[FULL_DATA_BITS * w..][..data_bits];
     let mut word = bits::to_symbols(&[data, padding].concat());
-    word.extend(outer::parity(&word));
+    word.extend(OUTER.parity(&word));
     word
 }
 
@@ -103,7 +104,7 @@ fn outer_word(frame: &[bool], w: usize) -> Vec<u16> {
 /// Outer word w corrected. A code word with a padding bit of one is not
 /// permitted; no other code word is near enough then.
 fn correct_outer_word(frame: &[bool], w: usize) -> Option<Vec<u16>> {
-    let (word, _) = outer::correct(&outer_word(frame, w))?;
+    let (word, _) = OUTER.correct(&outer_word(frame, w))?;
     let (data_bits, padding) = data_layout(w);
     let padded = &bits::from_symbols(&word)[data_bits..][..padding.len()];
     (padded == padding).then_some(word)

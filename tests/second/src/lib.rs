@@ -1,4 +1,5 @@
-//! Encoder and decoder for the frames of ITU-T G.975.1 appendix I.4.
+//! Encoder and decoder for the frames of ITU-T G.975.1 appendix I.4, and for the
+//! RS(255,239) frames of G.709.
 //!
 //! What goes in, and what comes out:
 //!
@@ -9,11 +10,12 @@
 //!   of data places and of parity places corrected in each inner word;
 //! * the same for single outer words (symbols of ten bits) and inner words;
 //! * `logging`: counters of the answers of `correct_frame`, and the worst list
-//!   of what is changed.
+//!   of what is changed;
+//! * `g709`: the same four for G.709 frames and for single rows of them.
 //!
 //! Encoding: the payload bits fill sixteen outer words (`frame`), each gets
-//! sixteen parity symbols by long division (`outer`); the bits of these words
-//! are dealt out to 64 inner words, and each gets 88 parity bits by long
+//! sixteen parity symbols by long division (`reed_solomon`); the bits of these
+//! words are dealt out to 64 inner words, and each gets 88 parity bits by long
 //! division (`inner`).
 //!
 //! Correcting: one inner pass, then one outer pass, then the inner parity bits
@@ -22,8 +24,10 @@
 //! syndromes by Horner's rule, the Euclidean algorithm of Sugiyama, a Chien
 //! search, and Forney's formula. Both decoders hand back a candidate only
 //! after a test that it is a code word that differs in at most eight places.
+//! The words of G.709 rows have the same encoder and decoder as outer words,
+//! over another field.
 //!
-//! Below these lie the two fields (`field`: carry-less products and reduction),
+//! Below these lie the three fields (`field`: carry-less products and reduction),
 //! polynomials over a field (`poly`), and lists of bits (`bits`).
 //!
 //! Every public function tests its input in one order: lengths, then space,
@@ -36,16 +40,19 @@
 mod bits;
 mod field;
 mod frame;
+pub mod g709;
 mod inner;
 pub mod logging;
-mod outer;
 mod poly;
+mod reed_solomon;
 #[cfg(test)]
 mod tests;
 
-pub use field::{Field, FieldA, FieldB};
+pub use field::{Field, FieldA, FieldB, FieldC};
 pub use frame::{FRAME_BYTES, INNER_WORDS, PAYLOAD_BYTES};
 pub use inner::Changes;
+
+use reed_solomon::{OUTER, PARITY};
 
 const REFUSED_PAYLOAD_LENGTH: u8 = 1;
 const REFUSED_BLOCK_LENGTH: u8 = 2;
@@ -54,6 +61,7 @@ const REFUSED_NO_CODE_WORD: u8 = 4;
 const REFUSED_UNCORRECTABLE: u8 = 5;
 const REFUSED_WORD_LENGTH: u8 = 6;
 const REFUSED_SYMBOL: u8 = 7;
+const REFUSED_ROW_LENGTH: u8 = 8;
 
 /// A restored frame, the numbers of data places and of parity places in which
 /// each inner word of the received block differs from it, and the sum of all
@@ -104,26 +112,26 @@ pub fn reported(answer: &Result<Corrected, u8>) -> ([Changes; INNER_WORDS], u32)
 
 /// Accepts an outer code word.
 pub fn check_outer(word: &[u16]) -> Result<(), u8> {
-    require(outer::LENGTHS.contains(&word.len()), REFUSED_WORD_LENGTH)?;
+    require(OUTER.lengths().contains(&word.len()), REFUSED_WORD_LENGTH)?;
     require_symbols(word)?;
-    require(outer::is_code_word(word), REFUSED_NO_CODE_WORD)
+    require(OUTER.is_code_word(word), REFUSED_NO_CODE_WORD)
 }
 
 /// The sixteen parity symbols of outer data.
 pub fn encode_outer(data: &[u16], space: usize) -> Result<Vec<u16>, u8> {
-    let length = data.len() + outer::PARITY;
-    require(outer::LENGTHS.contains(&length), REFUSED_WORD_LENGTH)?;
-    require(space == outer::PARITY, REFUSED_SPACE)?;
+    let length = data.len() + PARITY;
+    require(OUTER.lengths().contains(&length), REFUSED_WORD_LENGTH)?;
+    require(space == PARITY, REFUSED_SPACE)?;
     require_symbols(data)?;
-    Ok(outer::parity(data).to_vec())
+    Ok(OUTER.parity(data).to_vec())
 }
 
 /// The outer code word within eight symbols, and the number of symbols changed.
 pub fn correct_outer(word: &[u16], space: usize) -> Result<(Vec<u16>, usize), u8> {
-    require(outer::LENGTHS.contains(&word.len()), REFUSED_WORD_LENGTH)?;
+    require(OUTER.lengths().contains(&word.len()), REFUSED_WORD_LENGTH)?;
     require(space == word.len(), REFUSED_SPACE)?;
     require_symbols(word)?;
-    outer::correct(word).ok_or(REFUSED_UNCORRECTABLE)
+    OUTER.correct(word).ok_or(REFUSED_UNCORRECTABLE)
 }
 
 /// Accepts an inner code word.
@@ -149,7 +157,7 @@ pub fn correct_inner(word: &[u8], space: usize) -> Result<(Vec<u8>, Changes), u8
 }
 
 fn require_symbols(symbols: &[u16]) -> Result<(), u8> {
-    require(symbols.iter().all(|&symbol| symbol <= outer::MAX_SYMBOL), REFUSED_SYMBOL)
+    require(symbols.iter().all(|&symbol| symbol <= OUTER.max_symbol()), REFUSED_SYMBOL)
 }
 
 fn require(condition: bool, refusal: u8) -> Result<(), u8> {

@@ -2,8 +2,9 @@
 //! word has something in the omitted front. The public functions are tested in
 //! the folder `tests`.
 
-use crate::field::{Field, FieldA, FieldB};
-use crate::{inner, outer, poly, Changes};
+use crate::field::{Field, FieldA, FieldB, FieldC};
+use crate::reed_solomon::{Code, G709, OUTER, PARITY};
+use crate::{inner, poly, Changes};
 use cases::damage::{symbol_error, wrong_symbols};
 use cases::random::Random;
 
@@ -60,25 +61,32 @@ fn test_powers<F: Field>(polynomial: u32, size: u32) {
 fn field_products_inverses_and_powers() {
     test_field::<FieldA>(0b100_0000_1001, 1024);
     test_field::<FieldB>(0b1000_0000_0101, 2048);
+    test_field::<FieldC>(0b1_0001_1101, 256);
     test_powers::<FieldA>(0b100_0000_1001, 1024);
     test_powers::<FieldB>(0b1000_0000_0101, 2048);
+    test_powers::<FieldC>(0b1_0001_1101, 256);
 }
 
 /// Every polynomial of degree up to 30 is reduced: it is enough to look at each
 /// power, since reduction is linear, and at the bound of the result.
-#[test]
-fn reduction_reaches_degree_30() {
+fn test_reduction<F: Field>() {
     for n in 0..=30 {
-        assert_eq!(FieldA::reduce(1 << n), FieldA::alpha(n));
-        assert_eq!(FieldB::reduce(1 << n), FieldB::alpha(n));
+        assert_eq!(F::reduce(1 << n), F::alpha(n));
     }
     let mut random = Random(1);
     for _ in 0..10_000 {
         let (p, q) = (random.next() as u32 >> 1, random.next() as u32 >> 1);
-        assert_eq!(FieldA::reduce(p) ^ FieldA::reduce(q), FieldA::reduce(p ^ q));
-        assert_eq!(FieldB::reduce(p) ^ FieldB::reduce(q), FieldB::reduce(p ^ q));
-        assert!(FieldA::reduce(p) < 1024 && FieldB::reduce(p) < 2048);
+        assert_eq!(F::reduce(p) ^ F::reduce(q), F::reduce(p ^ q));
+        assert!(F::reduce(p) as usize <= F::ORDER);
     }
+}
+
+#[test]
+fn reduction_reaches_degree_30() {
+    test_reduction::<FieldA>();
+    test_reduction::<FieldB>();
+    test_reduction::<FieldC>();
+    assert_eq!([FieldA::FOLDS, FieldB::FOLDS, FieldC::FOLDS], [3, 3, 6]);
 }
 
 /// Bench rows 1 to 4.
@@ -88,6 +96,14 @@ fn examples_of_the_fields() {
     assert_eq!(FieldA::multiply(516, 2), 1);
     assert_eq!(FieldB::multiply(1024, 2), 5);
     assert_eq!(FieldB::multiply(1026, 2), 1);
+}
+
+/// z^8 is z^4 + z^3 + z^2 + 1; z^7 + z^3 + z^2 + z is 1 over z.
+#[test]
+fn examples_of_the_field_of_rows() {
+    assert_eq!(FieldC::multiply(128, 2), 29);
+    assert_eq!(FieldC::multiply(142, 2), 1);
+    assert_eq!((FieldC::alpha(8), FieldC::alpha(254), FieldC::alpha(255)), (29, 142, 1));
 }
 
 fn value_at(bits: u128, point: u32) -> u32 {
@@ -133,17 +149,22 @@ fn last_data_bit_gives_the_inner_generator() {
     assert_eq!(packed, inner::generator());
 }
 
-/// The outer generator, read off as the parity of the data 1, has the roots a^0
-/// to a^15 and no others.
-#[test]
-fn outer_generator_roots() {
-    let mut coefficients: Vec<u32> = outer::parity(&[1]).map(u32::from).to_vec();
+/// A Reed-Solomon generator, read off as the parity of the data 1, has the roots
+/// a^0 to a^15 and no others.
+fn test_generator<F: Field>(code: &Code<F>) {
+    let mut coefficients: Vec<u32> = code.parity(&[1]).map(u32::from).to_vec();
     coefficients.reverse();
     coefficients.push(1);
-    for n in 0..1023 {
-        let value = poly::evaluate::<FieldA>(&coefficients, FieldA::alpha(n));
+    for n in 0..F::ORDER {
+        let value = poly::evaluate::<F>(&coefficients, F::alpha(n));
         assert_eq!(value == 0, n < 16);
     }
+}
+
+#[test]
+fn reed_solomon_generator_roots() {
+    test_generator(&OUTER);
+    test_generator(&G709);
 }
 
 #[test]
@@ -205,6 +226,8 @@ fn search_finds_places() {
     }
     test::<FieldB>(&mut random, 2040);
     test::<FieldB>(&mut random, 2047);
+    test::<FieldC>(&mut random, 17);
+    test::<FieldC>(&mut random, 255);
 }
 
 /// Every place of an inner word is a data place or a parity place, and the two numbers add up.
@@ -253,18 +276,18 @@ fn outer_omitted_front_is_uncorrectable() {
     let mut random = Random(6);
     for (length, longer) in [(17, 18), (17, 1023), (100, 108), (778, 781), (781, 1023), (1022, 1023)] {
         for wrong_in_front in 1..=8.min(longer - length) {
-            let mut data = random.symbols(longer - outer::PARITY);
+            let mut data = random.symbols(longer - PARITY);
             data[..longer - length].fill(0);
             for place in random.choose(wrong_in_front, longer - length) {
                 data[place] = symbol_error(&mut random);
             }
-            let parity = outer::parity(&data);
+            let parity = OUTER.parity(&data);
             let full = [&data[..], &parity].concat();
-            assert!(outer::is_code_word(&full));
+            assert!(OUTER.is_code_word(&full));
             for errors in 0..=8 - wrong_in_front {
                 let mut received = full[longer - length..].to_vec();
                 wrong_symbols(&mut random, &mut received, errors);
-                assert_eq!(outer::correct(&received), None);
+                assert_eq!(OUTER.correct(&received), None);
             }
         }
     }

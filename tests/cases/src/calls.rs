@@ -3,16 +3,17 @@
 use crate::layout::{FRAME, INNER_WORDS};
 use crate::payloads::{from_bytes, to_bytes};
 use crate::refusals::{Code::*, Entry, Operation::*};
-use second::{Changes, Corrected};
+use second::{g709, Changes, Corrected};
 
 /// What a correction reports: the changed symbols of an outer word; the changed places of an inner word; those of each inner word of a frame, and the sum of
-/// all. Other calls report nothing.
+/// all; the changed bytes of a G.709 frame or row. Other calls report nothing.
 #[derive(Debug, PartialEq)]
 pub enum Report {
     None,
     Outer(usize),
     Inner(Changes),
     Frame([Changes; INNER_WORDS], u32),
+    Bytes(usize),
 }
 
 impl Report {
@@ -22,6 +23,7 @@ impl Report {
             (Correct, Outer) => Report::Outer(0),
             (Correct, Inner) => Report::Inner(Changes::default()),
             (Correct, Frame) => Report::of_frame(&Err(number)),
+            (Correct, G709 | Row) => Report::Bytes(0),
             _ => Report::None,
         }
     }
@@ -42,6 +44,11 @@ fn written(written: Vec<u16>) -> Done {
     Done { written, report: Report::None }
 }
 
+/// A G.709 frame or row, and how many of its bytes are changed.
+fn changed((bytes, n): (Vec<u8>, usize)) -> Done {
+    Done { written: from_bytes(bytes), report: Report::Bytes(n) }
+}
+
 /// What comes of the call, or the refusal's number.
 pub fn call(entry: &Entry, values: &[u16], space: usize) -> Result<Done, u8> {
     let bytes = if entry.code == Outer { vec![] } else { to_bytes(values) };
@@ -49,9 +56,15 @@ pub fn call(entry: &Entry, values: &[u16], space: usize) -> Result<Done, u8> {
         (Check, Outer) => second::check_outer(values).map(|()| written(vec![])),
         (Check, Inner) => second::check_inner(&bytes).map(|()| written(vec![])),
         (Check, Frame) => second::check_frame(&bytes).map(|()| written(vec![])),
+        (Check, G709) => g709::check(&bytes).map(|()| written(vec![])),
+        (Check, Row) => g709::check_row(&bytes).map(|()| written(vec![])),
         (Encode, Outer) => second::encode_outer(values, space).map(written),
         (Encode, Inner) => second::encode_inner(&bytes, space).map(from_bytes).map(written),
         (Encode, Frame) => second::encode_frame(&bytes, space).map(from_bytes).map(written),
+        (Encode, G709) => g709::encode(&bytes, space).map(from_bytes).map(written),
+        (Encode, Row) => g709::encode_row(&bytes, space).map(from_bytes).map(written),
+        (Extract, G709) => g709::extract(&bytes, space).map(from_bytes).map(written),
+        (Extract, Row) => g709::extract_row(&bytes, space).map(from_bytes).map(written),
         (Extract, _) => second::extract_payload(&bytes, space).map(from_bytes).map(written),
         (Correct, Outer) => second::correct_outer(values, space).map(|(written, n)| Done { written, report: Report::Outer(n) }),
         (Correct, Inner) => second::correct_inner(&bytes, space).map(|(word, n)| Done { written: from_bytes(word), report: Report::Inner(n) }),
@@ -60,6 +73,8 @@ pub fn call(entry: &Entry, values: &[u16], space: usize) -> Result<Done, u8> {
             let report = Report::of_frame(&answer);
             answer.map(|c| Done { written: from_bytes(c.frame), report })
         }
+        (Correct, G709) => g709::correct(&bytes, space).map(changed),
+        (Correct, Row) => g709::correct_row(&bytes, space).map(changed),
     }
 }
 

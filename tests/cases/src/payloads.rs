@@ -1,5 +1,6 @@
 //! What is encoded, and what is sent for it: payloads and their frames, the data of single words and their code words.
 
+use crate::g709::{ROW, ROW_DATA};
 use crate::layout::{FRAME, INNER_DATA, INNER_PARITY, OUTER_PARITY, PAYLOAD};
 use crate::random::Random;
 use std::fmt;
@@ -48,6 +49,16 @@ pub fn zero_frame() -> &'static [u8] {
     SENT.get_or_init(|| frame(&of(Data::Each(0), PAYLOAD)))
 }
 
+/// The G.709 frame of a payload.
+pub fn g709_frame(payload: &[u8]) -> Vec<u8> {
+    second::g709::encode(payload, FRAME).expect("a payload has a frame")
+}
+
+/// The G.709 row of data.
+pub fn row(data: &[u8]) -> Vec<u8> {
+    second::g709::encode_row(data, ROW).expect("data have a row")
+}
+
 /// The outer code word of data, parity after them.
 pub fn outer_code_word(data: &[u16]) -> Vec<u16> {
     [data, &second::encode_outer(data, OUTER_PARITY).expect("data has parity")].concat()
@@ -58,10 +69,18 @@ pub fn inner_code_word(data: &[u8]) -> Vec<u8> {
     [data, &second::encode_inner(data, INNER_PARITY).expect("data has parity")].concat()
 }
 
-/// What is sent for random data: a frame, an outer word of a length, an inner word.
+/// What is sent for random data: a frame, a G.709 frame or row, an outer word of a length, an inner word.
 impl Random {
     pub fn frame(&mut self) -> Vec<u8> {
         frame(&random(self, PAYLOAD))
+    }
+
+    pub fn g709_frame(&mut self) -> Vec<u8> {
+        g709_frame(&random(self, PAYLOAD))
+    }
+
+    pub fn row(&mut self) -> Vec<u8> {
+        row(&self.bytes(ROW_DATA))
     }
 
     pub fn outer_code_word(&mut self, length: usize) -> Vec<u16> {

@@ -1,5 +1,6 @@
 //! The refusals: the number of each, and for every entry the lengths that it takes, how much it writes, and which refusals it has in which order.
 
+use crate::g709::{ROW, ROW_DATA};
 use crate::layout::*;
 use std::ops::RangeInclusive;
 
@@ -9,14 +10,16 @@ pub const PAYLOAD_LENGTH: u8 = 1;
 pub const BLOCK_LENGTH: u8 = 2;
 /// The buffer is not exactly as long as the answer.
 pub const SPACE: u8 = 3;
-/// The block is no frame, or the word no code word.
+/// The block is no frame, the row none of any data, or the word no code word.
 pub const NO_CODE_WORD: u8 = 4;
-/// The block, or the word, is beyond reach of a correction.
+/// The block, the row or the word is beyond reach of a correction.
 pub const UNCORRECTABLE: u8 = 5;
 /// The word, or the data of one, has another length than those taken.
 pub const WORD_LENGTH: u8 = 6;
 /// A symbol is above 1,023.
 pub const SYMBOL: u8 = 7;
+/// The G.709 row, or the data of one, has another length than that taken.
+pub const ROW_LENGTH: u8 = 8;
 
 #[derive(Clone, Copy, Debug, PartialEq)]
 pub enum Operation {
@@ -31,6 +34,10 @@ pub enum Code {
     Outer,
     Inner,
     Frame,
+    /// G.709 frames.
+    G709,
+    /// Single rows of G.709 frames.
+    Row,
 }
 
 /// How many elements an answer has.
@@ -72,7 +79,7 @@ use Written::*;
 const OUTER: RangeInclusive<usize> = OUTER_PARITY + 1..=LARGEST_SYMBOL as usize;
 const OUTER_DATA: RangeInclusive<usize> = 1..=LARGEST_SYMBOL as usize - OUTER_PARITY;
 
-pub static ENTRIES: [Entry; 10] = [
+pub static ENTRIES: [Entry; 18] = [
     entry((Encode, Frame), "encode-frame", "payload", PAYLOAD..=PAYLOAD, Exactly(FRAME), &[PAYLOAD_LENGTH, SPACE]),
     entry((Check, Frame), "check-frame", "block", FRAME..=FRAME, Nothing, &[BLOCK_LENGTH, NO_CODE_WORD]),
     entry((Extract, Frame), "extract-payload", "block", FRAME..=FRAME, Exactly(PAYLOAD), &[BLOCK_LENGTH, SPACE, NO_CODE_WORD]),
@@ -83,9 +90,17 @@ pub static ENTRIES: [Entry; 10] = [
     entry((Check, Inner), "check-inner", "word", INNER_BYTES..=INNER_BYTES, Nothing, &[WORD_LENGTH, NO_CODE_WORD]),
     entry((Encode, Inner), "encode-inner", "data", INNER_DATA..=INNER_DATA, Exactly(INNER_PARITY), &[WORD_LENGTH, SPACE]),
     entry((Correct, Inner), "correct-inner", "word", INNER_BYTES..=INNER_BYTES, Exactly(INNER_BYTES), &[WORD_LENGTH, SPACE, UNCORRECTABLE]),
+    entry((Encode, G709), "encode-g709", "payload", PAYLOAD..=PAYLOAD, Exactly(FRAME), &[PAYLOAD_LENGTH, SPACE]),
+    entry((Check, G709), "check-g709", "block", FRAME..=FRAME, Nothing, &[BLOCK_LENGTH, NO_CODE_WORD]),
+    entry((Extract, G709), "extract-g709", "block", FRAME..=FRAME, Exactly(PAYLOAD), &[BLOCK_LENGTH, SPACE, NO_CODE_WORD]),
+    entry((Correct, G709), "correct-g709", "block", FRAME..=FRAME, Exactly(FRAME), &[BLOCK_LENGTH, SPACE, UNCORRECTABLE]),
+    entry((Encode, Row), "encode-row", "data", ROW_DATA..=ROW_DATA, Exactly(ROW), &[ROW_LENGTH, SPACE]),
+    entry((Check, Row), "check-row", "row", ROW..=ROW, Nothing, &[ROW_LENGTH, NO_CODE_WORD]),
+    entry((Extract, Row), "extract-row", "row", ROW..=ROW, Exactly(ROW_DATA), &[ROW_LENGTH, SPACE, NO_CODE_WORD]),
+    entry((Correct, Row), "correct-row", "row", ROW..=ROW, Exactly(ROW), &[ROW_LENGTH, SPACE, UNCORRECTABLE]),
 ];
 
-/// The entry for an operation and a code; a payload is extracted from a frame alone.
+/// The entry for an operation and a code; a payload or data are extracted from a frame or row alone.
 pub fn entry_of(operation: Operation, code: Code) -> &'static Entry {
     ENTRIES.iter().find(|entry| entry.operation == operation && entry.code == code).expect("an entry")
 }
@@ -127,7 +142,7 @@ impl Entry {
 
     fn applies(&self, number: u8, given: &Given) -> bool {
         match number {
-            PAYLOAD_LENGTH | BLOCK_LENGTH | WORD_LENGTH => !self.lengths.contains(&given.length),
+            PAYLOAD_LENGTH | BLOCK_LENGTH | WORD_LENGTH | ROW_LENGTH => !self.lengths.contains(&given.length),
             SPACE => given.space != self.space(given.length),
             SYMBOL => given.largest > LARGEST_SYMBOL,
             NO_CODE_WORD => given.content != Content::AsSent,
@@ -201,6 +216,16 @@ mod tests {
         assert_eq!(entry_of(Encode, Inner).past_space(), [0, 10, 12]);
     }
 
+    #[test]
+    fn limits_are_those_of_request_a3() {
+        assert_eq!((entry_of(Encode, G709).past(), entry_of(Encode, G709).past_space()), (vec![0, 15_295, 15_297], vec![0, 16_319, 16_321]));
+        assert_eq!((entry_of(Extract, G709).past(), entry_of(Extract, G709).past_space()), (vec![0, 16_319, 16_321], vec![0, 15_295, 15_297]));
+        assert_eq!((entry_of(Encode, Row).past(), entry_of(Encode, Row).past_space()), (vec![0, 3_823, 3_825], vec![0, 4_079, 4_081]));
+        assert_eq!((entry_of(Extract, Row).past(), entry_of(Extract, Row).past_space()), (vec![0, 4_079, 4_081], vec![0, 3_823, 3_825]));
+        assert_eq!((entry_of(Correct, Row).past(), entry_of(Correct, Row).past_space()), (vec![0, 4_079, 4_081], vec![0, 4_079, 4_081]));
+        assert!([3_823, 3_824, 3_825, 4_079, 4_080, 4_081].iter().all(|limit| all_limits().contains(limit)));
+    }
+
     /// With each thing put right that is refused, the next refusal of the entry applies, and none after the last.
     #[test]
     fn the_first_refusal_that_applies_is_answered() {
@@ -218,5 +243,12 @@ mod tests {
         assert_eq!(entry_of(Check, Outer).answer(&given), 4);
         assert_eq!(entry_of(Check, Frame).answer(&given), 2);
         assert_eq!(entry_of(Encode, Frame).answer(&given), 1);
+        let (correct, mut given) = (entry_of(Correct, Row), Given::of_length(4_079, 4_079, Content::Lost));
+        assert_eq!(correct.answer(&given), 8);
+        given.length = 4_080;
+        assert_eq!(correct.answer(&given), 3);
+        given.space = 4_080;
+        assert_eq!(correct.answer(&given), 5);
+        assert_eq!(entry_of(Check, Row).answer(&given), 4);
     }
 }

@@ -5,14 +5,16 @@ use cases::payloads::{self, from_bytes, outer_code_word};
 use cases::random::Random;
 use cases::refusals::{all_limits, Code, Content, Entry, Given, Operation, ENTRIES};
 
-/// An input of this length: a frame or code word if there is one so long, else something like it.
+/// An input of this length: a frame, row or code word if there is one so long, else something like it.
 fn as_sent(random: &mut Random, entry: &Entry, length: usize) -> Vec<u16> {
     let taken = entry.lengths.contains(&length);
     let mut values = match (entry.operation, entry.code) {
         (Operation::Encode, Code::Outer) => random.symbols(length),
-        (Operation::Encode, Code::Inner) => from_bytes(random.bytes(length)),
-        (Operation::Encode, Code::Frame) => from_bytes(payloads::random(random, length)),
+        (Operation::Encode, Code::Inner | Code::Row) => from_bytes(random.bytes(length)),
+        (Operation::Encode, Code::Frame | Code::G709) => from_bytes(payloads::random(random, length)),
         (_, Code::Frame) => from_bytes(random.frame()),
+        (_, Code::G709) => from_bytes(random.g709_frame()),
+        (_, Code::Row) => from_bytes(random.row()),
         (_, Code::Outer) if taken => random.outer_code_word(length),
         (_, Code::Outer) => outer_code_word(&[1]),
         (_, Code::Inner) => from_bytes(random.inner_code_word()),
@@ -81,4 +83,14 @@ fn outer_refusals_in_order() {
 #[test]
 fn inner_refusals_in_order() {
     all_refused_in_order(22, |entry| entry.code == Code::Inner);
+}
+
+#[test]
+fn g709_refusals_in_order() {
+    all_refused_in_order(23, |entry| entry.code == Code::G709);
+}
+
+#[test]
+fn row_refusals_in_order() {
+    all_refused_in_order(24, |entry| entry.code == Code::Row);
 }

@@ -1,6 +1,7 @@
 // The library's calls, named by two numbers: an operation and a code. Values go in and out as 16-bit numbers, which are narrowed to bytes and widened again
-// where a call takes bytes. A call's answer is printed: 0 or the refusal's number; then of a corrected outer word how many symbols were changed, of an inner
-// word how many data places and how many parity places, and of a frame the sum and the digests of both counts of its inner words.
+// where a call takes bytes. A call's answer is printed: 0 or the refusal's number; then of a corrected outer word how many symbols were changed, of a G.709
+// frame or row how many bytes, of an inner word how many data places and how many parity places, and of a frame the sum and the digests of both counts of its
+// inner words.
 use crate::lines::number;
 use crate::lines::text;
 use crate::values::MOST;
@@ -23,6 +24,10 @@ pub(crate) const INNER: usize = 5;
 
 pub(crate) const FRAME: usize = 6;
 
+pub(crate) const G709: usize = 7;
+
+pub(crate) const ROW: usize = 8;
+
 pub(crate) fn name(n: usize) {
     match n {
         CHECK => text(b"check"),
@@ -31,7 +36,9 @@ pub(crate) fn name(n: usize) {
         CORRECT => text(b"correct"),
         OUTER => text(b" outer"),
         INNER => text(b" inner"),
-        _ => text(b" frame"),
+        FRAME => text(b" frame"),
+        G709 => text(b" g709"),
+        _ => text(b" row"),
     }
 }
 
@@ -39,7 +46,7 @@ fn refusal(n: u8) {
     number(n as usize);
 }
 
-fn outer_correction(result: words::Correction) {
+fn correction(result: words::Correction) {
     match result {
         words::Correction::Corrected { changed } => {
             refusal(0);
@@ -80,7 +87,7 @@ fn outer(operation: usize, word: &[u16], out: &mut [u16]) {
     match operation {
         CHECK => refusal(words::check_outer(word)),
         ENCODE => refusal(words::encode_outer(word, out)),
-        _ => outer_correction(words::correct_outer(word, out)),
+        _ => correction(words::correct_outer(word, out)),
     }
 }
 
@@ -101,15 +108,34 @@ fn frame(operation: usize, block: &[u8], out: &mut [u8]) {
     }
 }
 
+fn g709_frame(operation: usize, block: &[u8], out: &mut [u8]) {
+    match operation {
+        CHECK => refusal(g709::check(block)),
+        ENCODE => refusal(g709::encode(block, out)),
+        EXTRACT => refusal(g709::extract(block, out)),
+        _ => correction(g709::correct(block, out)),
+    }
+}
+
+fn row(operation: usize, bytes: &[u8], out: &mut [u8]) {
+    match operation {
+        CHECK => refusal(g709::check_row(bytes)),
+        ENCODE => refusal(g709::encode_row(bytes, out)),
+        EXTRACT => refusal(g709::extract_row(bytes, out)),
+        _ => correction(g709::correct_row(bytes, out)),
+    }
+}
+
 // Lends the first n bytes, and as many of the buffer's as the space says.
 fn by_bytes(operation: usize, code: usize, bytes: &[u8], n: usize, out: &mut [u8], space: usize) {
     let end = at_most(space, out.len());
     let lent = &bytes[..at_most(n, bytes.len())];
     let free = &mut out[..end];
-    if code == INNER {
-        inner(operation, lent, free);
-    } else {
-        frame(operation, lent, free);
+    match code {
+        INNER => inner(operation, lent, free),
+        FRAME => frame(operation, lent, free),
+        G709 => g709_frame(operation, lent, free),
+        _ => row(operation, lent, free),
     }
 }
 

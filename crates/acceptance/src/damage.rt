@@ -1,5 +1,6 @@
 // Lists filled with a row's data, and errors in them.
-use crate::calls::OUTER;
+use crate::calls::FRAME;
+use crate::calls::INNER;
 use crate::data::value_at;
 
 const FRAME_BITS: usize = frames::Frame::BYTES * 8;
@@ -18,12 +19,13 @@ fn add(values: &mut [u16], i: usize, error: u16) {
     }
 }
 
-// An error in a symbol of an outer word; in an inner word or a frame, an inverted bit.
+// In an inner word or a frame, an inverted bit; else an error in a symbol of an outer word, or in a byte of a G.709 frame or row, going round at the end of a
+// frame.
 pub(crate) fn add_error(code: usize, values: &mut [u16], place: usize, error: u16) {
-    if code == OUTER {
-        add(values, place, error);
-    } else {
+    if code == INNER || code == FRAME {
         add(values, place / 8, 128 >> (place % 8));
+    } else {
+        add(values, place % frames::Frame::BYTES, error);
     }
 }
 

@@ -2,6 +2,7 @@
 //
 //     lent      operation, code, bytes, data, buffer
 //     received  operation, code, payload bytes, payload, bytes sent, errors, value of each, first place, places apart, buffer
+//     block     code, bytes, data, buffer
 //     correct   payload, wrong bits, first place, places apart
 use crate::calls::CHECK;
 use crate::calls::CORRECT;
@@ -44,39 +45,40 @@ pub(crate) fn payloads() {
 }
 
 // A block that is refused by the check is not extracted either.
-fn block(n: usize, data: usize, space: usize) {
-    lent(CHECK, FRAME, n, data, 0);
-    lent(EXTRACT, FRAME, n, data, space);
+pub(crate) fn block(code: usize, n: usize, data: usize, space: usize) {
+    lent(CHECK, code, n, data, 0);
+    lent(EXTRACT, code, n, data, space);
 }
 
-pub(crate) fn refusals() {
-    lent(ENCODE, FRAME, 0, 0, 16319);
-    lent(ENCODE, FRAME, 15295, 0, 16319);
-    lent(ENCODE, FRAME, 15297, 0, 16319);
-    lent(ENCODE, FRAME, 15296, 0, 0);
-    lent(ENCODE, FRAME, 15296, 0, 16319);
-    lent(ENCODE, FRAME, 15296, 0, 16321);
-    block(0, 0, 15295);
-    block(16319, 0, 15295);
-    block(16321, 0, 15295);
-    block(16320, BIT, 15296);
-    block(16320, BIT + 64, 15296);
-    block(16320, BIT + 124767, 15296);
-    block(16320, BIT + 124768, 15296);
-    block(16320, BIT + 124927, 15296);
-    block(16320, BIT + 124928, 15296);
-    block(16320, BIT + 130559, 15296);
-    lent(EXTRACT, FRAME, 16320, 255, 0);
-    lent(EXTRACT, FRAME, 16320, 255, 15295);
-    lent(EXTRACT, FRAME, 16320, 255, 15297);
-    lent(CORRECT, FRAME, 0, 0, 0);
-    lent(CORRECT, FRAME, 16319, 0, 16319);
-    lent(CORRECT, FRAME, 16321, 0, 16320);
-    lent(CORRECT, FRAME, 16320, 0, 0);
-    lent(CORRECT, FRAME, 16320, 0, 16319);
-    lent(CORRECT, FRAME, 16320, 0, 16321);
-    lent(CORRECT, FRAME, 16320, 255, 16321);
-    lent(CORRECT, FRAME, 16320, 255, 16320);
+// Both kinds of frames have the same lengths, and what is refused here is refused of both.
+pub(crate) fn refusals(code: usize) {
+    lent(ENCODE, code, 0, 0, 16319);
+    lent(ENCODE, code, 15295, 0, 16319);
+    lent(ENCODE, code, 15297, 0, 16319);
+    lent(ENCODE, code, 15296, 0, 0);
+    lent(ENCODE, code, 15296, 0, 16319);
+    lent(ENCODE, code, 15296, 0, 16321);
+    block(code, 0, 0, 15295);
+    block(code, 16319, 0, 15295);
+    block(code, 16321, 0, 15295);
+    block(code, 16320, BIT, 15296);
+    block(code, 16320, BIT + 64, 15296);
+    block(code, 16320, BIT + 124767, 15296);
+    block(code, 16320, BIT + 124768, 15296);
+    block(code, 16320, BIT + 124927, 15296);
+    block(code, 16320, BIT + 124928, 15296);
+    block(code, 16320, BIT + 130559, 15296);
+    lent(EXTRACT, code, 16320, 255, 0);
+    lent(EXTRACT, code, 16320, 255, 15295);
+    lent(EXTRACT, code, 16320, 255, 15297);
+    lent(CORRECT, code, 0, 0, 0);
+    lent(CORRECT, code, 16319, 0, 16319);
+    lent(CORRECT, code, 16321, 0, 16320);
+    lent(CORRECT, code, 16320, 0, 0);
+    lent(CORRECT, code, 16320, 0, 16319);
+    lent(CORRECT, code, 16320, 0, 16321);
+    lent(CORRECT, code, 16320, 255, 16321);
+    lent(CORRECT, code, 16320, 255, 16320);
 }
 
 fn correct(data: usize, count: usize, first: usize, step: u16) {

@@ -1,6 +1,7 @@
 // Rows: a line names the call and what it is lent, and gives its answer with the buffer, which is shown after the call, refused or not.
 use crate::calls::ENCODE;
-use crate::calls::FRAME;
+use crate::calls::INNER;
+use crate::calls::OUTER;
 use crate::calls::call;
 use crate::calls::name;
 use crate::damage::add_errors;
@@ -36,11 +37,11 @@ pub(crate) fn lent(operation: usize, code: usize, n: usize, data: usize, space: 
     row(operation, code, &values, n, space);
 }
 
-// Writes the word or frame of n values that is sent for d values of the data, and prints the encoder's answer. A word is its data with the parity after them;
-// a frame is written whole.
+// Writes the word, frame or row of n values that is sent for d values of the data, and prints the encoder's answer. A word is its data with the parity after
+// them; a frame or row is written whole.
 pub(crate) fn send(code: usize, d: usize, data: usize, n: usize, word: &mut [u16]) {
     let mut values = [0u16; MOST];
-    let parity = if code == FRAME { 0 } else { d };
+    let parity = if code == OUTER || code == INNER { d } else { 0 };
     part(b", encoded to ", n);
     text(b":");
     fill(&mut values, data);
@@ -48,7 +49,7 @@ pub(crate) fn send(code: usize, d: usize, data: usize, n: usize, word: &mut [u16
     call(ENCODE, code, &values, d, word, parity, n);
 }
 
-// Lends what is received, n values, when the word or frame of d values of the data is sent. Errors have one value, and their places are `step` apart.
+// Lends what is received, n values, when the word, frame or row of d values is sent. Errors have one value, and their places are `step` apart.
 pub(crate) fn received(
     operation: usize,
     code: usize,

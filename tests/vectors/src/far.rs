@@ -1,12 +1,14 @@
 //! That no code word is near, known from nine errors themselves and with no decoder.
 
 use crate::errors::Errors;
+use cases::g709::{in_each_word, word_of, WORD};
 use cases::layout::{changes, symbol, symbol_of, symbols_in, INNER_WORDS, LAST_WORD, PLACES, RADIUS};
 use cases::refusals::Code;
-use second::{Field, FieldA, FieldB};
+use second::{Field, FieldA, FieldB, FieldC};
 
-/// The roots of the outer generator are a^0 to a^15, and those of the inner one have a^1 to a^16 among them.
+/// The roots of the outer generator and of that of G.709 words are a^0 to a^15, and those of the inner one have a^1 to a^16 among them.
 const FIRST_OUTER_ROOT: usize = 0;
+const FIRST_G709_ROOT: usize = 0;
 const FIRST_INNER_ROOT: usize = 1;
 
 /// Is a single word with nine errors too far from every code word? Its length is given in symbols or bytes.
@@ -30,6 +32,14 @@ pub fn nine_in_frame(inverted: &[usize]) -> bool {
     let symbols: Vec<usize> = nine_of.iter().map(|&i| symbol_of(i).1).collect();
     let values: Vec<u16> = nine_of.iter().zip(&symbols).map(|(i, &s)| 512 >> (i - symbol(w, s).start)).collect();
     nine::<FieldB>(FIRST_INNER_ROOT, PLACES, &places, &[1; 9]) && nine::<FieldA>(FIRST_OUTER_ROOT, symbols_in(w), &symbols, &values)
+}
+
+/// Is a G.709 frame or row with these wrong bytes uncorrectable? The first word that has more than eight of them has nine, and is too far from every code word.
+pub fn nine_in_a_g709_word(errors: &Errors) -> bool {
+    let k = in_each_word(&errors.places).into_iter().position(|n| n > RADIUS).expect("a word with more than eight");
+    let of_word = errors.places.iter().zip(&errors.values).filter(|(&byte, _)| word_of(byte).0 == k);
+    let (places, values): (Vec<usize>, Vec<u16>) = of_word.map(|(&byte, &value)| (word_of(byte).1, value)).unzip();
+    nine::<FieldC>(FIRST_G709_ROOT, WORD, &places, &values)
 }
 
 /// Is a word with nine errors more than eight places from every code word?
@@ -59,8 +69,9 @@ fn nine<F: Field>(first_root: usize, length: usize, places: &[usize], values: &[
 mod tests {
     use super::*;
     use cases::damage::add;
+    use cases::g709::{ROW, ROW_DATA, ROW_WORDS};
     use cases::light::POWERS;
-    use cases::payloads::outer_code_word;
+    use cases::payloads::{self, outer_code_word, to_bytes, Data};
     use cases::refusals::UNCORRECTABLE;
 
     /// Nine of the seventeen places in which two code words differ: the second one is within eight.
@@ -89,6 +100,30 @@ mod tests {
         assert!(!nine::<FieldB>(FIRST_INNER_ROOT, PLACES, &places[8..], &[1; 9]));
         places[8] += 1;
         assert!(nine::<FieldB>(FIRST_INNER_ROOT, PLACES, &places[8..], &[1; 9]));
+    }
+
+    /// The row of one data byte has seventeen bytes other than zero, all in one word: with nine of them it is within eight.
+    #[test]
+    fn between_two_g709_words_one_is_near() {
+        let row = payloads::row(&payloads::of(Data::Bit(9_000), ROW_DATA));
+        let (places, values): (Vec<usize>, Vec<u16>) = (0..ROW).filter(|&i| row[i] != 0).map(|i| (word_of(i).1, u16::from(row[i]))).unzip();
+        assert_eq!(places.len(), 17);
+        for from in 0..=8 {
+            let (places, values) = (&places[from..from + 9], &values[from..from + 9]);
+            assert!(!nine::<FieldC>(FIRST_G709_ROOT, WORD, places, values));
+            let other: Vec<u16> = values.iter().map(|value| value % 255 + 1).collect();
+            assert!(nine::<FieldC>(FIRST_G709_ROOT, WORD, places, &other));
+        }
+    }
+
+    /// Nine wrong bytes of a word of a row, a step apart: the decoder says the same.
+    #[test]
+    fn the_decoder_of_rows_agrees() {
+        for step in 1..=28 {
+            let errors = Errors::of_bytes(9, 9 * step as u16, 7 * step, ROW_WORDS * (step % 26 + 1));
+            let received = to_bytes(&errors.in_sent(Code::Row, &[0; ROW]));
+            assert_eq!(nine_in_a_g709_word(&errors), second::g709::correct_row(&received, ROW) == Err(UNCORRECTABLE));
+        }
     }
 
     /// Nine errors at places a step apart: the decoder says the same.

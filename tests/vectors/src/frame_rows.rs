@@ -1,4 +1,5 @@
-//! Rows on frames: payloads that are encoded, checked and extracted again, refusals, blocks that are no frames, and corrections.
+//! Rows on frames: payloads that are encoded, checked and extracted again, refusals, blocks that are no frames, and corrections. Both kinds of frames have the
+//! same lengths, and what is refused here is refused of both.
 
 use crate::errors::Errors;
 use crate::far;
@@ -11,11 +12,15 @@ use cases::refusals::Content::{AsSent, Correctable, Lost};
 use cases::refusals::{entry_of, Code, Entry, Operation};
 
 pub fn print() {
-    let [encode, check, extract, correct] =
-        [Operation::Encode, Operation::Check, Operation::Extract, Operation::Correct].map(|operation| entry_of(operation, Code::Frame));
+    let [encode, check, extract, correct] = entries(Code::Frame);
     payloads(encode, check, extract);
-    refusals(encode, check, extract, correct);
+    refusals(Code::Frame);
     corrections(correct);
+}
+
+/// The four entries of a code.
+pub fn entries(code: Code) -> [&'static Entry; 4] {
+    [Operation::Encode, Operation::Check, Operation::Extract, Operation::Correct].map(|operation| entry_of(operation, code))
 }
 
 fn payloads(encode: &Entry, check: &Entry, extract: &Entry) {
@@ -29,7 +34,8 @@ fn payloads(encode: &Entry, check: &Entry, extract: &Entry) {
     }
 }
 
-fn refusals(encode: &Entry, check: &Entry, extract: &Entry, correct: &Entry) {
+pub fn refusals(code: Code) {
+    let [encode, check, extract, correct] = entries(code);
     for n in encode.past() {
         given(encode, n, Each(0), FRAME - 1, AsSent);
     }

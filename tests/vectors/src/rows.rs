@@ -25,7 +25,7 @@ pub fn received(entry: &Entry, d: usize, data: Data, errors: &Errors, space: usi
     if entry.operation == Operation::Correct && answer.number == 0 {
         assert!(answer.buffer == sent, "the sent word or frame comes back");
         assert_eq!(answer.report, reported(entry.code, &errors.places));
-    } else if entry.operation == Operation::Correct && entry.code != Code::Frame {
+    } else if entry.operation == Operation::Correct && matches!(entry.code, Code::Outer | Code::Inner) {
         assert!(far::nine_in_word(entry.code, sent.len(), errors), "no code word is near");
     }
     answer.buffer
@@ -35,30 +35,33 @@ fn name(entry: &Entry) -> String {
     format!("{:?} {:?}", entry.operation, entry.code).to_lowercase()
 }
 
-/// What is encoded: a payload, or the data of a word.
+/// What is encoded: a payload, or the data of a word or row.
 fn encoded(code: Code, data: Data, n: usize) -> Vec<u16> {
-    if code == Code::Frame {
+    if matches!(code, Code::Frame | Code::G709) {
         from_bytes(payloads::of(data, n))
     } else {
         data.values(n)
     }
 }
 
-/// The code word or frame that is sent.
+/// The code word, frame or row that is sent.
 fn sent(code: Code, data: &[u16]) -> Vec<u16> {
     match code {
         Code::Outer => outer_code_word(data),
         Code::Inner => from_bytes(inner_code_word(&to_bytes(data))),
         Code::Frame => from_bytes(payloads::frame(&to_bytes(data))),
+        Code::G709 => from_bytes(payloads::g709_frame(&to_bytes(data))),
+        Code::Row => from_bytes(payloads::row(&to_bytes(data))),
     }
 }
 
-/// What a correction reports if it changes these symbols, places or frame bits.
+/// What a correction reports if it changes these symbols, places, frame bits or bytes.
 fn reported(code: Code, wrong: &[usize]) -> Report {
     match code {
         Code::Outer => Report::Outer(wrong.len()),
         Code::Inner => Report::Inner(changes_of_word(wrong)),
         Code::Frame => Report::Frame(changes(wrong), wrong.len() as u32),
+        Code::G709 | Code::Row => Report::Bytes(wrong.len()),
     }
 }
 
@@ -80,12 +83,12 @@ fn answered(entry: &Entry, values: &[u16], space: usize, content: Content) -> An
     answer
 }
 
-/// A report in numbers: changed symbols of an outer word; changed data places and parity places of an inner word; the sum for a frame, and the digests of the
-/// data places and of the parity places of all inner words.
+/// A report in numbers: changed symbols of an outer word, or bytes of a G.709 frame or row; changed data places and parity places of an inner word; of a frame
+/// the sum, and the digests of the data places and of the parity places of all inner words.
 fn numbers(report: &Report) -> Vec<u64> {
     match report {
         Report::None => vec![],
-        Report::Outer(changed) => vec![*changed as u64],
+        Report::Outer(changed) | Report::Bytes(changed) => vec![*changed as u64],
         Report::Inner(changes) => vec![changes.data.into(), changes.parity.into()],
         Report::Frame(changes, sum) => vec![u64::from(*sum), digest(&changes.map(|c| c.data)), digest(&changes.map(|c| c.parity))],
     }

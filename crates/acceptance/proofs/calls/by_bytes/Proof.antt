@@ -25,6 +25,12 @@ inner-requires c κs = search needs
 frame-requires : tie.Need-frame-requires
 frame-requires c κs = search needs
 
+g709-frame-requires : tie.Need-g709-frame-requires
+g709-frame-requires c κs = search needs
+
+row-requires : tie.Need-row-requires
+row-requires c κs = search needs
+
 same-length : tie.Need-same-length
 same-length c = search needs
 
@@ -37,6 +43,18 @@ same-length-2 c = search needs
 returns-2 : tie.Need-returns-2
 returns-2 c = search needs
 
+same-length-3 : tie.Need-same-length-3
+same-length-3 c = search needs
+
+returns-3 : tie.Need-returns-3
+returns-3 c = search needs
+
+same-length-4 : tie.Need-same-length-4
+same-length-4 c = search needs
+
+returns-4 : tie.Need-returns-4
+returns-4 c = search needs
+
 pub by-bytes-spec : {M : Type 1} → statement M
 by-bytes-spec =
     tie.close
@@ -48,7 +66,13 @@ by-bytes-spec =
     slice-aggregate-free
     inner-requires
     frame-requires
+    g709-frame-requires
+    row-requires
     same-length
     returns
     same-length-2
-    returns-2)
+    returns-2
+    same-length-3
+    returns-3
+    same-length-4
+    returns-4)

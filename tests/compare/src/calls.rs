@@ -5,7 +5,7 @@ use cases::random::Random;
 use cases::refusals::{Code::*, Entry, Operation::*};
 use second::{Changes, Corrected};
 use std::fmt::Debug;
-use wrapper::{frames, logging, words, Refusal};
+use wrapper::{frames, g709, logging, words, Refusal};
 
 /// 0 or the refusal's number, on which both sides agree; or what differs.
 pub type Answer = Result<u8, String>;
@@ -127,6 +127,63 @@ pub fn correct_inner(random: &mut Random, word: &[u8], space: usize) -> Result<R
     Ok(answer)
 }
 
+pub fn encode_g709(random: &mut Random, payload: &[u8], space: usize) -> Answer {
+    let expected = no_number(second::g709::encode(payload, space));
+    compare("encode_g709", payload, &mut bytes_before(random, space), expected, g709::encode)
+}
+
+pub fn check_g709(block: &[u8]) -> Answer {
+    let expected = no_number(second::g709::check(block).map(|()| vec![]));
+    compare("check_g709", block, &mut Guarded::new(&[]), expected, |i, _| g709::check(i))
+}
+
+pub fn extract_g709(random: &mut Random, block: &[u8], space: usize) -> Answer {
+    let expected = no_number(second::g709::extract(block, space));
+    compare("extract_g709", block, &mut bytes_before(random, space), expected, g709::extract)
+}
+
+pub fn encode_row(random: &mut Random, data: &[u8], space: usize) -> Answer {
+    let expected = no_number(second::g709::encode_row(data, space));
+    compare("encode_row", data, &mut bytes_before(random, space), expected, g709::encode_row)
+}
+
+pub fn check_row(row: &[u8]) -> Answer {
+    let expected = no_number(second::g709::check_row(row).map(|()| vec![]));
+    compare("check_row", row, &mut Guarded::new(&[]), expected, |i, _| g709::check_row(i))
+}
+
+pub fn extract_row(random: &mut Random, row: &[u8], space: usize) -> Answer {
+    let expected = no_number(second::g709::extract_row(row, space));
+    compare("extract_row", row, &mut bytes_before(random, space), expected, g709::extract_row)
+}
+
+/// A G.709 frame or row with the number of bytes changed, or the refusal's number; or what differs.
+pub type Counted = Result<Result<(Vec<u8>, usize), u8>, String>;
+
+/// The entry for C, and the one with the number of bytes changed.
+pub fn correct_g709(random: &mut Random, block: &[u8], space: usize) -> Counted {
+    let answer = second::g709::correct(block, space);
+    compare("correct_g709", block, &mut bytes_before(random, space), no_number(content(&answer)), g709::correct)?;
+    compare("correct_g709 with its number", block, &mut bytes_before(random, space), numbered(&answer), g709::correct_counted)?;
+    Ok(answer)
+}
+
+/// The same for a row.
+pub fn correct_row(random: &mut Random, row: &[u8], space: usize) -> Counted {
+    let answer = second::g709::correct_row(row, space);
+    compare("correct_row", row, &mut bytes_before(random, space), no_number(content(&answer)), g709::correct_row)?;
+    compare("correct_row with its number", row, &mut bytes_before(random, space), numbered(&answer), g709::correct_row_counted)?;
+    Ok(answer)
+}
+
+fn content(answer: &Result<(Vec<u8>, usize), u8>) -> Result<Vec<u8>, u8> {
+    answer.as_ref().map(|(content, _)| content.clone()).map_err(|n| *n)
+}
+
+fn numbered(answer: &Result<(Vec<u8>, usize), u8>) -> Expected<u8, u64> {
+    answer.clone().map(|(content, changed)| (content, changed as u64))
+}
+
 /// Counts that are not 64 stand for zeros.
 fn counts(lent: &[u16]) -> [u16; frames::INNER_WORDS] {
     lent.try_into().unwrap_or([0; frames::INNER_WORDS])
@@ -186,6 +243,14 @@ pub fn call(entry: &Entry, random: &mut Random, input: &Input, space: usize, lis
         (Check, Inner, Bytes(word)) => check_inner(word),
         (Encode, Inner, Bytes(data)) => encode_inner(random, data, space),
         (Correct, Inner, Bytes(word)) => correct_inner(random, word, space).map(number),
+        (Encode, G709, Bytes(payload)) => encode_g709(random, payload, space),
+        (Check, G709, Bytes(block)) => check_g709(block),
+        (Extract, G709, Bytes(block)) => extract_g709(random, block, space),
+        (Correct, G709, Bytes(block)) => correct_g709(random, block, space).map(number),
+        (Encode, Row, Bytes(data)) => encode_row(random, data, space),
+        (Check, Row, Bytes(row)) => check_row(row),
+        (Extract, Row, Bytes(row)) => extract_row(random, row, space),
+        (Correct, Row, Bytes(row)) => correct_row(random, row, space).map(number),
         _ => Err(format!("{} reads something else", entry.name)),
     }
 }

@@ -21,7 +21,7 @@ fn answered(entry: &Entry, random: &mut Random, input: &Input, space: usize, lis
     Ok(Done { answer, damaged: false })
 }
 
-/// The zero frame with a bit inverted or none, cut or continued with random bytes to n.
+/// The zero frame, which is one of G.709 too and has rows of zeros, with a bit inverted or none, cut or continued with random bytes to n.
 fn block(random: &mut Random, n: usize) -> Vec<u8> {
     let mut block = payloads::zero_frame()[..n.min(FRAME)].to_vec();
     if n > 0 && random.chance(2) {
@@ -42,9 +42,9 @@ fn single_one(random: &mut Random, n: usize) -> Vec<u16> {
 fn input(entry: &Entry, random: &mut Random, n: usize) -> Input {
     match (entry.operation, entry.code) {
         (_, Code::Outer) => Input::Symbols(random.symbols(n)),
-        (_, Code::Inner) => Input::Bytes(random.bytes(n)),
-        (Operation::Encode, Code::Frame) => Input::Bytes(payloads::random(random, n)),
-        (_, Code::Frame) => Input::Bytes(block(random, n)),
+        (_, Code::Inner) | (Operation::Encode, Code::Row) => Input::Bytes(random.bytes(n)),
+        (Operation::Encode, Code::Frame | Code::G709) => Input::Bytes(payloads::random(random, n)),
+        (_, Code::Frame | Code::G709 | Code::Row) => Input::Bytes(block(random, n)),
     }
 }
 
@@ -87,7 +87,8 @@ fn right_length(entry: &Entry, random: &mut Random) -> usize {
 fn mixed_input(entry: &Entry, random: &mut Random, n: usize) -> Input {
     if entry.code != Code::Outer {
         let bytes = block(random, n);
-        return Input::Bytes(if entry.operation == Operation::Encode && entry.code == Code::Frame { payloads::of_bytes(&bytes) } else { bytes });
+        let payload = entry.operation == Operation::Encode && matches!(entry.code, Code::Frame | Code::G709);
+        return Input::Bytes(if payload { payloads::of_bytes(&bytes) } else { bytes });
     }
     let mut symbols = random.symbols(n);
     if n > 0 && random.chance(2) {

@@ -8,6 +8,7 @@
 
 mod calls;
 mod frames;
+mod g709;
 mod guarded;
 mod lengths;
 mod logging;
@@ -82,9 +83,19 @@ fn groups() -> Vec<Group> {
         group("omitted-inner", 20_000, 200_000, words::omitted_inner),
         group("any-inner", 20_000, 200_000, words::any_inner),
         group("worst-lists", 100_000, 1_000_000, logging::worst_lists),
+        group("g709-encode", 200, 2_400, g709::encode),
+        group("g709-check-and-extract", 240, 2_880, g709::check_and_extract),
+        group("g709-scattered", 200, 2_400, g709::scattered),
+        group("g709-each-word", 220, 2_640, g709::each_word),
+        group("g709-mixed", 200, 2_400, g709::mixed),
+        group("g709-one-word", 256, 3_072, g709::one_word),
+        group("g709-burst", 240, 2_880, g709::burst),
+        group("g709-between", 200, 2_400, g709::between),
+        group("g709-no-frame", 120, 1_440, g709::no_frame),
+        group("single-row", 880, 10_560, g709::single_row),
     ];
     groups.extend(ENTRIES.iter().flat_map(sweeps));
-    groups.push(group("lengths-together", 14_000, 140_000, lengths::together));
+    groups.push(group("lengths-together", 26_000, 260_000, lengths::together));
     groups
 }
 

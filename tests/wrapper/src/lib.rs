@@ -1,11 +1,11 @@
-//! The proved library for programs in Rust: its entries on frames, from the archive that a terminal links (`libframes.a`), and those on single words, the
-//! corrector with its report and the worst list, which an archive of their own exports for tests (`libexports.a`). Buffers are slices, and every answer is a
-//! value or a refusal.
+//! The proved library for programs in Rust: its entries on frames, from the archive that a terminal links (`libframes.a`, or `libg709.a` for G.709 frames and
+//! rows), and those on single words, the correctors with their reports and the worst list, which an archive of their own exports for tests (`libexports.a`).
+//! Buffers are slices, and every answer is a value or a refusal.
 //!
 //! Each call is safe for all slices: the library takes any length, reads and writes within the slices that it is lent, writes nothing that is lent as `&`,
 //! keeps no state and no pointer, and does not unwind. A `&` and a `&mut` slice of a call never overlap, which is what the entries ask of their caller.
 
-/// A refusal, with document 01's number.
+/// A refusal, with the number that document 01 or 02 gives it.
 #[derive(Clone, Copy, Debug, PartialEq, Eq)]
 #[repr(u8)]
 pub enum Refusal {
@@ -16,6 +16,7 @@ pub enum Refusal {
     Uncorrectable = 5,
     WordLength = 6,
     Symbol = 7,
+    RowLength = 8,
 }
 
 impl Refusal {
@@ -36,6 +37,7 @@ fn answer(number: u8) -> Result<(), Refusal> {
         5 => Err(Uncorrectable),
         6 => Err(WordLength),
         7 => Err(Symbol),
+        8 => Err(RowLength),
         other => panic!("the library answered {other}, which is no refusal"),
     }
 }
@@ -107,6 +109,79 @@ pub mod frames {
                 parity.len(),
             )
         })
+    }
+}
+
+/// G.709 frames and single rows of them, as include/g709.h declares them.
+pub mod g709 {
+    use super::{answer, unpacked, Refusal};
+
+    pub const PAYLOAD_BYTES: usize = 15_296;
+    pub const FRAME_BYTES: usize = 16_320;
+    pub const ROW_DATA_BYTES: usize = 3_824;
+    pub const ROW_BYTES: usize = 4_080;
+
+    extern "C" {
+        fn g709_encode(payload: *const u8, payload_len: usize, frame: *mut u8, frame_len: usize) -> u8;
+        fn g709_check(block: *const u8, block_len: usize) -> u8;
+        fn g709_extract(block: *const u8, block_len: usize, payload: *mut u8, payload_len: usize) -> u8;
+        fn g709_correct(block: *const u8, block_len: usize, frame: *mut u8, frame_len: usize) -> u8;
+        fn g709_encode_row(data: *const u8, data_len: usize, row: *mut u8, row_len: usize) -> u8;
+        fn g709_check_row(row: *const u8, row_len: usize) -> u8;
+        fn g709_extract_row(row: *const u8, row_len: usize, data: *mut u8, data_len: usize) -> u8;
+        fn g709_correct_row(row: *const u8, row_len: usize, out: *mut u8, out_len: usize) -> u8;
+        fn exports_g709_correct(block: *const u8, block_len: usize, frame: *mut u8, frame_len: usize) -> u32;
+        fn exports_g709_correct_row(row: *const u8, row_len: usize, out: *mut u8, out_len: usize) -> u32;
+    }
+
+    /// Writes the frame of the payload.
+    pub fn encode(payload: &[u8], frame: &mut [u8]) -> Result<(), Refusal> {
+        answer(unsafe { g709_encode(payload.as_ptr(), payload.len(), frame.as_mut_ptr(), frame.len()) })
+    }
+
+    /// Is the block the frame of a payload?
+    pub fn check(block: &[u8]) -> Result<(), Refusal> {
+        answer(unsafe { g709_check(block.as_ptr(), block.len()) })
+    }
+
+    /// Writes the payload of the frame.
+    pub fn extract(block: &[u8], payload: &mut [u8]) -> Result<(), Refusal> {
+        answer(unsafe { g709_extract(block.as_ptr(), block.len(), payload.as_mut_ptr(), payload.len()) })
+    }
+
+    /// Writes the frame that is restored from the received block.
+    pub fn correct(block: &[u8], frame: &mut [u8]) -> Result<(), Refusal> {
+        answer(unsafe { g709_correct(block.as_ptr(), block.len(), frame.as_mut_ptr(), frame.len()) })
+    }
+
+    /// The same; returns how many bytes it changed.
+    pub fn correct_counted(block: &[u8], frame: &mut [u8]) -> Result<u64, Refusal> {
+        unpacked(u64::from(unsafe { exports_g709_correct(block.as_ptr(), block.len(), frame.as_mut_ptr(), frame.len()) }))
+    }
+
+    /// Writes the row of the data.
+    pub fn encode_row(data: &[u8], row: &mut [u8]) -> Result<(), Refusal> {
+        answer(unsafe { g709_encode_row(data.as_ptr(), data.len(), row.as_mut_ptr(), row.len()) })
+    }
+
+    /// Is this the row of some data?
+    pub fn check_row(row: &[u8]) -> Result<(), Refusal> {
+        answer(unsafe { g709_check_row(row.as_ptr(), row.len()) })
+    }
+
+    /// Writes the data of the row.
+    pub fn extract_row(row: &[u8], data: &mut [u8]) -> Result<(), Refusal> {
+        answer(unsafe { g709_extract_row(row.as_ptr(), row.len(), data.as_mut_ptr(), data.len()) })
+    }
+
+    /// Writes the row that is restored from the received one.
+    pub fn correct_row(row: &[u8], out: &mut [u8]) -> Result<(), Refusal> {
+        answer(unsafe { g709_correct_row(row.as_ptr(), row.len(), out.as_mut_ptr(), out.len()) })
+    }
+
+    /// The same; returns how many bytes it changed.
+    pub fn correct_row_counted(row: &[u8], out: &mut [u8]) -> Result<u64, Refusal> {
+        unpacked(u64::from(unsafe { exports_g709_correct_row(row.as_ptr(), row.len(), out.as_mut_ptr(), out.len()) }))
     }
 }
 
@@ -196,6 +271,18 @@ mod tests {
     }
 
     #[test]
+    fn g709_frames_of_zeros() {
+        let (zeros, mut frame) = ([0; g709::FRAME_BYTES], [9; g709::FRAME_BYTES]);
+        assert_eq!(g709::encode(&zeros[..g709::PAYLOAD_BYTES], &mut frame), Ok(()));
+        assert_eq!(frame, zeros);
+        assert_eq!(g709::correct_counted(&inverted(&zeros, [0, 1, 8, 130_559]), &mut frame), Ok(3));
+        assert_eq!(frame, zeros);
+        let (zeros, mut row) = ([0; g709::ROW_BYTES], [9; g709::ROW_BYTES]);
+        assert_eq!(g709::correct_row_counted(&inverted(&zeros, [0, 1, 32_639]), &mut row), Ok(2));
+        assert_eq!(row, zeros);
+    }
+
+    #[test]
     fn worst_lists_of_a_few_counts() {
         let (mut data, mut parity, mut list) = ([0; frames::INNER_WORDS], [0; frames::INNER_WORDS], [9; logging::LISTED]);
         (data[0], data[37], parity[0], parity[63]) = (2, 8, 9, 88);
@@ -211,6 +298,8 @@ mod tests {
     fn refusals_have_their_numbers() {
         assert_eq!(frames::encode(&[], &mut []).map_err(Refusal::number), Err(refusals::PAYLOAD_LENGTH));
         assert_eq!(frames::correct(&[], &mut []).map_err(Refusal::number), Err(refusals::BLOCK_LENGTH));
+        assert_eq!(g709::correct_row(&[0; g709::ROW_BYTES - 1], &mut []).map_err(Refusal::number), Err(refusals::ROW_LENGTH));
+        assert_eq!(g709::encode_row(&[0; g709::ROW_DATA_BYTES], &mut []).map_err(Refusal::number), Err(refusals::SPACE));
         assert_eq!(words::check_outer(&[1024; 17]).map_err(Refusal::number), Err(refusals::SYMBOL));
         assert_eq!(words::correct_inner(&[255; 254], &mut []).map_err(Refusal::number), Err(refusals::WORD_LENGTH));
     }

@@ -83,6 +83,15 @@ fn groups() -> Vec<Group> {
         group("omitted-inner", 20_000, 200_000, words::omitted_inner),
         group("any-inner", 20_000, 200_000, words::any_inner),
         group("worst-lists", 100_000, 1_000_000, logging::worst_lists),
+    ];
+    groups.extend(g709_groups());
+    groups.extend(ENTRIES.iter().flat_map(sweeps));
+    groups.push(group("lengths-together", 26_000, 260_000, lengths::together));
+    groups
+}
+
+fn g709_groups() -> Vec<Group> {
+    vec![
         group("g709-encode", 200, 2_400, g709::encode),
         group("g709-check-and-extract", 240, 2_880, g709::check_and_extract),
         group("g709-scattered", 200, 2_400, g709::scattered),
@@ -93,10 +102,7 @@ fn groups() -> Vec<Group> {
         group("g709-between", 200, 2_400, g709::between),
         group("g709-no-frame", 120, 1_440, g709::no_frame),
         group("single-row", 880, 10_560, g709::single_row),
-    ];
-    groups.extend(ENTRIES.iter().flat_map(sweeps));
-    groups.push(group("lengths-together", 26_000, 260_000, lengths::together));
-    groups
+    ]
 }
 
 /// One case; a panic of either side counts as a difference.

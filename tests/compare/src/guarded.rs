@@ -58,7 +58,11 @@ impl<T: Element> Guarded<T> {
     }
 }
 
+/// Equal lists are compared at once; of others the first element that differs is looked for.
 fn differs<T: Element>(name: &str, found: &[T], expected: &[T]) -> Result<(), String> {
+    if found == expected {
+        return Ok(());
+    }
     match (0..expected.len()).find(|&i| found[i] != expected[i]) {
         None => Ok(()),
         Some(i) => Err(format!("{name}: element {i} is {:?} and should be {:?}", found[i], expected[i])),

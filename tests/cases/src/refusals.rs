@@ -10,7 +10,7 @@ pub const PAYLOAD_LENGTH: u8 = 1;
 pub const BLOCK_LENGTH: u8 = 2;
 /// The buffer is not exactly as long as the answer.
 pub const SPACE: u8 = 3;
-/// The block is no frame, the row none of any data, or the word no code word.
+/// The block is no frame, the row no G.709 row, or the word no code word.
 pub const NO_CODE_WORD: u8 = 4;
 /// The block, the row or the word is beyond reach of a correction.
 pub const UNCORRECTABLE: u8 = 5;

@@ -62,7 +62,7 @@ by j v = timesC v (power 8 285 j)
 pub by-sum : (j : ℕ) → Additive (by j)
 by-sum j u v = field-c .sum-times u v (power 8 285 j)
 
-iter-power : (j e w : ℕ) → w < 256 → iter (by j) e w ≡ timesC w (power 8 285 (j * e))
+pub iter-power : (j e w : ℕ) → w < 256 → iter (by j) e w ≡ timesC w (power 8 285 (j * e))
 unfolding iter power
 iter-power j zero w h = sym (ap (λ (k : ℕ). timesC w (power 8 285 k)) (mul-zero j) ∙ field-c .times-one w h)
 iter-power j (suc e) w h =

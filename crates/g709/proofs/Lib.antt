@@ -5,6 +5,7 @@ pub mod Overlays
 pub mod ByteProducts
 pub mod Lanes
 pub mod Folds
+pub mod PowerColumns
 pub mod Remainders
 pub mod RowSteps
 pub mod Correcting

@@ -3,3 +3,4 @@ pub mod Registers
 pub mod Folding
 pub mod Restoring
 pub mod RootColumns
+pub mod Evaluating

@@ -34,7 +34,7 @@ fn part(x: u8, y: u8) -> u8
     if y % 2 < 1 { 0 } else { x }
 }
 
-fn product(x: u8, y: u8) -> u8
+pub(crate) fn product(x: u8, y: u8) -> u8
     ensures { λ r. ⌜ r ≡ timesC x y ⌝ }
 {
     let mut a = x;

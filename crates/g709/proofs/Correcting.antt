@@ -16,6 +16,7 @@ use Rattle.fields.proofs.Instances.{field-c}
 use Rattle.fields.proofs.Lists.{tabulate-at, tabulate-is, tabulate-same}
 use Rattle.fields.proofs.Xor.{xor-zero-r}
 use Rattle.fields.proofs.Places.Filling.{Filled, filled-end}
+use Rattle.decoding.specs.declared.error_values.Errors.{Errors}
 use Rattle.decoding.specs.Steps.ByTables.{rootValues}
 use Rattle.decoding.specs.Steps.Decoder.{Tables, xorTo, errorAt, Decoded, weightBetween, withError, withErrors}
 use Rattle.decoding.proofs.Algebra.Tables.{powers-length, exponents-length}
@@ -26,7 +27,7 @@ use Rattle.words.specs.Answers.{changedOf, found}
 use Rattle.words.proofs.Decoding.ReedSolomon.{tables-of, symbols-changed, symbols-found, symbols-lost}
 use Rattle.words.proofs.Steps.Corrections.{added-here, errorsAdded, errors-next}
 use Rattle.g709.specs.Rows.{receivedBytes, bytesRestored}
-use Rattle.g709.specs.Steps.Restoring.{wordOf, placeOf, laneOf, standing, valuesAdded, ByteValues, wordStored, wordCorrected}
+use Rattle.g709.specs.Steps.Restoring.{wordOf, placeOf, laneOf, standing, valuesAdded, ByteValues, WordErrors, wordStored, wordCorrected}
 use Rattle.g709.proofs.Rows.{word-to-row, received-length}
 
 -- ---- adding values
@@ -140,33 +141,46 @@ tables-given es ls exp log = rw (exp, log) (tables-of 8 285 field-c)
 pub word-fits : (es : List ℕ) → es ≡ powersC → 255 ≤ length es
 word-fits es exp = let l : length es ≡ 255 = ap length exp ∙ powers-length 8 285 field-c in omega arith
 
-module _ (o es ls : List ℕ) (r k : ℕ) (hk : k < 16) (exp : es ≡ powersC) (log : ls ≡ exponentsC) (t : List ℕ) (v : t ≡ rootValues powersC exponentsC (receivedBytes o (16 * r + k)))
-    (bytes : allBelow 256 (receivedBytes o (16 * r + k)) ≡ true) (places values : List ℕ) (count : ℕ) (left : List ℕ) (D : Decoded es ls t 255 places values count left)
-    (b : Bool) (test : b ≡ allBelow 1 left) where
+module _ (o : List ℕ) (r k : ℕ) (hk : k < 16) (e : Errors) (E : WordErrors (receivedBytes o (16 * r + k)) e) (b : Bool) (test : b ≡ allBelow 1 (e .left)) where
   abbrev received : List ℕ
   received = receivedBytes o (16 * r + k)
+
+  abbrev places : List ℕ
+  places = e .places .at
+
+  abbrev values : List ℕ
+  values = e .values
+
+  abbrev count : ℕ
+  count = e .places .count
+
+  abbrev left : List ℕ
+  left = e .left
 
   long : length received ≡ 255
   long = received-length o (16 * r + k)
 
-  D′ : Decoded powersC exponentsC (rootValues powersC exponentsC received) (length received) places values count left
-  D′ = rw (v, exp, log, ← long) at D
+  D : Decoded powersC exponentsC (rootValues powersC exponentsC received) (length received) places values count left
+  D = rw long (E .decoded)
 
-  pub word-lost : length left ≡ 16 → not b ≡ true → _≡_ {A = Correction × List ℕ} (Refused 5, o) (wordCorrected o (16 * r + k))
+  pub word-lost : length (e .left) ≡ 16 → not b ≡ true → _≡_ {A = Correction × List ℕ} (Refused 5, o) (wordCorrected o (16 * r + k))
   unfolding wordCorrected bytesRestored found
-  word-lost full n = rw (symbols-lost 8 285 field-c received bytes places values count left D′ full (sym test ∙ not-true b n))
+  word-lost full n = rw (symbols-lost 8 285 field-c received (E .bytes) places values count left D full (sym test ∙ not-true b n))
 
-  pub word-found : not b ≡ false → (out : List ℕ) → out ≡ valuesAdded o (4080 * r + k) places values count → (changed : ℕ) → changed ≡ weightBetween 0 255 places values count →
-      _≡_ {A = Correction × List ℕ} (Corrected changed, out) (wordCorrected o (16 * r + k))
+  pub word-found : not b ≡ false → (out : List ℕ) → out ≡ valuesAdded o (4080 * r + k) (e .places .at) (e .values) (e .places .count) → (changed : ℕ) →
+      changed ≡ weightBetween 0 255 (e .places .at) (e .values) (e .places .count) → _≡_ {A = Correction × List ℕ} (Corrected changed, out) (wordCorrected o (16 * r + k))
   unfolding wordCorrected bytesRestored found
-  word-found n out e changed c =
+  word-found n out added changed c =
       let zero : allBelow 1 left ≡ true = sym test ∙ not-false b n in
-      let near = symbols-found 8 285 field-c received bytes places values count left D′ zero (omega (arith, long)) in
-      let same = symbols-changed 8 285 field-c received bytes places values count left D′ zero in
-      rw (near, same, long, e, c, word-stored o r k hk places values count (D .few) (D .below))
+      let near = symbols-found 8 285 field-c received (E .bytes) places values count left D zero (omega (arith, long)) in
+      let same = symbols-changed 8 285 field-c received (E .bytes) places values count left D zero in
+      rw (near, same, long, added, c, word-stored o r k hk places values count (E .decoded .few) (E .decoded .below))
 
-  pub byte-values : ByteValues values count
-  byte-values = record { small = λ l h. let lt : at values l < length ls = D .elements l h in omega (arith, ap length log, exponents-length 8 285 field-c) }
+  pub few-errors : e .places .count ≤ 8
+  few-errors = E .decoded .few
 
-  pub few-changed : (changed : ℕ) → changed ≡ weightBetween 0 255 places values count → changed ≤ 8
-  few-changed changed c = omega (arith, weight-most places values 0 255 count, D .few)
+  pub byte-values : ByteValues (e .values) (e .places .count)
+  byte-values = record { small = λ l h. let lt : at values l < length exponentsC = E .decoded .elements l h in omega (arith, exponents-length 8 285 field-c) }
+
+  pub few-changed : (changed : ℕ) → changed ≡ weightBetween 0 255 (e .places .at) (e .values) (e .places .count) → changed ≤ 8
+  few-changed changed c = omega (arith, weight-most places values 0 255 count, E .decoded .few)

@@ -11,3 +11,4 @@ pub mod RowSteps
 pub mod Correcting
 pub mod WordByWord
 pub mod Proved
+pub mod Locating

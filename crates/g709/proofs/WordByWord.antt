@@ -20,7 +20,9 @@ use Rattle.fields.proofs.Lists.{tabulate-at, tabulate-is, tabulate-length, tabu
 use Rattle.fields.proofs.Places.Counting.{sum-same}
 use Rattle.fields.proofs.Places.Differences.{apart-self}
 use Rattle.fields.proofs.Places.Tests.{below-at, below-all}
+use Rattle.decoding.specs.declared.error_values.Errors.{Errors}
 use Rattle.decoding.specs.Steps.ByTables.{rootValue, rootValues}
+use Rattle.decoding.specs.Steps.Decoder.{Decoded}
 use Rattle.words.specs.declared.Correction.{Correction}
 use Rattle.words.specs.declared.Correction.the-variants.{Corrected, Refused}
 use Rattle.words.specs.Answers.{refusalOf, changedOf, found, corrected}
@@ -32,7 +34,7 @@ use Rattle.words.proofs.Codes.ReedSolomon.{root-is, is-code}
 use Rattle.g709.specs.Rows.{isByteWord, blockOfWords, receivedBytes, bytesRestored, restoredBlock}
 use Rattle.g709.specs.Answers.{blockCorrected, withoutCount}
 use Rattle.g709.specs.Steps.Registers.{over, rowRemainders}
-use Rattle.g709.specs.Steps.Restoring.{wordOf, placeOf, laneOf, wordStored, wordCorrected, Counted, Remains, WordDone, RestoredTo, Restoring}
+use Rattle.g709.specs.Steps.Restoring.{wordOf, placeOf, laneOf, wordStored, wordCorrected, WordErrors, Counted, Remains, WordDone, RestoredTo, Restoring}
 use Rattle.g709.proofs.ByteCode.{byte-nearest}
 use Rattle.g709.proofs.Rows.{received-length, place-back, block-length, block-at, words-in, apart-words}
 use Rattle.g709.proofs.Overlays.{over-length, over-in}
@@ -146,11 +148,14 @@ module _ (o : List ℕ) (w : ℕ) (reached : Bool) (changed : ℕ) where
 
 -- what the correction of a word asks for
 module _ (reached : Bool) (lane word : List ℕ) (R : Remains reached lane word) (h : not reached ≡ false) where
-  pub word-syndromes : (es ls cells t : List ℕ) → t ≡ rootValues es ls cells → cells ≡ lane → es ≡ powersC → ls ≡ exponentsC → t ≡ rootValues powersC exponentsC word
+  word-syndromes : (es ls cells t : List ℕ) → t ≡ rootValues es ls cells → cells ≡ lane → es ≡ powersC → ls ≡ exponentsC → t ≡ rootValues powersC exponentsC word
   word-syndromes es ls cells t e c exp log = e ∙ rw (c, exp, log) (R .values (not-false reached h))
 
-  pub word-bytes : allBelow 256 word ≡ true
-  word-bytes = R .bytes (not-false reached h)
+  pub word-errors : (es ls cells t : List ℕ) (e : Errors) → t ≡ rootValues es ls cells → cells ≡ lane → es ≡ powersC → ls ≡ exponentsC →
+      Decoded es ls t 255 (e .places .at) (e .values) (e .places .count) (e .left) → WordErrors word e
+  word-errors es ls cells t e et ec exp log D =
+      let same : t ≡ rootValues powersC exponentsC word = word-syndromes es ls cells t et ec exp log in
+      record { bytes = R .bytes (not-false reached h); decoded = rw (same, exp, log) at D }
 
 pub still-reached : (reached : Bool) → not reached ≡ false → reached ≡ true
 still-reached reached h = not-false reached h

@@ -4,3 +4,4 @@ pub mod Folding
 pub mod Restoring
 pub mod RootColumns
 pub mod Evaluating
+pub mod Locating

@@ -3,7 +3,9 @@
 use crate::division;
 use crate::division::CELLS;
 use crate::division::WORDS;
-use decoding::SYNDROMES;
+use crate::locators;
+use crate::root_columns::VALUES;
+use decoding::error_values;
 use decoding::error_values::Errors;
 use decoding::symbols;
 use words::Correction;
@@ -13,45 +15,20 @@ ghost use mathlib.Core.Bool.{true};
 ghost use Prim.Native.Nat.{ℕ, _+_, _*_, _≤_, _<_};
 ghost use lib.ListN.{length};
 ghost use Rattle.fields.specs.Elements.{powersC, exponentsC};
-ghost use Rattle.fields.specs.Places.{at, allBelow};
 ghost use Rattle.words.specs.Answers.{changedOf};
-ghost use Rattle.decoding.specs.Steps.ByTables.{rootValues};
 ghost use Rattle.decoding.specs.Steps.Decoder.{withError};
 ghost use Rattle.g709.specs.Rows.{receivedBytes};
 ghost use Rattle.g709.specs.Steps.Registers.{rowRemainders};
-ghost use Rattle.g709.specs.Steps.Restoring.{laneOf, ByteValues, valuesAdded, wordCorrected, Counted, Remains, WordDone, Restoring};
+ghost use Rattle.g709.specs.Steps.Locating.{LocatorValues};
+ghost use Rattle.g709.specs.Steps.Restoring.{laneOf, ByteValues, valuesAdded, WordErrors, wordCorrected, Counted, Remains, WordDone, Restoring};
 
 // Bytes of a word, and of a row.
 const BYTES: usize = 255;
 
 const ROW: usize = 4080;
 
-fn wide(x: u8) -> u16
-    ensures { λ r. ⌜ r ≡ x ⌝ }
-{
-    x as u16
-}
-
-fn narrow(x: u16) -> u8
-    requires { ⌜ x < 256 ⌝ }
-    ensures { λ r. ⌜ r ≡ x ⌝ }
-{
-    x as u8
-}
-
-// The remainder of word k of a row.
-fn remainder(rest: &[u8; CELLS], k: usize) -> [u16; WORDS]
-    requires { ⌜ k < 16 ⌝ }
-    ensures { λ r. ⌜ r ≡ laneOf (now (rest .entry)) k ⌝ }
-{
-    let mut cells = [0u16; WORDS];
-    let mut i: usize = 0;
-    while i < WORDS {
-        cells[i] = wide(rest[WORDS * i + k]);
-        i += 1;
-    }
-    cells
-}
+// From so many words with more than one wrong byte on, a row's locator polynomials are evaluated by columns.
+const HEAVY: usize = 6;
 
 // Adds v to the byte at place i; a place past the end changes nothing.
 fn add(out: &mut [u8], i: usize, v: u16)
@@ -59,7 +36,7 @@ fn add(out: &mut [u8], i: usize, v: u16)
     ensures { λ _. ⌜ now (out .exit) ≡ withError (now (out .entry)) i v ⌝ }
 {
     if i < out.len() {
-        out[i] = division::plus(out[i], narrow(v));
+        out[i] = division::plus(out[i], division::narrow(v));
     }
 }
 
@@ -85,21 +62,12 @@ fn add_values(e: Errors, from: usize, out: &mut [u8])
     }
 }
 
-// Corrects word k of row r, which has the syndromes t, in the block.
-fn correct_word(
-    exp: &[u16],
-    log: &[u16],
-    t: [u16; SYNDROMES],
-    r: usize,
-    k: usize,
-    out: &mut [u8],
-) -> Correction
-    requires { ⌜ (now exp ≡ powersC) × (now log ≡ exponentsC) ⌝ }
+// Corrects word k of row r in the block, e being the errors found in it.
+fn correct_word(e: Errors, r: usize, k: usize, out: &mut [u8]) -> Correction
     requires { ⌜ (r < 4) × (k < 16) × (4080 * r + 4080 ≤ length (now out)) ⌝ }
-    requires { ⌜ (t ≡ rootValues powersC exponentsC (receivedBytes (now out) (16 * r + k))) × (allBelow 256 (receivedBytes (now out) (16 * r + k)) ≡ true) ⌝ }
+    requires { ⌜ WordErrors (receivedBytes (now out) (16 * r + k)) e ⌝ }
     ensures { λ c. ⌜ ((c, now (out .exit)) ≡ wordCorrected (now (out .entry)) (16 * r + k)) × (changedOf c ≤ 8) ⌝ }
 {
-    let e = decoding::decode(exp, log, t, BYTES);
     let left = e.left;
     if !symbols::all_below(&left, 1) {
         return Correction::Refused { number: 5 };
@@ -155,12 +123,99 @@ fn next_word(
             changed: 0,
         };
     }
-    let cells = remainder(rest, k);
+    let cells = division::remainder(rest, k);
     if symbols::all_below(&cells, 1) {
         return p;
     }
     let t = reed_solomon::root_values(exp, log, &cells);
-    with_word(p, correct_word(exp, log, t, r, k, out))
+    let e = decoding::decode(exp, log, t, BYTES);
+    with_word(p, correct_word(e, r, k, out))
+}
+
+// The same where the values of the locator polynomials are known.
+fn next_located(
+    exp: &[u16],
+    log: &[u16],
+    rest: &[u8; CELLS],
+    values: &[u8; VALUES],
+    r: usize,
+    k: usize,
+    out: &mut [u8],
+    p: Progress,
+) -> Progress
+    requires { ⌜ (now exp ≡ powersC) × (now log ≡ exponentsC) ⌝ }
+    requires { ⌜ (r < 4) × (k < 16) × (4080 * r + 4080 ≤ length (now out)) × (p .changed ≤ 512) ⌝ }
+    requires { ⌜ Remains (p .reached) (laneOf (now rest) k) (receivedBytes (now out) (16 * r + k)) ⌝ }
+    requires { ⌜ LocatorValues (now rest) (now values) ⌝ }
+    ensures { λ q. ⌜ WordDone (now (out .entry)) (16 * r + k) (p .reached) (p .changed) (now (out .exit)) (q .reached) (q .changed) ⌝ }
+    ensures { λ q. ⌜ q .changed ≤ p .changed + 8 ⌝ }
+{
+    if !p.reached {
+        return Progress {
+            reached: false,
+            changed: 0,
+        };
+    }
+    let cells = division::remainder(rest, k);
+    if symbols::all_below(&cells, 1) {
+        return p;
+    }
+    let t = reed_solomon::root_values(exp, log, &cells);
+    let places = locators::places(values, k);
+    let e = error_values::valued(exp, log, BYTES, t, places);
+    with_word(p, correct_word(e, r, k, out))
+}
+
+// Corrects the words of row r one after the other.
+fn correct_singly(
+    exp: &[u16],
+    log: &[u16],
+    block: &[u8],
+    rest: &[u8; CELLS],
+    r: usize,
+    out: &mut [u8],
+    before: Progress,
+) -> Progress
+    requires { ⌜ (now exp ≡ powersC) × (now log ≡ exponentsC) ⌝ }
+    requires { ⌜ (r < 4) × (4080 * r + 4080 ≤ length (now block)) ⌝ }
+    requires { ⌜ now rest ≡ rowRemainders (now block) (4080 * r) ⌝ }
+    requires { ⌜ Restoring (now block) (16 * r) (now out) (before .reached) (before .changed) ⌝ }
+    ensures { λ p. ⌜ Restoring (now (block .entry)) (16 * r + 16) (now (out .exit)) (p .reached) (p .changed) ⌝ }
+{
+    let mut p = before;
+    let mut k: usize = 0;
+    while k < WORDS {
+        p = next_word(exp, log, rest, r, k, out, p);
+        k += 1;
+    }
+    p
+}
+
+// The same, the values of their locator polynomials made for all of them at once.
+fn correct_located(
+    exp: &[u16],
+    log: &[u16],
+    block: &[u8],
+    rest: &[u8; CELLS],
+    r: usize,
+    out: &mut [u8],
+    before: Progress,
+) -> Progress
+    requires { ⌜ (now exp ≡ powersC) × (now log ≡ exponentsC) ⌝ }
+    requires { ⌜ (r < 4) × (4080 * r + 4080 ≤ length (now block)) ⌝ }
+    requires { ⌜ now rest ≡ rowRemainders (now block) (4080 * r) ⌝ }
+    requires { ⌜ Restoring (now block) (16 * r) (now out) (before .reached) (before .changed) ⌝ }
+    ensures { λ p. ⌜ Restoring (now (block .entry)) (16 * r + 16) (now (out .exit)) (p .reached) (p .changed) ⌝ }
+{
+    let mut values = locators::no_values();
+    locators::evaluate(exp, log, rest, &mut values);
+    let mut p = before;
+    let mut k: usize = 0;
+    while k < WORDS {
+        p = next_located(exp, log, rest, &values, r, k, out, p);
+        k += 1;
+    }
+    p
 }
 
 // Corrects the words of row r in the copy of the block.
@@ -179,13 +234,10 @@ fn correct_row(
 {
     let mut rest = division::empty();
     division::remainders(block, ROW * r, &mut rest);
-    let mut p = before;
-    let mut k: usize = 0;
-    while k < WORDS {
-        p = next_word(exp, log, &rest, r, k, out, p);
-        k += 1;
+    if locators::crowded(&rest) < HEAVY {
+        return correct_singly(exp, log, block, &rest, r, out, before);
     }
-    p
+    correct_located(exp, log, block, &rest, r, out, before)
 }
 
 // Corrects the words of n rows in the copy of the block.

@@ -8,6 +8,7 @@ ghost use Rattle.fields.specs.Elements.{xor, scale, doubled, timesC};
 ghost use Rattle.fields.specs.Places.{at};
 ghost use Rattle.g709.specs.Steps.Registers.{over, rowDivided, rowRemainders, leading, cellStored, cellsStored};
 ghost use Rattle.g709.specs.Steps.Folding.{taps, QuotientTo};
+ghost use Rattle.g709.specs.Steps.Restoring.{laneOf};
 
 // Words in a row.
 pub(crate) const WORDS: usize = 16;
@@ -21,7 +22,7 @@ pub(crate) fn plus(x: u8, y: u8) -> u8
     x ^ y
 }
 
-fn double(x: u8) -> u8
+pub(crate) fn double(x: u8) -> u8
     ensures { λ r. ⌜ r ≡ doubled 8 285 x ⌝ }
 {
     (x << 1) ^ (29 * (x >> 7))
@@ -241,4 +242,31 @@ pub fn remainders(row: &[u8], from: usize, r: &mut [u8; CELLS])
 {
     divide(row, from, r);
     add_parity(row, from + 3824, r);
+}
+
+fn wide(x: u8) -> u16
+    ensures { λ r. ⌜ r ≡ x ⌝ }
+{
+    x as u16
+}
+
+pub(crate) fn narrow(x: u16) -> u8
+    requires { ⌜ x < 256 ⌝ }
+    ensures { λ r. ⌜ r ≡ x ⌝ }
+{
+    x as u8
+}
+
+// The remainder of word k of a row.
+pub(crate) fn remainder(rest: &[u8; CELLS], k: usize) -> [u16; WORDS]
+    requires { ⌜ k < 16 ⌝ }
+    ensures { λ r. ⌜ r ≡ laneOf (now (rest .entry)) k ⌝ }
+{
+    let mut cells = [0u16; WORDS];
+    let mut i: usize = 0;
+    while i < WORDS {
+        cells[i] = wide(rest[WORDS * i + k]);
+        i += 1;
+    }
+    cells
 }

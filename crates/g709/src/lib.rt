@@ -16,6 +16,7 @@ mod block;
 mod c_entries;
 mod corrector;
 mod division;
+mod locators;
 mod root_columns;
 
 // Writes the frame of the payload and returns 0; 1 or 3.

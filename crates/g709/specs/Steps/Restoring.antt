@@ -14,7 +14,8 @@ use Rattle.words.specs.declared.Correction.{Correction}
 use Rattle.words.specs.declared.Correction.the-variants.{Corrected, Refused}
 use Rattle.words.specs.Answers.{changedOf, found}
 use Rattle.decoding.specs.Steps.ByTables.{rootValues}
-use Rattle.decoding.specs.Steps.Decoder.{withErrors}
+use Rattle.decoding.specs.declared.error_values.Errors.{Errors}
+use Rattle.decoding.specs.Steps.Decoder.{Decoded, withErrors}
 use Rattle.g709.specs.Rows.{receivedBytes, bytesRestored}
 
 -- the word that byte i of a block belongs to, and its place there
@@ -46,6 +47,11 @@ wordStored o w c = tabulate (length o) (λ i. cond (eqb (wordOf i) w) (at c (pla
 -- what is answered for word w of a block, and the block with the code word in its place
 unfoldable pub wordCorrected : List ℕ → ℕ → Correction × List ℕ
 wordCorrected o w = found Refused (λ c. Corrected (apart (receivedBytes o w) c)) (wordStored o w) o (bytesRestored o w)
+
+-- what the decoder found in a word of bytes
+pub record WordErrors (word : List ℕ) (e : Errors) : Type 0 where
+  pub bytes : allBelow 256 word ≡ true
+  pub decoded : Decoded powersC exponentsC (rootValues powersC exponentsC word) 255 (e .places .at) (e .values) (e .places .count) (e .left)
 
 -- what next_word rests on, as long as all words before had a code word near them: a word's values at the roots are those of its remainder
 pub record Remains (reached : Bool) (lane word : List ℕ) : Type 0 where

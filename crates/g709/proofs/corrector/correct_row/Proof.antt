@@ -1,64 +1,49 @@
 -- `g709::corrector::correct_row` meets its contract. Assumes nothing.
-use mathlib.Core.Path.{_≡_}
-use Prim.Native.Nat.{_+_, _-_, _*_, _≤_}
-use native.Mathlib.Omega.{arith}
-use lib.ListN.{length}
-use Rattle.g709.specs.Steps.Registers.{rowRemainders}
-use Rattle.g709.specs.Steps.Restoring.{Restoring}
-use Rattle.g709.proofs.WordByWord.{word-remains, restoring-room, row-start, row-step, row-end}
 use borrow.Author.Needs.{needs}
 use Rattle.g709.proofs.corrector.correct_row.Statement.{statement}
 use Rattle.g709.proofs.corrector.correct_row.Tie as tie
 
-abbrev Inv-loop : tie.InvT-loop
-Inv-loop exp log block r out₀ rest p₀ k₀ out p k = (k ≤ 16) × (rest ≡ rowRemainders block (4080 * r)) × (length out ≡ length out₀) × Restoring block (16 * r + k) out (p .reached) (p .changed)
-
-abbrev μ-loop : tie.MeasureT-loop
-μ-loop exp log block r out₀ rest p₀ k₀ out p k = 16 - k
-
-empty-requires : tie.Need-empty-requires Inv-loop μ-loop
+empty-requires : tie.Need-empty-requires
 empty-requires c κs = search needs
 
-mul-remainders : tie.Need-mul-remainders Inv-loop μ-loop
+mul-remainders : tie.Need-mul-remainders
 mul-remainders c = search needs
 
-remainders-requires : tie.Need-remainders-requires Inv-loop μ-loop
+remainders-requires : tie.Need-remainders-requires
 remainders-requires c κs = search needs
 
-loop-holds : tie.Need-loop-holds Inv-loop μ-loop
-loop-holds c = (search needs, search needs, search needs, search (needs, row-start))
+crowded-requires : tie.Need-crowded-requires
+crowded-requires c κs = search needs
 
-next-word-requires : tie.Need-next-word-requires Inv-loop μ-loop
-next-word-requires c κs = (search needs, ((search needs, search needs, search (needs, restoring-room), search (needs, restoring-room)), word-remains _ _ _ _ _ _ _ (λ i. omega (arith, c .before .before .before .before .before .before .before .before .shared-slice-known3 .given i)) (c .before .before .before .loop .inv .1) (search needs) (search needs) (c .before .before .before .loop .inv .3)))
+correct-singly-requires : tie.Need-correct-singly-requires
+correct-singly-requires c κs = (c .before .before .before .before .before .before .before .before .before .before .before .before .pre .0, (c .before .before .before .before .before .before .before .before .before .before .before .before .pre .1 .0, (c .before .before .before .before .before .remainders .ensures .0, c .before .before .before .before .before .before .before .before .before .before .before .before .pre .1 .1)))
 
-add-k : tie.Need-add-k Inv-loop μ-loop
-add-k c = search needs
-
-loop-less : tie.Need-loop-less Inv-loop μ-loop
-loop-less c = search needs
-
-loop-again : tie.Need-loop-again Inv-loop μ-loop
-loop-again c = (search needs, search needs, search needs, search (needs, row-step))
-
-same-length : tie.Need-same-length Inv-loop μ-loop
+same-length : tie.Need-same-length
 same-length c = search needs
 
-returns : tie.Need-returns Inv-loop μ-loop
-returns c = search (needs, row-end)
+returns : tie.Need-returns
+returns c = search needs
+
+correct-located-requires : tie.Need-correct-located-requires
+correct-located-requires c κs = (c .before .before .before .before .before .before .before .before .before .before .before .before .pre .0, (c .before .before .before .before .before .before .before .before .before .before .before .before .pre .1 .0, (c .before .before .before .before .before .remainders .ensures .0, c .before .before .before .before .before .before .before .before .before .before .before .before .pre .1 .1)))
+
+same-length-2 : tie.Need-same-length-2
+same-length-2 c = search needs
+
+returns-2 : tie.Need-returns-2
+returns-2 c = search needs
 
 pub correct-row-spec : {M : Type 1} → statement M
 correct-row-spec =
     tie.close
     (tie.spec
-    Inv-loop
-    μ-loop
     empty-requires
     mul-remainders
     remainders-requires
-    loop-holds
-    next-word-requires
-    add-k
-    loop-less
-    loop-again
+    crowded-requires
+    correct-singly-requires
     same-length
-    returns)
+    returns
+    correct-located-requires
+    same-length-2
+    returns-2)

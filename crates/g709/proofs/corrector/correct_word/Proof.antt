@@ -1,11 +1,8 @@
 -- `g709::corrector::correct_word` meets its contract. Assumes nothing.
-use Rattle.g709.proofs.Correcting.{tables-given, word-fits, byte-values, word-lost, word-found, few-changed}
+use Rattle.g709.proofs.Correcting.{few-errors, byte-values, word-lost, word-found, few-changed}
 use borrow.Author.Needs.{needs}
 use Rattle.g709.proofs.corrector.correct_word.Statement.{statement}
 use Rattle.g709.proofs.corrector.correct_word.Tie as tie
-
-decode-requires : tie.Need-decode-requires
-decode-requires c κs = (search (needs, tables-given), (search (needs, word-fits), search needs))
 
 slice-aggregate-all-below : tie.Need-slice-aggregate-all-below
 slice-aggregate-all-below c = search needs
@@ -23,10 +20,10 @@ add-add-values : tie.Need-add-add-values
 add-add-values c = search needs
 
 add-values-requires : tie.Need-add-values-requires
-add-values-requires c κs = (search needs, search (needs, byte-values))
+add-values-requires c κs = (search (needs, few-errors), search (needs, byte-values))
 
 weight-requires : tie.Need-weight-requires
-weight-requires c κs = search needs
+weight-requires c κs = search (needs, few-errors)
 
 same-length : tie.Need-same-length
 same-length c = search needs
@@ -38,7 +35,6 @@ pub correct-word-spec : {M : Type 1} → statement M
 correct-word-spec =
     tie.close
     (tie.spec
-    decode-requires
     slice-aggregate-all-below
     all-below-requires
     returns

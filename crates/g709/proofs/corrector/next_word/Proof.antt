@@ -1,5 +1,6 @@
 -- `g709::corrector::next_word` meets its contract. Assumes nothing.
-use Rattle.g709.proofs.WordByWord.{word-skipped, clean-word, word-syndromes, word-bytes, still-reached, word-answered}
+use Rattle.g709.proofs.Correcting.{tables-given, word-fits}
+use Rattle.g709.proofs.WordByWord.{word-skipped, clean-word, word-errors, still-reached, word-answered}
 use borrow.Author.Needs.{needs}
 use Rattle.g709.proofs.corrector.next_word.Statement.{statement}
 use Rattle.g709.proofs.corrector.next_word.Tie as tie
@@ -25,11 +26,14 @@ slice-aggregate-root-values c = search needs
 root-values-requires : tie.Need-root-values-requires
 root-values-requires c κs = search needs
 
+decode-requires : tie.Need-decode-requires
+decode-requires c κs = (search (needs, tables-given), (search (needs, word-fits), search needs))
+
 correct-word-requires : tie.Need-correct-word-requires
-correct-word-requires c κs = (search needs, (search needs, (search (needs, word-syndromes), search (needs, word-bytes))))
+correct-word-requires c κs = (search needs, search (needs, word-errors))
 
 with-word-requires : tie.Need-with-word-requires
-with-word-requires c κs = (search (needs, still-reached), search needs, search needs)
+with-word-requires c κs = (search (needs, still-reached), c .before .before .before .before .before .before .before .before .before .before .before .before .before .before .before .before .pre .1 .0 .3, search needs)
 
 same-length : tie.Need-same-length
 same-length c = search needs
@@ -48,6 +52,7 @@ next-word-spec =
     returns-2
     slice-aggregate-root-values
     root-values-requires
+    decode-requires
     correct-word-requires
     with-word-requires
     same-length

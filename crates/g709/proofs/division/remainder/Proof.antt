@@ -1,11 +1,11 @@
--- `g709::corrector::remainder` meets its contract. Assumes nothing.
+-- `g709::division::remainder` meets its contract. Assumes nothing.
 use Prim.Native.Nat.{_+_, _-_, _*_}
 use Rattle.fields.specs.Places.{at}
 use Rattle.fields.proofs.Places.Filling.{Filled, filled-start, filled-next}
 use Rattle.g709.proofs.Correcting.{lane-end}
 use borrow.Author.Needs.{needs}
-use Rattle.g709.proofs.corrector.remainder.Statement.{statement}
-use Rattle.g709.proofs.corrector.remainder.Tie as tie
+use Rattle.g709.proofs.division.remainder.Statement.{statement}
+use Rattle.g709.proofs.division.remainder.Tie as tie
 
 abbrev Inv-loop : tie.InvT-loop
 Inv-loop rest k cells₀ i₀ cells i = Filled 16 (λ j. at rest (16 * j + k)) i cells

@@ -1,0 +1,52 @@
+-- `g709::corrector::correct_singly` meets its contract. Assumes nothing.
+use mathlib.Core.Path.{_≡_}
+use Prim.Native.Nat.{_+_, _-_, _*_, _≤_}
+use native.Mathlib.Omega.{arith}
+use lib.ListN.{length}
+use Rattle.g709.specs.Steps.Registers.{rowRemainders}
+use Rattle.g709.specs.Steps.Restoring.{Restoring}
+use Rattle.g709.proofs.WordByWord.{word-remains, restoring-room, row-start, row-step, row-end}
+use borrow.Author.Needs.{needs}
+use Rattle.g709.proofs.corrector.correct_singly.Statement.{statement}
+use Rattle.g709.proofs.corrector.correct_singly.Tie as tie
+
+abbrev Inv-loop : tie.InvT-loop
+Inv-loop exp log block rest r out₀ p₀ k₀ out p k = (k ≤ 16) × (rest ≡ rowRemainders block (4080 * r)) × (length out ≡ length out₀) × Restoring block (16 * r + k) out (p .reached) (p .changed)
+
+abbrev μ-loop : tie.MeasureT-loop
+μ-loop exp log block rest r out₀ p₀ k₀ out p k = 16 - k
+
+loop-holds : tie.Need-loop-holds Inv-loop μ-loop
+loop-holds c = (search needs, search needs, search needs, search (needs, row-start))
+
+next-word-requires : tie.Need-next-word-requires Inv-loop μ-loop
+next-word-requires c κs = (search needs, ((search needs, search needs, search (needs, restoring-room), search (needs, restoring-room)), word-remains _ _ _ _ _ _ _ (λ i. omega (arith, c .before .before .before .before .shared-slice-known3 .given i)) (c .before .before .loop .inv .1) (search needs) (search needs) (c .before .before .loop .inv .3)))
+
+add-k : tie.Need-add-k Inv-loop μ-loop
+add-k c = search needs
+
+loop-less : tie.Need-loop-less Inv-loop μ-loop
+loop-less c = search needs
+
+loop-again : tie.Need-loop-again Inv-loop μ-loop
+loop-again c = (search needs, search needs, search needs, search (needs, row-step))
+
+same-length : tie.Need-same-length Inv-loop μ-loop
+same-length c = search needs
+
+returns : tie.Need-returns Inv-loop μ-loop
+returns c = search (needs, row-end)
+
+pub correct-singly-spec : {M : Type 1} → statement M
+correct-singly-spec =
+    tie.close
+    (tie.spec
+    Inv-loop
+    μ-loop
+    loop-holds
+    next-word-requires
+    add-k
+    loop-less
+    loop-again
+    same-length
+    returns)

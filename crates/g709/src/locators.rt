@@ -1,0 +1,178 @@
+// The locator polynomials of the sixteen words of a row, side by side, so that the places of their roots are found by columns. This pays where many words have several
+// wrong bytes.
+use crate::division;
+use crate::division::CELLS;
+use crate::division::WORDS;
+use crate::root_columns;
+use crate::root_columns::TERMS;
+use crate::root_columns::VALUES;
+use decoding::COEFFICIENTS;
+use decoding::RADIUS;
+use decoding::annihilator;
+use decoding::root_search;
+use decoding::root_search::Places;
+use words::reed_solomon;
+ghost use mathlib.Core.Path.{_≡_};
+ghost use mathlib.Core.Bool.{cond};
+ghost use Prim.Native.Nat.{ℕ, _+_, _*_, _≤_, _<_};
+ghost use lib.Dec.{eqb};
+ghost use lib.ListN.{length};
+ghost use Rattle.fields.specs.Elements.{powersC, exponentsC};
+ghost use Rattle.fields.specs.Places.{at};
+ghost use Rattle.decoding.specs.Steps.RootSearch.{kept};
+ghost use Rattle.g709.specs.Steps.Locating.{polynomialStored, LocatorsTo, LocatorSet, LocatorValues, PlacesTo};
+
+// Bytes of a word.
+const BYTES: usize = 255;
+
+// Stores the coefficients of polynomial k.
+fn set_polynomial(terms: &mut [u8; TERMS], k: usize, polynomial: [u16; COEFFICIENTS])
+    requires { ⌜ (k < 16) × (length (now terms) ≡ 144) ⌝ }
+    requires { ⌜ ((d : ℕ) → at polynomial d < 256) ⌝ }
+    ensures { λ _. ⌜ (now (terms .exit) ≡ polynomialStored (now (terms .entry)) k polynomial) × (length (now (terms .exit)) ≡ 144) ⌝ }
+{
+    let mut d: usize = 0;
+    while d < COEFFICIENTS {
+        terms[WORDS * d + k] = division::narrow(polynomial[d]);
+        d += 1;
+    }
+}
+
+// Stores the locator polynomial of word k.
+fn set_locator(exp: &[u16], log: &[u16], rest: &[u8; CELLS], k: usize, terms: &mut [u8; TERMS])
+    requires { ⌜ (now exp ≡ powersC) × (now log ≡ exponentsC) ⌝ }
+    requires { ⌜ (k < 16) × (length (now terms) ≡ 144) ⌝ }
+    ensures { λ _. ⌜ LocatorSet (now (rest .entry)) k (now (terms .entry)) (now (terms .exit)) ⌝ }
+{
+    let cells = division::remainder(rest, k);
+    let t = reed_solomon::root_values(exp, log, &cells);
+    let polynomial = annihilator::annihilator(exp, log, t);
+    set_polynomial(terms, k, polynomial);
+}
+
+// Stores the locator polynomials of the sixteen words.
+fn set_locators(exp: &[u16], log: &[u16], rest: &[u8; CELLS], terms: &mut [u8; TERMS])
+    requires { ⌜ (now exp ≡ powersC) × (now log ≡ exponentsC) ⌝ }
+    requires { ⌜ length (now terms) ≡ 144 ⌝ }
+    ensures { λ _. ⌜ LocatorsTo (now (rest .entry)) 16 (now (terms .exit)) × (length (now (terms .exit)) ≡ 144) ⌝ }
+{
+    let mut k: usize = 0;
+    while k < WORDS {
+        set_locator(exp, log, rest, k, terms);
+        k += 1;
+    }
+}
+
+fn no_terms() -> [u8; TERMS]
+    ensures { λ r. ⌜ length r ≡ 144 ⌝ }
+{
+    [0; TERMS]
+}
+
+// A place for the values.
+pub(crate) fn no_values() -> [u8; VALUES]
+    ensures { λ r. ⌜ length r ≡ 4080 ⌝ }
+{
+    [0; VALUES]
+}
+
+// Stores the values of the locator polynomials at all powers of a.
+pub(crate) fn evaluate(exp: &[u16], log: &[u16], rest: &[u8; CELLS], values: &mut [u8; VALUES])
+    requires { ⌜ (now exp ≡ powersC) × (now log ≡ exponentsC) ⌝ }
+    requires { ⌜ length (now values) ≡ 4080 ⌝ }
+    ensures { λ _. ⌜ LocatorValues (now (rest .entry)) (now (values .exit)) × (length (now (values .exit)) ≡ 4080) ⌝ }
+{
+    let mut terms = no_terms();
+    set_locators(exp, log, rest, &mut terms);
+    root_columns::evaluate(&mut terms, values);
+}
+
+// Place i is kept where the value v is 0.
+fn keep_root(p: Places, v: u8, i: usize) -> Places
+    requires { ⌜ (p .count ≤ 8) × (i < 255) ⌝ }
+    ensures { λ r. ⌜ (r ≡ cond (eqb v 0) (kept i p) p) × (r .count ≤ 8) ⌝ }
+{
+    if v == 0 {
+        return root_search::keep(p, i as u16);
+    }
+    p
+}
+
+// The places of word k whose locators are roots: the locator of place i is a^(254 - i).
+pub(crate) fn places(values: &[u8; VALUES], k: usize) -> Places
+    requires { ⌜ k < 16 ⌝ }
+    ensures { λ r. ⌜ PlacesTo (now (values .entry)) k 255 (r .at) (r .count) ⌝ }
+{
+    let mut p = Places {
+        at: [0u16; RADIUS],
+        count: 0,
+    };
+    let mut i: usize = 0;
+    while i < BYTES {
+        p = keep_root(p, values[WORDS * (BYTES - 1 - i) + k], i);
+        i += 1;
+    }
+    p
+}
+
+// The sums of sixteen columns, and the same with each column times a, and times a^2, before the next is added: three values at roots of each word.
+const SUMS: usize = 48;
+
+fn no_sums() -> [u8; SUMS]
+    ensures { λ r. ⌜ length r ≡ 48 ⌝ }
+{
+    [0; SUMS]
+}
+
+// Adds column i.
+fn add_column(rest: &[u8; CELLS], i: usize, sums: &mut [u8; SUMS])
+    requires { ⌜ (i < 16) × (length (now sums) ≡ 48) ⌝ }
+    ensures { λ _. ⌜ length (now (sums .exit)) ≡ 48 ⌝ }
+{
+    let n = WORDS * i;
+    let mut j: usize = 0;
+    while j < WORDS {
+        let x = rest[n + j];
+        sums[j] = division::plus(sums[j], x);
+        sums[16 + j] = division::plus(division::double(sums[16 + j]), x);
+        sums[32 + j] = division::plus(division::double(division::double(sums[32 + j])), x);
+        j += 1;
+    }
+}
+
+fn add_columns(rest: &[u8; CELLS], sums: &mut [u8; SUMS])
+    requires { ⌜ length (now sums) ≡ 48 ⌝ }
+    ensures { λ _. ⌜ length (now (sums .exit)) ≡ 48 ⌝ }
+{
+    let mut i: usize = 0;
+    while i < WORDS {
+        add_column(rest, i, sums);
+        i += 1;
+    }
+}
+
+// 1 for three values that no single wrong byte has: x, y and z with y y other than x z.
+fn several(x: u8, y: u8, z: u8) -> usize
+    ensures { λ r. ⌜ r ≤ 1 ⌝ }
+{
+    if y == 0 {
+        return 0;
+    }
+    if division::product(y, y) == division::product(x, z) {
+        return 0;
+    }
+    1
+}
+
+// How many words of a row have more than one wrong byte, by a look that is wrong for few: the answer does not depend on it.
+pub(crate) fn crowded(rest: &[u8; CELLS]) -> usize {
+    let mut sums = no_sums();
+    add_columns(rest, &mut sums);
+    let mut n: usize = 0;
+    let mut j: usize = 0;
+    while j < WORDS {
+        n += several(sums[j], sums[16 + j], sums[32 + j]);
+        j += 1;
+    }
+    n
+}

@@ -27,7 +27,7 @@ use Rattle.words.specs.Answers.{changedOf, found}
 use Rattle.words.proofs.Decoding.ReedSolomon.{tables-of, symbols-changed, symbols-found, symbols-lost}
 use Rattle.words.proofs.Steps.Corrections.{added-here, errorsAdded, errors-next}
 use Rattle.g709.specs.Rows.{receivedBytes, bytesRestored}
-use Rattle.g709.specs.Steps.Restoring.{wordOf, placeOf, laneOf, standing, valuesAdded, ByteValues, WordErrors, wordStored, wordCorrected}
+use Rattle.g709.specs.Steps.Restoring.{wordOf, bytePlace, laneOf, standing, valuesAdded, ByteValues, WordErrors, wordStored, wordCorrected}
 use Rattle.g709.proofs.Rows.{word-to-row, received-length}
 
 -- ---- adding values
@@ -70,16 +70,16 @@ pub word-of : (r k s : ℕ) → k < 16 → s < 255 → wordOf (4080 * r + k + 16
 unfolding wordOf
 word-of r k s hk hs = omega arith
 
-pub place-of : (r k s : ℕ) → k < 16 → s < 255 → placeOf (4080 * r + k + 16 * s) ≡ s
-unfolding placeOf
+pub place-of : (r k s : ℕ) → k < 16 → s < 255 → bytePlace (4080 * r + k + 16 * s) ≡ s
+unfolding bytePlace
 place-of r k s hk hs = omega arith
 
-pub place-lt : (i : ℕ) → placeOf i < 255
-unfolding placeOf
+pub place-lt : (i : ℕ) → bytePlace i < 255
+unfolding bytePlace
 place-lt i = omega arith
 
-pub standing-there : (i r k : ℕ) → k < 16 → wordOf i ≡ 16 * r + k → i ≡ 4080 * r + k + 16 * placeOf i
-unfolding wordOf placeOf
+pub standing-there : (i r k : ℕ) → k < 16 → wordOf i ≡ 16 * r + k → i ≡ 4080 * r + k + 16 * bytePlace i
+unfolding wordOf bytePlace
 standing-there i r k hk e =
     let q : i / 4080 ≡ r = omega arith in
     let m : i % 16 ≡ k = omega arith in
@@ -112,9 +112,9 @@ module _ (o : List ℕ) (r k : ℕ) (hk : k < 16) (places values : List ℕ) (co
   abbrev C : List ℕ
   C = withErrors (at W) places values count 255
 
-  inside : (i : ℕ) → wordOf i ≡ 16 * r + k → xor (at o i) (errorAt (standing (4080 * r + k) places) values count i) ≡ at C (placeOf i)
+  inside : (i : ℕ) → wordOf i ≡ 16 * r + k → xor (at o i) (errorAt (standing (4080 * r + k) places) values count i) ≡ at C (bytePlace i)
   inside i e =
-      let s = placeOf i in
+      let s = bytePlace i in
       let there : i ≡ 4080 * r + k + 16 * s = standing-there i r k hk e in
       let byte : at W s ≡ at o i = word-to-row o r k s hk (place-lt i) ∙ ap (at o) (omega arith) in
       ap₂ xor (sym byte) (ap (errorAt (standing (4080 * r + k) places) values count) there ∙ error-inside (4080 * r + k) places values count s few)
@@ -129,9 +129,9 @@ module _ (o : List ℕ) (r k : ℕ) (hk : k < 16) (places values : List ℕ) (co
   word-stored = tabulate-same (length o) _ _ (λ i l. go i (ℕ-discrete (wordOf i) (16 * r + k)))
     where
       go : (i : ℕ) → Dec (wordOf i ≡ 16 * r + k) →
-          xor (at o i) (errorAt (standing (4080 * r + k) places) values count i) ≡ cond (eqb (wordOf i) (16 * r + k)) (at C (placeOf i)) (at o i)
-      go i (yes e) = inside i e ∙ sym (ap (λ (b : Bool). cond b (at C (placeOf i)) (at o i)) (eq-eqb (wordOf i) (16 * r + k) e))
-      go i (no n) = outside i n ∙ sym (ap (λ (b : Bool). cond b (at C (placeOf i)) (at o i)) (ne-eqb (wordOf i) (16 * r + k) n))
+          xor (at o i) (errorAt (standing (4080 * r + k) places) values count i) ≡ cond (eqb (wordOf i) (16 * r + k)) (at C (bytePlace i)) (at o i)
+      go i (yes e) = inside i e ∙ sym (ap (λ (b : Bool). cond b (at C (bytePlace i)) (at o i)) (eq-eqb (wordOf i) (16 * r + k) e))
+      go i (no n) = outside i n ∙ sym (ap (λ (b : Bool). cond b (at C (bytePlace i)) (at o i)) (ne-eqb (wordOf i) (16 * r + k) n))
 
 -- ---- what is answered for a word
 

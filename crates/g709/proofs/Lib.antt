@@ -10,5 +10,5 @@ pub mod Remainders
 pub mod RowSteps
 pub mod Correcting
 pub mod WordByWord
-pub mod Proved
 pub mod Locating
+pub mod Proved

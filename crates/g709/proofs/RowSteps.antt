@@ -19,7 +19,7 @@ use Rattle.fields.proofs.Places.Tests.{tests-agree, every-at, every-true, every
 use Rattle.words.proofs.Codes.Packing.{divided-same}
 use Rattle.fields.proofs.Places.Differences.{apart-none}
 use Rattle.fields.specs.Elements.{timesC}
-use Rattle.g709.specs.Rows.{byteParity, byteData, byteWord, blockOfWords, blockOf, payloadIn, isWritten, receivedBytes}
+use Rattle.g709.specs.Rows.{byteParity, byteData, byteWord, blockOfWords, blockOf, payloadOfRows, isWritten, receivedBytes}
 use Rattle.g709.specs.Answers.{blockEncoded, blockChecked, blockExtracted}
 use Rattle.g709.specs.Steps.Registers.{over, registers, rowDivided, rowWritten, agree, rowAgrees}
 use Rattle.g709.proofs.Overlays.{over-length, over-in, over-front, over-behind, OverTo, over-next}
@@ -195,10 +195,10 @@ payload-place r j l = omega arith
 
 module _ (n : ℕ) (b : List ℕ) (long : length b ≡ 4080 * n) where
   abbrev P : List ℕ
-  P = payloadIn n b
+  P = payloadOfRows n b
 
   pub payload-at : (r j : ℕ) → r < n → j < 3824 → at P (3824 * r + j) ≡ at b (4080 * r + j)
-  unfolding payloadIn
+  unfolding payloadOfRows
   payload-at r j h l = tabulate-at (3824 * n) _ (3824 * r + j) 0 (omega arith) ∙ ap (at b) (payload-place r j l)
 
   same-lane : (r k : ℕ) → r < n → k < 16 → lane (λ i. at P (3824 * r + i)) 239 k ≡ lane (λ i. at b (4080 * r + i)) 239 k
@@ -286,7 +286,7 @@ checked-other n long b t e w h = rw (eq-eqb (length b) (4080 * n) e, ← w, h)
 pub record DataTo (n : ℕ) (b : List ℕ) (r : ℕ) (o : List ℕ) : Type 0 where
   pub within : r ≤ n
   pub long : length o ≡ 3824 * n
-  pub done : (i : ℕ) → i < 3824 * r → at o i ≡ at (payloadIn n b) i
+  pub done : (i : ℕ) → i < 3824 * r → at o i ≡ at (payloadOfRows n b) i
 
 pub data-start : (n : ℕ) (b o : List ℕ) → length o ≡ 3824 * n → DataTo n b 0 o
 data-start n b o e = record { within = omega arith; long = e; done = λ i l. absurd (omega arith) }
@@ -298,20 +298,20 @@ pub data-next : (n : ℕ) (b o q : List ℕ) (r : ℕ) → DataTo n b r o → r 
 data-next n b o q r h l long e =
     record { within = omega arith; long = ap length e ∙ over-length o (3824 * r) 3824 _ ∙ h .long; done = λ i m. ap (λ (q : List ℕ). at q i) e ∙ go i m (decLt i (3824 * r)) }
   where
-    go : (i : ℕ) → i < 3824 * (r + 1) → Dec (i < 3824 * r) → at (over o (3824 * r) 3824 (λ i. at b (4080 * r + i))) i ≡ at (payloadIn n b) i
+    go : (i : ℕ) → i < 3824 * (r + 1) → Dec (i < 3824 * r) → at (over o (3824 * r) 3824 (λ i. at b (4080 * r + i))) i ≡ at (payloadOfRows n b) i
     go i m (yes k) = over-front o (3824 * r) 3824 _ i k ∙ h .done i k
     go i m (no k) =
         let e : 3824 * r + (i - 3824 * r) ≡ i = omega arith in
         ap (at (over o (3824 * r) 3824 (λ i. at b (4080 * r + i)))) (sym e)
         ∙ over-in o (3824 * r) 3824 (λ i. at b (4080 * r + i)) (i - 3824 * r) (omega arith) (omega (arith, h .long))
-        ∙ sym (payload-at n b long r (i - 3824 * r) l (omega arith)) ∙ ap (at (payloadIn n b)) e
+        ∙ sym (payload-at n b long r (i - 3824 * r) l (omega arith)) ∙ ap (at (payloadOfRows n b)) e
 
-payload-long : (n : ℕ) (b : List ℕ) → length (payloadIn n b) ≡ 3824 * n
-unfolding payloadIn
+payload-long : (n : ℕ) (b : List ℕ) → length (payloadOfRows n b) ≡ 3824 * n
+unfolding payloadOfRows
 payload-long n b = tabulate-length (3824 * n) _
 
-pub data-end : (n : ℕ) (b o : List ℕ) (r : ℕ) → DataTo n b r o → n ≤ r → o ≡ payloadIn n b
-data-end n b o r h l = ext-getD 0 o (payloadIn n b) (h .long ∙ sym (payload-long n b)) (λ i m. h .done i (omega (arith, h .long, h .within)))
+pub data-end : (n : ℕ) (b o : List ℕ) (r : ℕ) → DataTo n b r o → n ≤ r → o ≡ payloadOfRows n b
+data-end n b o r h l = ext-getD 0 o (payloadOfRows n b) (h .long ∙ sym (payload-long n b)) (λ i m. h .done i (omega (arith, h .long, h .within)))
 
 -- ---- the extractor's answers
 
@@ -324,7 +324,7 @@ module _ (n long : ℕ) (b o : List ℕ) where
   unfolding blockExtracted answered
   extracted-space e ne = rw (eq-eqb (length b) (4080 * n) e, ne-eqb (length o) (3824 * n) ne)
 
-  pub extracted-all : (t : Bool) (q : List ℕ) → length b ≡ 4080 * n → length o ≡ 3824 * n → t ≡ isWritten n b → t ≡ true → q ≡ payloadIn n b →
+  pub extracted-all : (t : Bool) (q : List ℕ) → length b ≡ 4080 * n → length o ≡ 3824 * n → t ≡ isWritten n b → t ≡ true → q ≡ payloadOfRows n b →
       _≡_ {A = ℕ × List ℕ} (0, q) (blockExtracted n long b o)
   unfolding blockExtracted answered
   extracted-all t q e f w h g = rw (eq-eqb (length b) (4080 * n) e, eq-eqb (length o) (3824 * n) f, ← w, h, g)

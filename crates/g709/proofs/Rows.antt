@@ -23,7 +23,7 @@ use Rattle.words.specs.Nearest.{everyOf}
 use Rattle.fields.proofs.Places.Differences.{sum-at, sum-plus, sum-grid, apart-tables, apart-self, apart-none}
 use Rattle.words.proofs.Codes.Options.{every-some, every-missing, every-none, every-all}
 use Rattle.words.specs.ReedSolomon.{isCodeWord, parityOf}
-use Rattle.g709.specs.Rows.{isPayloadOf, isBlockOf, isByteWord, byteParity, byteData, byteWord, blockOfWords, blockOf, payloadIn, isWritten, receivedBytes, bytesRestored, restoredBlock}
+use Rattle.g709.specs.Rows.{isPayloadOf, isBlockOf, isByteWord, byteParity, byteData, byteWord, blockOfWords, blockOf, payloadOfRows, isWritten, receivedBytes, bytesRestored, restoredBlock}
 use Rattle.g709.specs.Answers.{blockCorrected}
 use Rattle.g709.specs.Laws.{Beyond, Within, RowLaws}
 use Rattle.g709.proofs.ByteCode.{code-c, byte-nearest, byte-lt}
@@ -141,8 +141,8 @@ module _ (n : ℕ) where
       row-to-word (blockOf n p) r j (omega arith) ∙ ap (λ (c : List ℕ). at c (j / 16)) (own-words p w k)
       ∙ List·getD-append (byteData p w) _ 0 (j / 16) (omega (arith, data-length p w)) ∙ tabulate-at 239 _ (j / 16) 0 (omega arith) ∙ ap (at p) (omega arith)
 
-  pub payload-back : (p : List ℕ) → isPayloadOf n p ≡ true → payloadIn n (blockOf n p) ≡ p
-  unfolding payloadIn
+  pub payload-back : (p : List ℕ) → isPayloadOf n p ≡ true → payloadOfRows n (blockOf n p) ≡ p
+  unfolding payloadOfRows
   payload-back p h =
       sym (tabulate-is (3824 * n) _ p 0 (payload-is p h .0) (λ i l. sym (row-begins p (i / 3824) (i % 3824) (omega arith) (omega arith) ∙ ap (at p) (omega arith))))
 
@@ -156,9 +156,9 @@ module _ (n : ℕ) where
       let m : i < 4080 * n = rw (block-length ws) at l in
       rw (block-at ws i m) (byte-lt _ (code (16 * (i / 4080) + i % 16) (omega arith)) (i % 4080 / 16))))
 
-  pub same-written : (b : List ℕ) → blockOf n (payloadIn n b) ≡ b → isWritten n b ≡ true
+  pub same-written : (b : List ℕ) → blockOf n (payloadOfRows n b) ≡ b → isWritten n b ≡ true
   unfolding isWritten
-  same-written b e = eq-eqb (apart (blockOf n (payloadIn n b)) b) 0 (ap (λ (f : List ℕ). apart f b) e ∙ apart-self b)
+  same-written b e = eq-eqb (apart (blockOf n (payloadOfRows n b)) b) 0 (ap (λ (f : List ℕ). apart f b) e ∙ apart-self b)
 
   pub written-accepted : (p : List ℕ) → isPayloadOf n p ≡ true → (isBlockOf n (blockOf n p) ≡ true) × (isWritten n (blockOf n p) ≡ true)
   unfolding blockOf
@@ -167,19 +167,19 @@ module _ (n : ℕ) where
     same-written (blockOf n p) (ap (blockOf n) (payload-back p h)),
   )
 
-  pub written-only : (b : List ℕ) → isBlockOf n b ≡ true → isWritten n b ≡ true → (isPayloadOf n (payloadIn n b) ≡ true) × (blockOf n (payloadIn n b) ≡ b)
-  unfolding isWritten isPayloadOf payloadIn blockOf
+  pub written-only : (b : List ℕ) → isBlockOf n b ≡ true → isWritten n b ≡ true → (isPayloadOf n (payloadOfRows n b) ≡ true) × (blockOf n (payloadOfRows n b) ≡ b)
+  unfolding isWritten isPayloadOf payloadOfRows blockOf
   written-only b h t =
       let e = block-is b h in
-      let long : length (payloadIn n b) ≡ 3824 * n = tabulate-length (3824 * n) _ in
-      let bytes : allBelow 256 (payloadIn n b) ≡ true = below-all 256 _ (λ i l. tabulate-lt 256 (3824 * n) _ (lit< tt) (λ i. below-at 256 b (lit< tt) (e .1) _) i) in (
+      let long : length (payloadOfRows n b) ≡ 3824 * n = tabulate-length (3824 * n) _ in
+      let bytes : allBelow 256 (payloadOfRows n b) ≡ true = below-all 256 _ (λ i l. tabulate-lt 256 (3824 * n) _ (lit< tt) (λ i. below-at 256 b (lit< tt) (e .1) _) i) in (
         rw (eq-eqb _ (3824 * n) long) bytes,
-        apart-none (blockOf n (payloadIn n b)) b (block-length _ ∙ sym (e .0)) (eqb-true (apart (blockOf n (payloadIn n b)) b) 0 t),
+        apart-none (blockOf n (payloadOfRows n b)) b (block-length _ ∙ sym (e .0)) (eqb-true (apart (blockOf n (payloadOfRows n b)) b) 0 t),
       )
 
   -- the data of a word of a block are those of the payload in it
-  data-in : (b : List ℕ) (w s : ℕ) → w < 16 * n → s < 239 → at (payloadIn n b) (3824 * (w / 16) + 16 * s + w % 16) ≡ at (receivedBytes b w) s
-  unfolding payloadIn receivedBytes
+  data-in : (b : List ℕ) (w s : ℕ) → w < 16 * n → s < 239 → at (payloadOfRows n b) (3824 * (w / 16) + 16 * s + w % 16) ≡ at (receivedBytes b w) s
+  unfolding payloadOfRows receivedBytes
   data-in b w s k l =
       tabulate-at (3824 * n) _ (3824 * (w / 16) + 16 * s + w % 16) 0 (omega arith) ∙ ap (at b) (data-place w s l) ∙ sym (tabulate-at 255 _ s 0 (omega arith))
     where
@@ -187,27 +187,27 @@ module _ (n : ℕ) where
           4080 * ((3824 * (w / 16) + 16 * s + w % 16) / 3824) + (3824 * (w / 16) + 16 * s + w % 16) % 3824 ≡ 4080 * (w / 16) + 16 * s + w % 16
       data-place w s l = omega arith
 
-  code-word-in : (b : List ℕ) (w : ℕ) → w < 16 * n → isByteWord (receivedBytes b w) ≡ true → byteWord (payloadIn n b) w ≡ receivedBytes b w
+  code-word-in : (b : List ℕ) (w : ℕ) → w < 16 * n → isByteWord (receivedBytes b w) ≡ true → byteWord (payloadOfRows n b) w ≡ receivedBytes b w
   unfolding byteWord byteData
   code-word-in b w k h =
       let c = receivedBytes b w in
-      let d = byteData (payloadIn n b) w in
+      let d = byteData (payloadOfRows n b) w in
       let q = tabulate 16 (λ s. at c (239 + s)) in
       let same : d ≡ tabulate 239 (at c) = tabulate-same 239 _ _ (λ s l. data-in b w s k l) in
       let whole : tabulate 255 (at c) ≡ c = sym (tabulate-is 255 (at c) c 0 (received-length b w) (λ s l. refl)) in
       let parts : d ++ q ≡ c = ap (λ (x : List ℕ). x ++ q) same ∙ tabulate-append 239 16 (at c) _ (λ s. refl) ∙ whole in
-      let parity : q ≡ parityOf 8 285 0 16 d = code-c .parity-only d q (omega (arith, data-length (payloadIn n b) w)) (tabulate-length 16 _) (ap (isCodeWord 8 285 0 16) parts ∙ h) in
+      let parity : q ≡ parityOf 8 285 0 16 d = code-c .parity-only d q (omega (arith, data-length (payloadOfRows n b) w)) (tabulate-length 16 _) (ap (isCodeWord 8 285 0 16) parts ∙ h) in
       ap (λ (x : List ℕ). d ++ x) (sym parity) ∙ parts
 
   pub code-written : (b : List ℕ) → isBlockOf n b ≡ true → ((w : ℕ) → w < 16 * n → isByteWord (receivedBytes b w) ≡ true) → isWritten n b ≡ true
   unfolding blockOf
   code-written b h code =
-      same-written b (block-known b _ (block-is b h .0) (λ w k. tabulate-at (16 * n) (byteWord (payloadIn n b)) w [] k ∙ code-word-in b w k (code w k)))
+      same-written b (block-known b _ (block-is b h .0) (λ w k. tabulate-at (16 * n) (byteWord (payloadOfRows n b)) w [] k ∙ code-word-in b w k (code w k)))
 
   pub written-code : (b : List ℕ) → isBlockOf n b ≡ true → isWritten n b ≡ true → (w : ℕ) → w < 16 * n → isByteWord (receivedBytes b w) ≡ true
   written-code b h t w k =
       let own = written-only b h t in
-      let p = payloadIn n b in
+      let p = payloadOfRows n b in
       ap (λ (f : List ℕ). isByteWord (receivedBytes f w)) (sym (own .1)) ∙ ap isByteWord (own-words p w k) ∙ word-code p (payload-is p (own .0) .1) w
 
   pub far : (p q : List ℕ) → isPayloadOf n p ≡ true → isPayloadOf n q ≡ true → (p ≡ q → ⊥) → 17 ≤ apart (blockOf n p) (blockOf n q)
@@ -225,7 +225,7 @@ module _ (n : ℕ) where
       go (yes h) = h
       go (no h) =
           let blocks : blockOf n p ≡ blockOf n q = ap (blockOfWords n) (tabulate-same (16 * n) _ _ (same (omega arith))) in
-          absurd (other (sym (payload-back p hp) ∙ ap (payloadIn n) blocks ∙ payload-back q hq))
+          absurd (other (sym (payload-back p hp) ∙ ap (payloadOfRows n) blocks ∙ payload-back q hq))
 
   -- ---- correction
 

@@ -32,9 +32,9 @@ use Rattle.words.proofs.Codes.Horner.{horner-zero}
 use Rattle.words.proofs.Codes.Options.{some-same, some-not-none, every-some, every-missing}
 use Rattle.words.proofs.Codes.ReedSolomon.{root-is, is-code}
 use Rattle.g709.specs.Rows.{isByteWord, blockOfWords, receivedBytes, bytesRestored, restoredBlock}
-use Rattle.g709.specs.Answers.{blockCorrected, withoutCount}
+use Rattle.g709.specs.Answers.{blockCorrected, withoutChanges}
 use Rattle.g709.specs.Steps.Registers.{over, rowRemainders}
-use Rattle.g709.specs.Steps.Restoring.{wordOf, placeOf, laneOf, wordStored, wordCorrected, WordErrors, Counted, Remains, WordDone, RestoredTo, Restoring}
+use Rattle.g709.specs.Steps.Restoring.{wordOf, bytePlace, laneOf, wordStored, wordCorrected, WordErrors, Counted, Remains, WordDone, RestoredTo, Restoring}
 use Rattle.g709.proofs.ByteCode.{byte-nearest}
 use Rattle.g709.proofs.Rows.{received-length, place-back, block-length, block-at, words-in, apart-words}
 use Rattle.g709.proofs.Overlays.{over-length, over-in}
@@ -80,14 +80,14 @@ module _ (o : List ℕ) (w : ℕ) (reached : Bool) (changed : ℕ) where
   unfolding wordStored receivedBytes
   stored-self = tabulate-is (length o) _ o 0 refl (λ i l. go i (ℕ-discrete (wordOf i) w))
     where
-      there : (i : ℕ) → wordOf i ≡ w → i ≡ 4080 * (w / 16) + 16 * placeOf i + w % 16
+      there : (i : ℕ) → wordOf i ≡ w → i ≡ 4080 * (w / 16) + 16 * bytePlace i + w % 16
       there i e =
           let parts : w ≡ 16 * (w / 16) + w % 16 = omega arith in
-          let s : i ≡ 4080 * (w / 16) + w % 16 + 16 * placeOf i = standing-there i (w / 16) (w % 16) (omega arith) (e ∙ parts) in
+          let s : i ≡ 4080 * (w / 16) + w % 16 + 16 * bytePlace i = standing-there i (w / 16) (w % 16) (omega arith) (e ∙ parts) in
           omega arith
 
-      go : (i : ℕ) → Dec (wordOf i ≡ w) → at o i ≡ cond (eqb (wordOf i) w) (at (tabulate 255 (λ s. at o (4080 * (w / 16) + 16 * s + w % 16))) (placeOf i)) (at o i)
-      go i (yes e) = rw (eq-eqb (wordOf i) w e) (ap (at o) (there i e) ∙ sym (tabulate-at 255 _ (placeOf i) 0 (place-lt i)))
+      go : (i : ℕ) → Dec (wordOf i ≡ w) → at o i ≡ cond (eqb (wordOf i) w) (at (tabulate 255 (λ s. at o (4080 * (w / 16) + 16 * s + w % 16))) (bytePlace i)) (at o i)
+      go i (yes e) = rw (eq-eqb (wordOf i) w e) (ap (at o) (there i e) ∙ sym (tabulate-at 255 _ (bytePlace i) 0 (place-lt i)))
       go i (no n) = rw (ne-eqb (wordOf i) w n)
 
   module _ (lane : List ℕ) (R : Remains reached lane (receivedBytes o w)) (h : not reached ≡ false) where
@@ -221,7 +221,7 @@ module _ (b o next : List ℕ) (w : ℕ) (reached still : Bool) (changed sum : �
     words-before : (v : ℕ) → v < w → words′ v ≡ T .words v
     words-before v l = ap (λ (b : Bool). cond b c (T .words v)) (ne-eqb v w (λ e. omega arith))
 
-    next-at : (i : ℕ) → i < length b → at next i ≡ cond (eqb (wordOf i) w) (at c (placeOf i)) (at o i)
+    next-at : (i : ℕ) → i < length b → at next i ≡ cond (eqb (wordOf i) w) (at c (bytePlace i)) (at o i)
     unfolding wordStored
     next-at i l = ap (λ (n : List ℕ). at n i) (D .found t .3) ∙ tabulate-at (length o) _ i 0 (omega (arith, S .room))
 
@@ -232,15 +232,15 @@ module _ (b o next : List ℕ) (w : ℕ) (reached still : Bool) (changed sum : �
         go (yes e) = rw e (found-in-b ∙ ap some (sym words-here))
         go (no n) = let lt : v < w = omega arith in T .restored v lt ∙ ap some (sym (words-before v lt))
 
-    done′ : (i : ℕ) → i < length b → wordOf i < w + 1 → at next i ≡ at (words′ (wordOf i)) (placeOf i)
+    done′ : (i : ℕ) → i < length b → wordOf i < w + 1 → at next i ≡ at (words′ (wordOf i)) (bytePlace i)
     done′ i l h = next-at i l ∙ go (ℕ-discrete (wordOf i) w)
       where
-        chosen : {b : Bool} → eqb (wordOf i) w ≡ b → cond (eqb (wordOf i) w) (at c (placeOf i)) (at o i) ≡ cond b (at c (placeOf i)) (at o i)
-        chosen e = ap (λ (b : Bool). cond b (at c (placeOf i)) (at o i)) e
+        chosen : {b : Bool} → eqb (wordOf i) w ≡ b → cond (eqb (wordOf i) w) (at c (bytePlace i)) (at o i) ≡ cond b (at c (bytePlace i)) (at o i)
+        chosen e = ap (λ (b : Bool). cond b (at c (bytePlace i)) (at o i)) e
 
-        go : Dec (wordOf i ≡ w) → cond (eqb (wordOf i) w) (at c (placeOf i)) (at o i) ≡ at (words′ (wordOf i)) (placeOf i)
-        go (yes e) = chosen (eq-eqb (wordOf i) w e) ∙ ap (λ (x : List ℕ). at x (placeOf i)) (sym (ap words′ e ∙ words-here))
-        go (no n) = let lt : wordOf i < w = omega arith in chosen (ne-eqb (wordOf i) w n) ∙ T .done i l lt ∙ ap (λ (x : List ℕ). at x (placeOf i)) (sym (words-before (wordOf i) lt))
+        go : Dec (wordOf i ≡ w) → cond (eqb (wordOf i) w) (at c (bytePlace i)) (at o i) ≡ at (words′ (wordOf i)) (bytePlace i)
+        go (yes e) = chosen (eq-eqb (wordOf i) w e) ∙ ap (λ (x : List ℕ). at x (bytePlace i)) (sym (ap words′ e ∙ words-here))
+        go (no n) = let lt : wordOf i < w = omega arith in chosen (ne-eqb (wordOf i) w n) ∙ T .done i l lt ∙ ap (λ (x : List ℕ). at x (bytePlace i)) (sym (words-before (wordOf i) lt))
 
     rest′ : (i : ℕ) → i < length b → w + 1 ≤ wordOf i → at next i ≡ at b i
     rest′ i l h = next-at i l ∙ rw (ne-eqb (wordOf i) w (λ e. omega arith)) (T .rest i l (omega arith))
@@ -342,7 +342,7 @@ module _ (n : ℕ) (b : List ℕ) (long : length b ≡ 4080 * n) (o : List ℕ) 
   word-lt i l = omega arith
 
   is-block : (out : List ℕ) → length out ≡ 4080 * n → ((i : ℕ) → i < 4080 * n → at out i ≡ at o i) → out ≡ blockOfWords n ws
-  unfolding wordOf placeOf
+  unfolding wordOf bytePlace
   is-block out room same =
       ext-getD 0 out (blockOfWords n ws) (room ∙ sym (block-length n ws)) (λ i l.
       let m : i < 4080 * n = omega arith in
@@ -401,6 +401,6 @@ module _ (n refusal : ℕ) (b buffer held : List ℕ) (reached : Bool) (changed 
 
 -- ---- for the C host
 
-pub count-left-out : (a : Correction × List ℕ) (c : Correction) (out : List ℕ) (n : ℕ) → _≡_ {A = Correction × List ℕ} (c, out) a → n ≡ refusalOf c → _≡_ {A = ℕ × List ℕ} (n, out) (withoutCount a)
-unfolding withoutCount
+pub count-left-out : (a : Correction × List ℕ) (c : Correction) (out : List ℕ) (n : ℕ) → _≡_ {A = Correction × List ℕ} (c, out) a → n ≡ refusalOf c → _≡_ {A = ℕ × List ℕ} (n, out) (withoutChanges a)
+unfolding withoutChanges
 count-left-out a c out n e h = rw (← e, h)

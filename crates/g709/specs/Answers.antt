@@ -8,7 +8,7 @@ use Rattle.fields.specs.Places.{apart}
 use Rattle.words.specs.declared.Correction.{Correction}
 use Rattle.words.specs.declared.Correction.the-variants.{Corrected, Refused}
 use Rattle.words.specs.Answers.{unless, answered, found, corrected, refusalOf}
-use Rattle.g709.specs.Rows.{blockOf, payloadIn, isWritten, restoredBlock}
+use Rattle.g709.specs.Rows.{blockOf, payloadOfRows, isWritten, restoredBlock}
 
 -- encoder ("maker"): the payload's length, `long`; the size of the buffer, 3
 unfoldable pub blockEncoded : ℕ → ℕ → List ℕ → List ℕ → ℕ × List ℕ
@@ -21,7 +21,7 @@ blockChecked n long block = unless (eqb (length block) (4080 * n)) long (unless 
 -- extractor ("reader"): `long`, 3, 4
 unfoldable pub blockExtracted : ℕ → ℕ → List ℕ → List ℕ → ℕ × List ℕ
 blockExtracted n long block buffer =
-    answered (unless (eqb (length block) (4080 * n)) long (unless (eqb (length buffer) (3824 * n)) 3 (unless (isWritten n block) 4 0))) (payloadIn n block) buffer
+    answered (unless (eqb (length block) (4080 * n)) long (unless (eqb (length buffer) (3824 * n)) 3 (unless (isWritten n block) 4 0))) (payloadOfRows n block) buffer
 
 -- corrector ("mender"): `long`, 3, 5; the number of changed bytes and the restored block
 unfoldable pub blockCorrected : ℕ → ℕ → List ℕ → List ℕ → Correction × List ℕ
@@ -56,5 +56,5 @@ abbrev pub rowCorrected : List ℕ → List ℕ → Correction × List ℕ
 rowCorrected = blockCorrected 1 8
 
 -- for the C host, to which no count is handed out: number and buffer
-unfoldable pub withoutCount : Correction × List ℕ → ℕ × List ℕ
-withoutCount a = (refusalOf (a .0), a .1)
+unfoldable pub withoutChanges : Correction × List ℕ → ℕ × List ℕ
+withoutChanges a = (refusalOf (a .0), a .1)

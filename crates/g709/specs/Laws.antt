@@ -9,7 +9,7 @@ use Rattle.fields.specs.Places.{at, sumTo, apart}
 use Rattle.words.specs.declared.Correction.the-variants.{Corrected, Refused}
 use Rattle.words.specs.ReedSolomon.{generatorOf}
 use Rattle.words.specs.Codes.{ReedSolomon}
-use Rattle.g709.specs.Rows.{isPayloadOf, isBlockOf, isByteWord, byteWord, blockOf, payloadIn, isWritten, receivedBytes}
+use Rattle.g709.specs.Rows.{isPayloadOf, isBlockOf, isByteWord, byteWord, blockOf, payloadOfRows, isWritten, receivedBytes}
 use Rattle.g709.specs.Answers.{blockEncoded, blockChecked, blockExtracted, blockCorrected}
 
 -- word w of the block has no code word within eight bytes
@@ -22,10 +22,10 @@ Within n block sent = (w : ℕ) → w < 16 * n → apart (receivedBytes block w)
 
 pub record RowLaws (n : ℕ) : Type 0 where
   -- the payload of the block of a payload is that payload
-  pub payload-back : (p : List ℕ) → isPayloadOf n p ≡ true → payloadIn n (blockOf n p) ≡ p
+  pub payload-back : (p : List ℕ) → isPayloadOf n p ≡ true → payloadOfRows n (blockOf n p) ≡ p
   -- the block of a payload is accepted; and an accepted block is the block of the payload in it: the encoder writes no other
   pub written-accepted : (p : List ℕ) → isPayloadOf n p ≡ true → (isBlockOf n (blockOf n p) ≡ true) × (isWritten n (blockOf n p) ≡ true)
-  pub written-only : (b : List ℕ) → isBlockOf n b ≡ true → isWritten n b ≡ true → (isPayloadOf n (payloadIn n b) ≡ true) × (blockOf n (payloadIn n b) ≡ b)
+  pub written-only : (b : List ℕ) → isBlockOf n b ≡ true → isWritten n b ≡ true → (isPayloadOf n (payloadOfRows n b) ≡ true) × (blockOf n (payloadOfRows n b) ≡ b)
   -- byte s of word 16 r + k is byte 16 s + k of row r; byte j of row r is byte j div 16 of word 16 r + j mod 16
   pub word-to-row : (b : List ℕ) (r k s : ℕ) → k < 16 → s < 255 → at (receivedBytes b (16 * r + k)) s ≡ at b (4080 * r + (16 * s + k))
   pub row-to-word : (b : List ℕ) (r j : ℕ) → j < 4080 → at b (4080 * r + j) ≡ at (receivedBytes b (16 * r + j % 16)) (j / 16)
@@ -63,7 +63,7 @@ pub record RowRefusals (n long : ℕ) : Type 0 where
   pub check-other : (b : List ℕ) → length b ≡ 4080 * n → isWritten n b ≡ false → blockChecked n long b ≡ 4
   pub extract-length : (b o : List ℕ) → (length b ≡ 4080 * n → ⊥) → blockExtracted n long b o ≡ (long, o)
   pub extract-space : (b o : List ℕ) → length b ≡ 4080 * n → (length o ≡ 3824 * n → ⊥) → blockExtracted n long b o ≡ (3, o)
-  pub extracted : (b o : List ℕ) → length b ≡ 4080 * n → length o ≡ 3824 * n → isWritten n b ≡ true → blockExtracted n long b o ≡ (0, payloadIn n b)
+  pub extracted : (b o : List ℕ) → length b ≡ 4080 * n → length o ≡ 3824 * n → isWritten n b ≡ true → blockExtracted n long b o ≡ (0, payloadOfRows n b)
   pub extract-other : (b o : List ℕ) → length b ≡ 4080 * n → length o ≡ 3824 * n → isWritten n b ≡ false → blockExtracted n long b o ≡ (4, o)
   pub correct-length : (b o : List ℕ) → (length b ≡ 4080 * n → ⊥) → blockCorrected n long b o ≡ (Refused long, o)
   pub correct-space : (b o : List ℕ) → length b ≡ 4080 * n → (length o ≡ 4080 * n → ⊥) → blockCorrected n long b o ≡ (Refused 3, o)

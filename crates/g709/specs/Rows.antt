@@ -41,12 +41,12 @@ blockOfWords n words = tabulate (4080 * n) (λ i. at (getD words (16 * (i / 4080
 unfoldable pub blockOf : ℕ → List ℕ → List ℕ
 blockOf n payload = blockOfWords n (tabulate (16 * n) (byteWord payload))
 
-unfoldable pub payloadIn : ℕ → List ℕ → List ℕ
-payloadIn n block = tabulate (3824 * n) (λ i. at block (4080 * (i / 3824) + i % 3824))
+unfoldable pub payloadOfRows : ℕ → List ℕ → List ℕ
+payloadOfRows n block = tabulate (3824 * n) (λ i. at block (4080 * (i / 3824) + i % 3824))
 
 -- a block that differs nowhere from the block of the payload in it. No other is written for any payload (`written-only`)
 unfoldable pub isWritten : ℕ → List ℕ → Bool
-isWritten n block = eqb (apart (blockOf n (payloadIn n block)) block) 0
+isWritten n block = eqb (apart (blockOf n (payloadOfRows n block)) block) 0
 
 -- word w of a received block; the code word within eight bytes of it; and the block of these, or none, if some word has none ("beyond reach")
 unfoldable pub receivedBytes : List ℕ → ℕ → List ℕ

@@ -8,7 +8,7 @@ ghost use Prim.Native.Nat.{_+_, _*_, _≤_, _<_};
 ghost use lib.Dec.{eqb};
 ghost use lib.ListN.{length};
 ghost use Rattle.fields.specs.Places.{at, every};
-ghost use Rattle.g709.specs.Rows.{blockOf, payloadIn, isWritten};
+ghost use Rattle.g709.specs.Rows.{blockOf, payloadOfRows, isWritten};
 ghost use Rattle.g709.specs.Answers.{blockEncoded, blockChecked, blockExtracted, blockCorrected};
 ghost use Rattle.g709.specs.Steps.Registers.{over, rowWritten, rowAgrees, agree};
 
@@ -134,7 +134,7 @@ pub(crate) fn check(block: &[u8], n: usize, long: u8) -> u8
 // Writes the data of the n rows.
 fn write_payload(block: &[u8], n: usize, out: &mut [u8])
     requires { ⌜ (n ≤ 4) × (length (now block) ≡ 4080 * n) × (length (now out) ≡ 3824 * n) ⌝ }
-    ensures { λ _. ⌜ now (out .exit) ≡ payloadIn n (now (block .entry)) ⌝ }
+    ensures { λ _. ⌜ now (out .exit) ≡ payloadOfRows n (now (block .entry)) ⌝ }
 {
     let mut r: usize = 0;
     while r < n {

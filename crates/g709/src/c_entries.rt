@@ -2,7 +2,7 @@
 use words::Correction;
 ghost use mathlib.Core.Path.{_≡_};
 ghost use Rattle.words.specs.Answers.{refusalOf};
-ghost use Rattle.g709.specs.Answers.{rowEncoded, rowChecked, rowExtracted, rowCorrected, rowsEncoded, rowsChecked, rowsExtracted, rowsCorrected, withoutCount};
+ghost use Rattle.g709.specs.Answers.{rowEncoded, rowChecked, rowExtracted, rowCorrected, rowsEncoded, rowsChecked, rowsExtracted, rowsCorrected, withoutChanges};
 
 fn refusal(c: Correction) -> u8
     ensures { λ r. ⌜ r ≡ refusalOf c ⌝ }
@@ -37,7 +37,7 @@ pub extern "C" fn g709_extract(block: &[u8], payload: &mut [u8]) -> u8
 // The number of changed bytes is not handed out.
 #[no_mangle]
 pub extern "C" fn g709_correct(block: &[u8], frame: &mut [u8]) -> u8
-    ensures { λ r. ⌜ (r, now (frame .exit)) ≡ withoutCount (rowsCorrected (now (block .entry)) (now (frame .entry))) ⌝ }
+    ensures { λ r. ⌜ (r, now (frame .exit)) ≡ withoutChanges (rowsCorrected (now (block .entry)) (now (frame .entry))) ⌝ }
 {
     refusal(crate::correct(block, frame))
 }
@@ -65,7 +65,7 @@ pub extern "C" fn g709_extract_row(row: &[u8], payload: &mut [u8]) -> u8
 
 #[no_mangle]
 pub extern "C" fn g709_correct_row(received: &[u8], row: &mut [u8]) -> u8
-    ensures { λ r. ⌜ (r, now (row .exit)) ≡ withoutCount (rowCorrected (now (received .entry)) (now (row .entry))) ⌝ }
+    ensures { λ r. ⌜ (r, now (row .exit)) ≡ withoutChanges (rowCorrected (now (received .entry)) (now (row .entry))) ⌝ }
 {
     refusal(crate::correct_row(received, row))
 }

@@ -79,22 +79,22 @@ fn correct_word(e: Errors, r: usize, k: usize, out: &mut [u8]) -> Correction
 }
 
 // Whether all words so far have a code word near them, and how many bytes were changed.
-pub struct Progress {
+pub struct RowProgress {
     pub reached: bool,
     pub changed: u16,
 }
 
 // The progress after a word.
-fn with_word(p: Progress, c: Correction) -> Progress
+fn with_word(p: RowProgress, c: Correction) -> RowProgress
     requires { ⌜ (p .reached ≡ true) × (p .changed ≤ 512) × (changedOf c ≤ 8) ⌝ }
     ensures { λ q. ⌜ Counted (p .changed) c (q .reached) (q .changed) ⌝ }
 {
     match c {
-        Correction::Corrected { changed } => Progress {
+        Correction::Corrected { changed } => RowProgress {
             reached: true,
             changed: p.changed + changed,
         },
-        Correction::Refused { number } => Progress {
+        Correction::Refused { number } => RowProgress {
             reached: false,
             changed: 0,
         },
@@ -109,8 +109,8 @@ fn next_word(
     r: usize,
     k: usize,
     out: &mut [u8],
-    p: Progress,
-) -> Progress
+    p: RowProgress,
+) -> RowProgress
     requires { ⌜ (now exp ≡ powersC) × (now log ≡ exponentsC) ⌝ }
     requires { ⌜ (r < 4) × (k < 16) × (4080 * r + 4080 ≤ length (now out)) × (p .changed ≤ 512) ⌝ }
     requires { ⌜ Remains (p .reached) (laneOf (now rest) k) (receivedBytes (now out) (16 * r + k)) ⌝ }
@@ -118,7 +118,7 @@ fn next_word(
     ensures { λ q. ⌜ q .changed ≤ p .changed + 8 ⌝ }
 {
     if !p.reached {
-        return Progress {
+        return RowProgress {
             reached: false,
             changed: 0,
         };
@@ -141,8 +141,8 @@ fn next_located(
     r: usize,
     k: usize,
     out: &mut [u8],
-    p: Progress,
-) -> Progress
+    p: RowProgress,
+) -> RowProgress
     requires { ⌜ (now exp ≡ powersC) × (now log ≡ exponentsC) ⌝ }
     requires { ⌜ (r < 4) × (k < 16) × (4080 * r + 4080 ≤ length (now out)) × (p .changed ≤ 512) ⌝ }
     requires { ⌜ Remains (p .reached) (laneOf (now rest) k) (receivedBytes (now out) (16 * r + k)) ⌝ }
@@ -151,7 +151,7 @@ fn next_located(
     ensures { λ q. ⌜ q .changed ≤ p .changed + 8 ⌝ }
 {
     if !p.reached {
-        return Progress {
+        return RowProgress {
             reached: false,
             changed: 0,
         };
@@ -174,8 +174,8 @@ fn correct_singly(
     rest: &[u8; CELLS],
     r: usize,
     out: &mut [u8],
-    before: Progress,
-) -> Progress
+    before: RowProgress,
+) -> RowProgress
     requires { ⌜ (now exp ≡ powersC) × (now log ≡ exponentsC) ⌝ }
     requires { ⌜ (r < 4) × (4080 * r + 4080 ≤ length (now block)) ⌝ }
     requires { ⌜ now rest ≡ rowRemainders (now block) (4080 * r) ⌝ }
@@ -199,8 +199,8 @@ fn correct_located(
     rest: &[u8; CELLS],
     r: usize,
     out: &mut [u8],
-    before: Progress,
-) -> Progress
+    before: RowProgress,
+) -> RowProgress
     requires { ⌜ (now exp ≡ powersC) × (now log ≡ exponentsC) ⌝ }
     requires { ⌜ (r < 4) × (4080 * r + 4080 ≤ length (now block)) ⌝ }
     requires { ⌜ now rest ≡ rowRemainders (now block) (4080 * r) ⌝ }
@@ -225,8 +225,8 @@ fn correct_row(
     block: &[u8],
     r: usize,
     out: &mut [u8],
-    before: Progress,
-) -> Progress
+    before: RowProgress,
+) -> RowProgress
     requires { ⌜ (now exp ≡ powersC) × (now log ≡ exponentsC) ⌝ }
     requires { ⌜ (r < 4) × (4080 * r + 4080 ≤ length (now block)) ⌝ }
     requires { ⌜ Restoring (now block) (16 * r) (now out) (before .reached) (before .changed) ⌝ }
@@ -241,14 +241,14 @@ fn correct_row(
 }
 
 // Corrects the words of n rows in the copy of the block.
-pub(crate) fn restore(block: &[u8], n: usize, out: &mut [u8]) -> Progress
+pub(crate) fn restore(block: &[u8], n: usize, out: &mut [u8]) -> RowProgress
     requires { ⌜ (n ≤ 4) × (length (now block) ≡ 4080 * n) ⌝ }
     requires { ⌜ Restoring (now block) 0 (now out) true 0 ⌝ }
     ensures { λ p. ⌜ Restoring (now (block .entry)) (16 * n) (now (out .exit)) (p .reached) (p .changed) ⌝ }
 {
     let exp = fields::exp_c();
     let log = fields::log_c();
-    let mut p = Progress {
+    let mut p = RowProgress {
         reached: true,
         changed: 0,
     };

@@ -22,8 +22,8 @@ use Rattle.g709.specs.Rows.{receivedBytes, bytesRestored}
 unfoldable pub wordOf : ℕ → ℕ
 wordOf i = 16 * (i / 4080) + i % 16
 
-unfoldable pub placeOf : ℕ → ℕ
-placeOf i = i % 4080 / 16
+unfoldable pub bytePlace : ℕ → ℕ
+bytePlace i = i % 4080 / 16
 
 -- the bytes at the sixteen distances from place k on: a column for each
 unfoldable pub laneOf : List ℕ → ℕ → List ℕ
@@ -42,7 +42,7 @@ pub record ByteValues (values : List ℕ) (k : ℕ) : Type 0 where
 
 -- a block with c in the place of its word w
 unfoldable pub wordStored : List ℕ → ℕ → List ℕ → List ℕ
-wordStored o w c = tabulate (length o) (λ i. cond (eqb (wordOf i) w) (at c (placeOf i)) (at o i))
+wordStored o w c = tabulate (length o) (λ i. cond (eqb (wordOf i) w) (at c (bytePlace i)) (at o i))
 
 -- what is answered for word w of a block, and the block with the code word in its place
 unfoldable pub wordCorrected : List ℕ → ℕ → Correction × List ℕ
@@ -74,7 +74,7 @@ pub record WordDone (o : List ℕ) (w : ℕ) (reached : Bool) (changed : ℕ) (n
 pub record RestoredTo (b : List ℕ) (w : ℕ) (o : List ℕ) (changed : ℕ) : Type 0 where
   pub words : ℕ → List ℕ
   pub restored : (v : ℕ) → v < w → bytesRestored b v ≡ some (words v)
-  pub done : (i : ℕ) → i < length b → wordOf i < w → at o i ≡ at (words (wordOf i)) (placeOf i)
+  pub done : (i : ℕ) → i < length b → wordOf i < w → at o i ≡ at (words (wordOf i)) (bytePlace i)
   pub rest : (i : ℕ) → i < length b → w ≤ wordOf i → at o i ≡ at b i
   pub count : changed ≡ sumTo w (λ v. apart (receivedBytes b v) (words v))
 

@@ -95,7 +95,7 @@ horner-sums j g zero k = refl
 horner-sums j g (suc n) k = horner-sum (by j) (by-sum j) (λ t. sumUpTo (λ m. g m t) n) (g (suc n)) k ∙ ap (λ (x : ℕ). xor x (horner (by j) (g (suc n)) k)) (horner-sums j g n k)
 
 -- zeros
-none : (j : ℕ) (b : ℕ → ℕ) (n : ℕ) → ((i : ℕ) → i < n → b i ≡ 0) → horner (by j) b n ≡ 0
+pub none : (j : ℕ) (b : ℕ → ℕ) (n : ℕ) → ((i : ℕ) → i < n → b i ≡ 0) → horner (by j) b n ≡ 0
 none j b n h = horner-same (by j) b (λ i. 0) n h ∙ horner-zero (by j) (by-sum j) (λ i. 0) (λ i. refl) n
 
 iter-none : (j n : ℕ) → iter (by j) n 0 ≡ 0

@@ -9,6 +9,7 @@ pub mod PowerColumns
 pub mod Remainders
 pub mod RowSteps
 pub mod Correcting
+pub mod ColumnSyndromes
 pub mod WordByWord
 pub mod Locating
 pub mod Proved

@@ -17,7 +17,7 @@ use Rattle.fields.specs.Places.{at}
 use Rattle.fields.proofs.Instances.{field-c}
 use Rattle.fields.proofs.Lists.{tabulate-at, tabulate-is, tabulate-length, tabulate-same}
 use Rattle.decoding.specs.declared.root_search.Places.{Places}
-use Rattle.decoding.specs.Steps.ByTables.{tableValue, rootValues}
+use Rattle.decoding.specs.Steps.ByTables.{tableValue}
 use Rattle.decoding.specs.Steps.Decoder.{locator}
 use Rattle.decoding.specs.Steps.Annihilator.{Annihilates}
 use Rattle.decoding.specs.Steps.RootSearch.{kept, Roots, RootAt}
@@ -86,10 +86,10 @@ module _ (l : List ℕ) (k : ℕ) (v : List ℕ) (hk : k < 16) (full : length l 
 pub byte-coefficients : (es ls t v : List ℕ) → ls ≡ exponentsC → Annihilates es ls t v → (d : ℕ) → at v d < 256
 byte-coefficients es ls t v log A d = omega (arith, A .elements d, ap length log, exponents-length 8 285 field-c)
 
-pub locator-set : (es ls rest before terms cells t v : List ℕ) (k : ℕ) → es ≡ powersC → ls ≡ exponentsC → k < 16 → length before ≡ 144 →
-    cells ≡ laneOf rest k → t ≡ rootValues es ls cells → Annihilates es ls t v → terms ≡ polynomialStored before k v → length terms ≡ 144 → length v ≡ 9 → LocatorSet rest k before terms
-locator-set es ls rest before terms cells t v k exp log hk full ec et A e long nine =
-    let A′ : Annihilates powersC exponentsC (rootValues powersC exponentsC (laneOf rest k)) v = rw (et, ec, exp, log) at A in
+pub locator-set : (es ls s before terms t v : List ℕ) (k : ℕ) → es ≡ powersC → ls ≡ exponentsC → k < 16 → length before ≡ 144 → t ≡ laneOf s k → Annihilates es ls t v →
+    terms ≡ polynomialStored before k v → length terms ≡ 144 → length v ≡ 9 → LocatorSet s k before terms
+locator-set es ls s before terms t v k exp log hk full et A e long nine =
+    let A′ : Annihilates powersC exponentsC (laneOf s k) v = rw (et, exp, log) at A in
     record {
       long = long;
       here = rw (e, stored-here before k v hk full nine) A′;
@@ -188,10 +188,10 @@ polynomial-long : (terms : List ℕ) (k : ℕ) → length (polynomialOf terms k)
 unfolding polynomialOf
 polynomial-long terms k = tabulate-length 9 _
 
-pub located : (es ls rest values cells t : List ℕ) (k : ℕ) (places : List ℕ) (count : ℕ) → es ≡ powersC → ls ≡ exponentsC → k < 16 → cells ≡ laneOf rest k →
-    t ≡ rootValues es ls cells → LocatorValues rest values → PlacesTo values k 255 places count → Located es ls t 255 places count
-located es ls rest values cells t k places count exp log hk ec et L P =
-    rw (et, ec, exp, log) (record {
+pub located : (es ls s values t : List ℕ) (k : ℕ) (places : List ℕ) (count : ℕ) → es ≡ powersC → ls ≡ exponentsC → k < 16 → t ≡ laneOf s k → LocatorValues s values →
+    PlacesTo values k 255 places count → Located es ls t 255 places count
+located es ls s values t k places count exp log hk et L P =
+    rw (et, exp, log) (record {
       polynomial = polynomialOf (L .terms) k;
       long = polynomial-long (L .terms) k;
       annihilates = L .locators .each k hk;

@@ -28,18 +28,18 @@ use Rattle.words.specs.declared.Correction.the-variants.{Corrected, Refused}
 use Rattle.words.specs.Answers.{refusalOf, changedOf, found, corrected}
 use Rattle.words.specs.ReedSolomon.{valueAtRoot, isCodeWord}
 use Rattle.words.specs.Nearest.{nearest, everyOf}
-use Rattle.words.proofs.Codes.Horner.{horner-zero}
 use Rattle.words.proofs.Codes.Options.{some-same, some-not-none, every-some, every-missing}
 use Rattle.words.proofs.Codes.ReedSolomon.{root-is, is-code}
 use Rattle.g709.specs.Rows.{isByteWord, blockOfWords, receivedBytes, bytesRestored, restoredBlock}
 use Rattle.g709.specs.Answers.{blockCorrected, withoutChanges}
 use Rattle.g709.specs.Steps.Registers.{over, rowRemainders}
+use Rattle.g709.specs.Steps.ColumnSyndromes.{SyndromesTo, RowSyndromes}
 use Rattle.g709.specs.Steps.Restoring.{wordOf, bytePlace, laneOf, wordStored, wordCorrected, WordErrors, Counted, Remains, WordDone, RestoredTo, Restoring}
 use Rattle.g709.proofs.ByteCode.{byte-nearest}
 use Rattle.g709.proofs.Rows.{received-length, place-back, block-length, block-at, words-in, apart-words}
 use Rattle.g709.proofs.Overlays.{over-length, over-in}
 use Rattle.g709.proofs.Remainders.{word-remainder, lane-below}
-use Rattle.g709.proofs.Folds.{by, by-sum, value-by}
+use Rattle.g709.proofs.ColumnSyndromes.{lane-syndromes}
 use Rattle.g709.proofs.Correcting.{place-lt, standing-there}
 
 -- ---- the answer for a word joins the progress
@@ -66,9 +66,6 @@ corrected-refused n m e = let z : _≡_ {A = ℕ} 1 0 = ap kind e in omega arith
     kind (Corrected n) = 1
     kind (Refused n) = 0
 
-zero-value : (w : List ℕ) → allBelow 1 w ≡ true → (j : ℕ) → valueAtRoot 8 285 0 w j ≡ 0
-zero-value w z j = value-by w j ∙ horner-zero (by j) (by-sum j) (at w) (λ i. omega (arith, below-at 1 w (lit< tt) z i)) (length w)
-
 module _ (o : List ℕ) (w : ℕ) (reached : Bool) (changed : ℕ) where
   -- a word before it had none
   pub word-skipped : not reached ≡ true → WordDone o w reached changed o false 0
@@ -94,14 +91,13 @@ module _ (o : List ℕ) (w : ℕ) (reached : Bool) (changed : ℕ) where
     so : reached ≡ true
     so = not-false reached h
 
-    -- a remainder of zeros: the word is a code word
+    -- syndromes of zeros: the word is a code word
     zero-values : allBelow 1 lane ≡ true → (j : ℕ) → j < 16 → valueAtRoot 8 285 0 (receivedBytes o w) j ≡ 0
     unfolding rootValues
     zero-values z j l =
-        let same : rootValue powersC exponentsC lane j ≡ rootValue powersC exponentsC (receivedBytes o w) j =
-        sym (tabulate-at 16 (rootValue powersC exponentsC lane) j 0 l) ∙ ap (λ (v : List ℕ). at v j) (R .values so) ∙ tabulate-at 16 (rootValue powersC exponentsC (receivedBytes o w)) j 0 l in
-        sym (root-is 8 285 field-c (receivedBytes o w) (R .bytes so) j) ∙ sym same
-        ∙ root-is 8 285 field-c lane (below-all 256 lane (λ i b. omega (arith, below-at 1 lane (lit< tt) z i))) j ∙ zero-value lane z j
+        let here : at lane j ≡ 0 = omega (arith, below-at 1 lane (lit< tt) z j) in
+        sym (root-is 8 285 field-c (receivedBytes o w) (R .bytes so) j)
+        ∙ sym (ap (λ (v : List ℕ). at v j) (R .values so) ∙ tabulate-at 16 (rootValue powersC exponentsC (receivedBytes o w)) j 0 l) ∙ here
 
     itself : allBelow 1 lane ≡ true → bytesRestored o w ≡ some (receivedBytes o w)
     unfolding bytesRestored
@@ -148,13 +144,10 @@ module _ (o : List ℕ) (w : ℕ) (reached : Bool) (changed : ℕ) where
 
 -- what the correction of a word asks for
 module _ (reached : Bool) (lane word : List ℕ) (R : Remains reached lane word) (h : not reached ≡ false) where
-  word-syndromes : (es ls cells t : List ℕ) → t ≡ rootValues es ls cells → cells ≡ lane → es ≡ powersC → ls ≡ exponentsC → t ≡ rootValues powersC exponentsC word
-  word-syndromes es ls cells t e c exp log = e ∙ rw (c, exp, log) (R .values (not-false reached h))
-
-  pub word-errors : (es ls cells t : List ℕ) (e : Errors) → t ≡ rootValues es ls cells → cells ≡ lane → es ≡ powersC → ls ≡ exponentsC →
-      Decoded es ls t 255 (e .places .at) (e .values) (e .places .count) (e .left) → WordErrors word e
-  word-errors es ls cells t e et ec exp log D =
-      let same : t ≡ rootValues powersC exponentsC word = word-syndromes es ls cells t et ec exp log in
+  pub word-errors : (es ls t : List ℕ) (e : Errors) → t ≡ lane → es ≡ powersC → ls ≡ exponentsC → Decoded es ls t 255 (e .places .at) (e .values) (e .places .count) (e .left) →
+      WordErrors word e
+  word-errors es ls t e et exp log D =
+      let same : t ≡ rootValues powersC exponentsC word = et ∙ R .values (not-false reached h) in
       record { bytes = R .bytes (not-false reached h); decoded = rw (same, exp, log) at D }
 
 pub still-reached : (reached : Bool) → not reached ≡ false → reached ≡ true
@@ -180,11 +173,16 @@ lane-values b r k small hk =
     ∙ sym (word-remainder b r k small hk j l) ∙ sym (root-is 8 285 field-c (receivedBytes b (16 * r + k)) (received-below b (16 * r + k) small) j))
 
 -- the next word is as received, so that its remainder is that of the row
-pub word-remains : (b o rest : List ℕ) (r k : ℕ) (reached : Bool) (changed : ℕ) → ((i : ℕ) → at b i < 256) → rest ≡ rowRemainders b (4080 * r) → k < 16 → 4080 * r + 4080 ≤ length b →
-    Restoring b (16 * r + k) o reached changed → Remains reached (laneOf rest k) (receivedBytes o (16 * r + k))
-word-remains b o rest r k reached changed small e hk room S =
+pub row-syndromes : (b rest s : List ℕ) (r : ℕ) → ((i : ℕ) → at b i < 256) → rest ≡ rowRemainders b (4080 * r) → SyndromesTo rest 16 s → RowSyndromes b r s
+row-syndromes b rest s r small e S =
+    let S′ : SyndromesTo (rowRemainders b (4080 * r)) 16 s = rw e at S in
+    record { each = λ k hk. lane-syndromes (rowRemainders b (4080 * r)) s k hk (lane-below b r k small hk) S′ ∙ lane-values b r k small hk }
+
+pub word-remains : (b o s : List ℕ) (r k : ℕ) (reached : Bool) (changed : ℕ) → ((i : ℕ) → at b i < 256) → RowSyndromes b r s → k < 16 → 4080 * r + 4080 ≤ length b →
+    Restoring b (16 * r + k) o reached changed → Remains reached (laneOf s k) (receivedBytes o (16 * r + k))
+word-remains b o s r k reached changed small Y hk room S =
     record {
-      values = λ t. ap (λ (rest : List ℕ). rootValues powersC exponentsC (laneOf rest k)) e ∙ lane-values b r k small hk ∙ ap (rootValues powersC exponentsC) (sym (same t));
+      values = λ t. Y .each k hk ∙ ap (rootValues powersC exponentsC) (sym (same t));
       bytes = λ t. ap (allBelow 256) (same t) ∙ received-below b (16 * r + k) small;
     }
   where

@@ -4,4 +4,5 @@ pub mod Folding
 pub mod Restoring
 pub mod RootColumns
 pub mod Evaluating
+pub mod ColumnSyndromes
 pub mod Locating

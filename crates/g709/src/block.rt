@@ -78,7 +78,7 @@ fn difference(d: u8, x: u8, y: u8) -> u8
 }
 
 // The first n bytes of a are those of b from a place on.
-fn agree(a: &[u8], b: &[u8], from: usize, n: usize) -> bool
+pub(crate) fn agree(a: &[u8], b: &[u8], from: usize, n: usize) -> bool
     requires { ⌜ (n ≤ length (now a)) × (from + n ≤ length (now b)) ⌝ }
     ensures { λ r. ⌜ r ≡ agree (now (a .entry)) (now (b .entry)) from n ⌝ }
 {

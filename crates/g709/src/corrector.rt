@@ -1,15 +1,15 @@
-// Correction of the words of a block, in a copy of it. A word's values at the roots are those of its remainder, which is sixteen bytes; they are the syndromes from which
-// the decoder finds the errors.
+// Correction of the words of a block, in a copy of it. A word's values at the roots are those of its remainder; they are the syndromes from which the decoder finds the
+// errors.
 use crate::division;
 use crate::division::CELLS;
 use crate::division::WORDS;
 use crate::locators;
 use crate::root_columns::VALUES;
+use crate::syndromes;
 use decoding::error_values;
 use decoding::error_values::Errors;
 use decoding::symbols;
 use words::Correction;
-use words::reed_solomon;
 ghost use mathlib.Core.Path.{_≡_};
 ghost use mathlib.Core.Bool.{true};
 ghost use Prim.Native.Nat.{ℕ, _+_, _*_, _≤_, _<_};
@@ -18,7 +18,7 @@ ghost use Rattle.fields.specs.Elements.{powersC, exponentsC};
 ghost use Rattle.words.specs.Answers.{changedOf};
 ghost use Rattle.decoding.specs.Steps.Decoder.{withError};
 ghost use Rattle.g709.specs.Rows.{receivedBytes};
-ghost use Rattle.g709.specs.Steps.Registers.{rowRemainders};
+ghost use Rattle.g709.specs.Steps.ColumnSyndromes.{RowSyndromes};
 ghost use Rattle.g709.specs.Steps.Locating.{LocatorValues};
 ghost use Rattle.g709.specs.Steps.Restoring.{laneOf, ByteValues, valuesAdded, WordErrors, wordCorrected, Counted, Remains, WordDone, Restoring};
 
@@ -101,11 +101,11 @@ fn with_word(p: RowProgress, c: Correction) -> RowProgress
     }
 }
 
-// Corrects word k of row r, whose remainder is word k of `rest`, unless a word before it had no code word near it.
+// Corrects word k of row r, whose syndromes are those of word k in `s`, unless a word before it had no code word near it.
 fn next_word(
     exp: &[u16],
     log: &[u16],
-    rest: &[u8; CELLS],
+    s: &[u8; CELLS],
     r: usize,
     k: usize,
     out: &mut [u8],
@@ -113,7 +113,7 @@ fn next_word(
 ) -> RowProgress
     requires { ⌜ (now exp ≡ powersC) × (now log ≡ exponentsC) ⌝ }
     requires { ⌜ (r < 4) × (k < 16) × (4080 * r + 4080 ≤ length (now out)) × (p .changed ≤ 512) ⌝ }
-    requires { ⌜ Remains (p .reached) (laneOf (now rest) k) (receivedBytes (now out) (16 * r + k)) ⌝ }
+    requires { ⌜ Remains (p .reached) (laneOf (now s) k) (receivedBytes (now out) (16 * r + k)) ⌝ }
     ensures { λ q. ⌜ WordDone (now (out .entry)) (16 * r + k) (p .reached) (p .changed) (now (out .exit)) (q .reached) (q .changed) ⌝ }
     ensures { λ q. ⌜ q .changed ≤ p .changed + 8 ⌝ }
 {
@@ -123,11 +123,10 @@ fn next_word(
             changed: 0,
         };
     }
-    let cells = division::remainder(rest, k);
-    if symbols::all_below(&cells, 1) {
+    let t = division::lane(s, k);
+    if symbols::all_below(&t, 1) {
         return p;
     }
-    let t = reed_solomon::root_values(exp, log, &cells);
     let e = decoding::decode(exp, log, t, BYTES);
     with_word(p, correct_word(e, r, k, out))
 }
@@ -136,7 +135,7 @@ fn next_word(
 fn next_located(
     exp: &[u16],
     log: &[u16],
-    rest: &[u8; CELLS],
+    s: &[u8; CELLS],
     values: &[u8; VALUES],
     r: usize,
     k: usize,
@@ -145,8 +144,8 @@ fn next_located(
 ) -> RowProgress
     requires { ⌜ (now exp ≡ powersC) × (now log ≡ exponentsC) ⌝ }
     requires { ⌜ (r < 4) × (k < 16) × (4080 * r + 4080 ≤ length (now out)) × (p .changed ≤ 512) ⌝ }
-    requires { ⌜ Remains (p .reached) (laneOf (now rest) k) (receivedBytes (now out) (16 * r + k)) ⌝ }
-    requires { ⌜ LocatorValues (now rest) (now values) ⌝ }
+    requires { ⌜ Remains (p .reached) (laneOf (now s) k) (receivedBytes (now out) (16 * r + k)) ⌝ }
+    requires { ⌜ LocatorValues (now s) (now values) ⌝ }
     ensures { λ q. ⌜ WordDone (now (out .entry)) (16 * r + k) (p .reached) (p .changed) (now (out .exit)) (q .reached) (q .changed) ⌝ }
     ensures { λ q. ⌜ q .changed ≤ p .changed + 8 ⌝ }
 {
@@ -156,11 +155,10 @@ fn next_located(
             changed: 0,
         };
     }
-    let cells = division::remainder(rest, k);
-    if symbols::all_below(&cells, 1) {
+    let t = division::lane(s, k);
+    if symbols::all_below(&t, 1) {
         return p;
     }
-    let t = reed_solomon::root_values(exp, log, &cells);
     let places = locators::places(values, k);
     let e = error_values::valued(exp, log, BYTES, t, places);
     with_word(p, correct_word(e, r, k, out))
@@ -171,21 +169,21 @@ fn correct_singly(
     exp: &[u16],
     log: &[u16],
     block: &[u8],
-    rest: &[u8; CELLS],
+    s: &[u8; CELLS],
     r: usize,
     out: &mut [u8],
     before: RowProgress,
 ) -> RowProgress
     requires { ⌜ (now exp ≡ powersC) × (now log ≡ exponentsC) ⌝ }
     requires { ⌜ (r < 4) × (4080 * r + 4080 ≤ length (now block)) ⌝ }
-    requires { ⌜ now rest ≡ rowRemainders (now block) (4080 * r) ⌝ }
+    requires { ⌜ RowSyndromes (now block) r (now s) ⌝ }
     requires { ⌜ Restoring (now block) (16 * r) (now out) (before .reached) (before .changed) ⌝ }
     ensures { λ p. ⌜ Restoring (now (block .entry)) (16 * r + 16) (now (out .exit)) (p .reached) (p .changed) ⌝ }
 {
     let mut p = before;
     let mut k: usize = 0;
     while k < WORDS {
-        p = next_word(exp, log, rest, r, k, out, p);
+        p = next_word(exp, log, s, r, k, out, p);
         k += 1;
     }
     p
@@ -196,23 +194,23 @@ fn correct_located(
     exp: &[u16],
     log: &[u16],
     block: &[u8],
-    rest: &[u8; CELLS],
+    s: &[u8; CELLS],
     r: usize,
     out: &mut [u8],
     before: RowProgress,
 ) -> RowProgress
     requires { ⌜ (now exp ≡ powersC) × (now log ≡ exponentsC) ⌝ }
     requires { ⌜ (r < 4) × (4080 * r + 4080 ≤ length (now block)) ⌝ }
-    requires { ⌜ now rest ≡ rowRemainders (now block) (4080 * r) ⌝ }
+    requires { ⌜ RowSyndromes (now block) r (now s) ⌝ }
     requires { ⌜ Restoring (now block) (16 * r) (now out) (before .reached) (before .changed) ⌝ }
     ensures { λ p. ⌜ Restoring (now (block .entry)) (16 * r + 16) (now (out .exit)) (p .reached) (p .changed) ⌝ }
 {
     let mut values = locators::no_values();
-    locators::evaluate(exp, log, rest, &mut values);
+    locators::evaluate(exp, log, s, &mut values);
     let mut p = before;
     let mut k: usize = 0;
     while k < WORDS {
-        p = next_located(exp, log, rest, &values, r, k, out, p);
+        p = next_located(exp, log, s, &values, r, k, out, p);
         k += 1;
     }
     p
@@ -234,10 +232,12 @@ fn correct_row(
 {
     let mut rest = division::empty();
     division::remainders(block, ROW * r, &mut rest);
-    if locators::crowded(&rest) < HEAVY {
-        return correct_singly(exp, log, block, &rest, r, out, before);
+    let mut s = division::empty();
+    syndromes::store(&mut s, &rest);
+    if locators::crowded(&s) < HEAVY {
+        return correct_singly(exp, log, block, &s, r, out, before);
     }
-    correct_located(exp, log, block, &rest, r, out, before)
+    correct_located(exp, log, block, &s, r, out, before)
 }
 
 // Corrects the words of n rows in the copy of the block.

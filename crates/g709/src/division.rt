@@ -22,7 +22,7 @@ pub(crate) fn plus(x: u8, y: u8) -> u8
     x ^ y
 }
 
-pub(crate) fn double(x: u8) -> u8
+fn double(x: u8) -> u8
     ensures { λ r. ⌜ r ≡ doubled 8 285 x ⌝ }
 {
     (x << 1) ^ (29 * (x >> 7))
@@ -257,8 +257,8 @@ pub(crate) fn narrow(x: u16) -> u8
     x as u8
 }
 
-// The remainder of word k of a row.
-pub(crate) fn remainder(rest: &[u8; CELLS], k: usize) -> [u16; WORDS]
+// What sixteen columns hold of word k.
+pub(crate) fn lane(rest: &[u8; CELLS], k: usize) -> [u16; WORDS]
     requires { ⌜ k < 16 ⌝ }
     ensures { λ r. ⌜ r ≡ laneOf (now (rest .entry)) k ⌝ }
 {

@@ -4,7 +4,8 @@
 //     encode   the sixteen words of a row are divided by the generator at once, a column at a step; what is left is the parity (module division)
 //     check    the parity of a row's data is compared with the parity that stands there
 //     extract  the data of the rows, if the block passes that check
-//     correct  a word's remainder gives its syndromes, from which the decoder finds the errors (module corrector); one word with no code word within eight bytes refuses the block
+//     correct  a word's remainder gives its syndromes (module syndromes), from which the decoder finds the errors (module corrector; in a row with many of them their places
+//              are found by columns: modules locators and root_columns); one word with no code word within eight bytes refuses the block
 //
 // Every input is answered: an entry returns 0, or the number of the refusal; a refusal leaves the output buffer as it was. Frames: 1 or 2 (length), 3 (size of the output
 // buffer), then 4 (no frame) or 5 (uncorrectable). Single rows: 8 (length), 3, then 4 or 5.
@@ -18,6 +19,7 @@ mod corrector;
 mod division;
 mod locators;
 mod root_columns;
+mod syndromes;
 
 // Writes the frame of the payload and returns 0; 1 or 3.
 pub fn encode(payload: &[u8], out: &mut [u8]) -> u8

@@ -1,4 +1,4 @@
-// The locator polynomials of the sixteen words of a row, side by side, so that the places of their roots are found by columns. This pays where many words have several
+// The locator polynomials of the sixteen words of a row, side by side, so that their roots are found by columns. This pays where many words have several
 // wrong bytes.
 use crate::division;
 use crate::division::CELLS;
@@ -11,7 +11,6 @@ use decoding::RADIUS;
 use decoding::annihilator;
 use decoding::root_search;
 use decoding::root_search::Places;
-use words::reed_solomon;
 ghost use mathlib.Core.Path.{_≡_};
 ghost use mathlib.Core.Bool.{cond};
 ghost use Prim.Native.Nat.{ℕ, _+_, _*_, _≤_, _<_};
@@ -39,26 +38,25 @@ fn set_polynomial(terms: &mut [u8; TERMS], k: usize, polynomial: [u16; COEFFICIE
 }
 
 // Stores the locator polynomial of word k.
-fn set_locator(exp: &[u16], log: &[u16], rest: &[u8; CELLS], k: usize, terms: &mut [u8; TERMS])
+fn set_locator(exp: &[u16], log: &[u16], s: &[u8; CELLS], k: usize, terms: &mut [u8; TERMS])
     requires { ⌜ (now exp ≡ powersC) × (now log ≡ exponentsC) ⌝ }
     requires { ⌜ (k < 16) × (length (now terms) ≡ 144) ⌝ }
-    ensures { λ _. ⌜ LocatorSet (now (rest .entry)) k (now (terms .entry)) (now (terms .exit)) ⌝ }
+    ensures { λ _. ⌜ LocatorSet (now (s .entry)) k (now (terms .entry)) (now (terms .exit)) ⌝ }
 {
-    let cells = division::remainder(rest, k);
-    let t = reed_solomon::root_values(exp, log, &cells);
+    let t = division::lane(s, k);
     let polynomial = annihilator::annihilator(exp, log, t);
     set_polynomial(terms, k, polynomial);
 }
 
 // Stores the locator polynomials of the sixteen words.
-fn set_locators(exp: &[u16], log: &[u16], rest: &[u8; CELLS], terms: &mut [u8; TERMS])
+fn set_locators(exp: &[u16], log: &[u16], s: &[u8; CELLS], terms: &mut [u8; TERMS])
     requires { ⌜ (now exp ≡ powersC) × (now log ≡ exponentsC) ⌝ }
     requires { ⌜ length (now terms) ≡ 144 ⌝ }
-    ensures { λ _. ⌜ LocatorsTo (now (rest .entry)) 16 (now (terms .exit)) × (length (now (terms .exit)) ≡ 144) ⌝ }
+    ensures { λ _. ⌜ LocatorsTo (now (s .entry)) 16 (now (terms .exit)) × (length (now (terms .exit)) ≡ 144) ⌝ }
 {
     let mut k: usize = 0;
     while k < WORDS {
-        set_locator(exp, log, rest, k, terms);
+        set_locator(exp, log, s, k, terms);
         k += 1;
     }
 }
@@ -77,13 +75,13 @@ pub(crate) fn no_values() -> [u8; VALUES]
 }
 
 // Stores the values of the locator polynomials at all powers of a.
-pub(crate) fn evaluate(exp: &[u16], log: &[u16], rest: &[u8; CELLS], values: &mut [u8; VALUES])
+pub(crate) fn evaluate(exp: &[u16], log: &[u16], s: &[u8; CELLS], values: &mut [u8; VALUES])
     requires { ⌜ (now exp ≡ powersC) × (now log ≡ exponentsC) ⌝ }
     requires { ⌜ length (now values) ≡ 4080 ⌝ }
-    ensures { λ _. ⌜ LocatorValues (now (rest .entry)) (now (values .exit)) × (length (now (values .exit)) ≡ 4080) ⌝ }
+    ensures { λ _. ⌜ LocatorValues (now (s .entry)) (now (values .exit)) × (length (now (values .exit)) ≡ 4080) ⌝ }
 {
     let mut terms = no_terms();
-    set_locators(exp, log, rest, &mut terms);
+    set_locators(exp, log, s, &mut terms);
     root_columns::evaluate(&mut terms, values);
 }
 
@@ -115,42 +113,6 @@ pub(crate) fn places(values: &[u8; VALUES], k: usize) -> Places
     p
 }
 
-// The sums of sixteen columns, and the same with each column times a, and times a^2, before the next is added: three values at roots of each word.
-const SUMS: usize = 48;
-
-fn no_sums() -> [u8; SUMS]
-    ensures { λ r. ⌜ length r ≡ 48 ⌝ }
-{
-    [0; SUMS]
-}
-
-// Adds column i.
-fn add_column(rest: &[u8; CELLS], i: usize, sums: &mut [u8; SUMS])
-    requires { ⌜ (i < 16) × (length (now sums) ≡ 48) ⌝ }
-    ensures { λ _. ⌜ length (now (sums .exit)) ≡ 48 ⌝ }
-{
-    let n = WORDS * i;
-    let mut j: usize = 0;
-    while j < WORDS {
-        let x = rest[n + j];
-        sums[j] = division::plus(sums[j], x);
-        sums[16 + j] = division::plus(division::double(sums[16 + j]), x);
-        sums[32 + j] = division::plus(division::double(division::double(sums[32 + j])), x);
-        j += 1;
-    }
-}
-
-fn add_columns(rest: &[u8; CELLS], sums: &mut [u8; SUMS])
-    requires { ⌜ length (now sums) ≡ 48 ⌝ }
-    ensures { λ _. ⌜ length (now (sums .exit)) ≡ 48 ⌝ }
-{
-    let mut i: usize = 0;
-    while i < WORDS {
-        add_column(rest, i, sums);
-        i += 1;
-    }
-}
-
 // 1 for three values that no single wrong byte has: x, y and z with y y other than x z.
 fn several(x: u8, y: u8, z: u8) -> usize
     ensures { λ r. ⌜ r ≤ 1 ⌝ }
@@ -164,14 +126,12 @@ fn several(x: u8, y: u8, z: u8) -> usize
     1
 }
 
-// How many words of a row have more than one wrong byte, by a look that is wrong for few: the answer does not depend on it.
-pub(crate) fn crowded(rest: &[u8; CELLS]) -> usize {
-    let mut sums = no_sums();
-    add_columns(rest, &mut sums);
+// How many words of a row have more than one wrong byte, by a look at their syndromes that is wrong for few: the answer does not depend on it.
+pub(crate) fn crowded(s: &[u8; CELLS]) -> usize {
     let mut n: usize = 0;
     let mut j: usize = 0;
     while j < WORDS {
-        n += several(sums[j], sums[16 + j], sums[32 + j]);
+        n += several(s[j], s[16 + j], s[32 + j]);
         j += 1;
     }
     n

@@ -8,7 +8,6 @@ use lib.ListN.{length}
 use Rattle.fields.specs.Lists.{tabulate}
 use Rattle.fields.specs.Elements.{powersC, exponentsC}
 use Rattle.fields.specs.Places.{at}
-use Rattle.decoding.specs.Steps.ByTables.{rootValues}
 use Rattle.decoding.specs.Steps.Annihilator.{Annihilates}
 use Rattle.decoding.specs.Steps.RootSearch.{Roots}
 use Rattle.g709.specs.Steps.Restoring.{laneOf}
@@ -18,24 +17,24 @@ use Rattle.g709.specs.Steps.RootColumns.{polynomialOf, columnValues}
 unfoldable pub polynomialStored : List ℕ → ℕ → List ℕ → List ℕ
 polynomialStored terms k v = tabulate (length terms) (λ i. cond (eqb (i % 16) k) (at v (i / 16)) (at terms i))
 
--- polynomial k annihilates the syndromes of word k, whose remainder is in rest
+-- polynomial k annihilates the syndromes of word k
 abbrev pub LocatorAt : List ℕ → List ℕ → ℕ → Type 0
-LocatorAt rest terms k = Annihilates powersC exponentsC (rootValues powersC exponentsC (laneOf rest k)) (polynomialOf terms k)
+LocatorAt s terms k = Annihilates powersC exponentsC (laneOf s k) (polynomialOf terms k)
 
 -- the first n polynomials do
-pub record LocatorsTo (rest : List ℕ) (n : ℕ) (terms : List ℕ) : Type 0 where
-  pub each : (k : ℕ) → k < n → LocatorAt rest terms k
+pub record LocatorsTo (s : List ℕ) (n : ℕ) (terms : List ℕ) : Type 0 where
+  pub each : (k : ℕ) → k < n → LocatorAt s terms k
 
 -- polynomial k is set, and the others are as they were
-pub record LocatorSet (rest : List ℕ) (k : ℕ) (before terms : List ℕ) : Type 0 where
+pub record LocatorSet (s : List ℕ) (k : ℕ) (before terms : List ℕ) : Type 0 where
   pub long : length terms ≡ 144
-  pub here : LocatorAt rest terms k
+  pub here : LocatorAt s terms k
   pub others : (j : ℕ) → j < 16 → (j ≡ k → ⊥) → polynomialOf terms j ≡ polynomialOf before j
 
 -- the values, at all powers of a, of polynomials that annihilate the words' syndromes
-pub record LocatorValues (rest values : List ℕ) : Type 0 where
+pub record LocatorValues (s values : List ℕ) : Type 0 where
   pub terms : List ℕ
-  pub locators : LocatorsTo rest 16 terms
+  pub locators : LocatorsTo s 16 terms
   pub values-are : values ≡ columnValues terms
 
 -- the places, among the first i, where polynomial k has a root, whatever the polynomials are whose values these are

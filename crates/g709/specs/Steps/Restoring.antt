@@ -53,9 +53,9 @@ pub record WordErrors (word : List ℕ) (e : Errors) : Type 0 where
   pub bytes : allBelow 256 word ≡ true
   pub decoded : Decoded powersC exponentsC (rootValues powersC exponentsC word) 255 (e .places .at) (e .values) (e .places .count) (e .left)
 
--- what next_word rests on, as long as all words before had a code word near them: a word's values at the roots are those of its remainder
-pub record Remains (reached : Bool) (lane word : List ℕ) : Type 0 where
-  pub values : reached ≡ true → rootValues powersC exponentsC lane ≡ rootValues powersC exponentsC word
+-- what next_word rests on, as long as all words before had a code word near them: t are the word's syndromes
+pub record Remains (reached : Bool) (t word : List ℕ) : Type 0 where
+  pub values : reached ≡ true → t ≡ rootValues powersC exponentsC word
   pub bytes : reached ≡ true → allBelow 256 word ≡ true
 
 -- the answer for a word joins the progress: still reached only where it was corrected, and its changes counted

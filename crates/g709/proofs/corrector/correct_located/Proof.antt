@@ -3,7 +3,7 @@ use mathlib.Core.Path.{_≡_}
 use Prim.Native.Nat.{_+_, _-_, _*_, _≤_}
 use native.Mathlib.Omega.{arith}
 use lib.ListN.{length}
-use Rattle.g709.specs.Steps.Registers.{rowRemainders}
+use Rattle.g709.specs.Steps.ColumnSyndromes.{RowSyndromes}
 use Rattle.g709.specs.Steps.Restoring.{Restoring}
 use Rattle.g709.specs.Steps.Locating.{LocatorValues}
 use Rattle.g709.proofs.WordByWord.{word-remains, restoring-room, row-start, row-step, row-end}
@@ -12,10 +12,10 @@ use Rattle.g709.proofs.corrector.correct_located.Statement.{statement}
 use Rattle.g709.proofs.corrector.correct_located.Tie as tie
 
 abbrev Inv-loop : tie.InvT-loop
-Inv-loop exp log block rest r out₀ values p₀ k₀ out p k = (k ≤ 16) × (rest ≡ rowRemainders block (4080 * r)) × (length out ≡ length out₀) × Restoring block (16 * r + k) out (p .reached) (p .changed) × LocatorValues rest values
+Inv-loop exp log block s r out₀ values p₀ k₀ out p k = (k ≤ 16) × RowSyndromes block r s × (length out ≡ length out₀) × Restoring block (16 * r + k) out (p .reached) (p .changed) × LocatorValues s values
 
 abbrev μ-loop : tie.MeasureT-loop
-μ-loop exp log block rest r out₀ values p₀ k₀ out p k = 16 - k
+μ-loop exp log block s r out₀ values p₀ k₀ out p k = 16 - k
 
 no-values-requires : tie.Need-no-values-requires Inv-loop μ-loop
 no-values-requires c κs = search needs

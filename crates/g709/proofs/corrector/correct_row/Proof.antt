@@ -1,4 +1,6 @@
 -- `g709::corrector::correct_row` meets its contract. Assumes nothing.
+use native.Mathlib.Omega.{arith}
+use Rattle.g709.proofs.WordByWord.{row-syndromes}
 use borrow.Author.Needs.{needs}
 use Rattle.g709.proofs.corrector.correct_row.Statement.{statement}
 use Rattle.g709.proofs.corrector.correct_row.Tie as tie
@@ -12,11 +14,17 @@ mul-remainders c = search needs
 remainders-requires : tie.Need-remainders-requires
 remainders-requires c κs = search needs
 
+empty-requires-2 : tie.Need-empty-requires-2
+empty-requires-2 c κs = search needs
+
+store-requires : tie.Need-store-requires
+store-requires c κs = search needs
+
 crowded-requires : tie.Need-crowded-requires
 crowded-requires c κs = search needs
 
 correct-singly-requires : tie.Need-correct-singly-requires
-correct-singly-requires c κs = (c .before .before .before .before .before .before .before .before .before .before .before .before .pre .0, (c .before .before .before .before .before .before .before .before .before .before .before .before .pre .1 .0, (c .before .before .before .before .before .remainders .ensures .0, c .before .before .before .before .before .before .before .before .before .before .before .before .pre .1 .1)))
+correct-singly-requires c κs = (c .before .before .before .before .before .before .before .before .before .before .before .before .before .before .before .before .pre .0, (c .before .before .before .before .before .before .before .before .before .before .before .before .before .before .before .before .pre .1 .0, (row-syndromes _ _ _ _ (λ i. omega (arith, c .before .before .before .before .before .before .before .before .before .before .before .before .before .shared-slice-known3 .given i)) (c .before .before .before .before .before .before .before .before .before .remainders .ensures .0) (c .before .before .before .before .before .store .ensures .0), c .before .before .before .before .before .before .before .before .before .before .before .before .before .before .before .before .pre .1 .1)))
 
 same-length : tie.Need-same-length
 same-length c = search needs
@@ -25,7 +33,7 @@ returns : tie.Need-returns
 returns c = search needs
 
 correct-located-requires : tie.Need-correct-located-requires
-correct-located-requires c κs = (c .before .before .before .before .before .before .before .before .before .before .before .before .pre .0, (c .before .before .before .before .before .before .before .before .before .before .before .before .pre .1 .0, (c .before .before .before .before .before .remainders .ensures .0, c .before .before .before .before .before .before .before .before .before .before .before .before .pre .1 .1)))
+correct-located-requires c κs = (c .before .before .before .before .before .before .before .before .before .before .before .before .before .before .before .before .pre .0, (c .before .before .before .before .before .before .before .before .before .before .before .before .before .before .before .before .pre .1 .0, (row-syndromes _ _ _ _ (λ i. omega (arith, c .before .before .before .before .before .before .before .before .before .before .before .before .before .shared-slice-known3 .given i)) (c .before .before .before .before .before .before .before .before .before .remainders .ensures .0) (c .before .before .before .before .before .store .ensures .0), c .before .before .before .before .before .before .before .before .before .before .before .before .before .before .before .before .pre .1 .1)))
 
 same-length-2 : tie.Need-same-length-2
 same-length-2 c = search needs
@@ -40,6 +48,8 @@ correct-row-spec =
     empty-requires
     mul-remainders
     remainders-requires
+    empty-requires-2
+    store-requires
     crowded-requires
     correct-singly-requires
     same-length

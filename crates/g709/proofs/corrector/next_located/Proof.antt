@@ -9,8 +9,8 @@ use Rattle.g709.proofs.corrector.next_located.Tie as tie
 returns : tie.Need-returns
 returns c = (search (needs, word-skipped), search needs)
 
-remainder-requires : tie.Need-remainder-requires
-remainder-requires c κs = search needs
+lane-requires : tie.Need-lane-requires
+lane-requires c κs = search needs
 
 slice-aggregate-all-below : tie.Need-slice-aggregate-all-below
 slice-aggregate-all-below c = search needs
@@ -21,23 +21,17 @@ all-below-requires c κs = search needs
 returns-2 : tie.Need-returns-2
 returns-2 c = (search (needs, clean-word), search needs)
 
-slice-aggregate-root-values : tie.Need-slice-aggregate-root-values
-slice-aggregate-root-values c = search needs
-
-root-values-requires : tie.Need-root-values-requires
-root-values-requires c κs = search needs
-
 places-requires : tie.Need-places-requires
 places-requires c κs = search needs
 
 valued-requires : tie.Need-valued-requires
-valued-requires c κs = (search (needs, tables-given), ((search (needs, word-fits), search needs), located _ _ _ _ _ _ _ _ _ (c .before .before .before .before .before .before .before .before .before .before .before .before .pre .0 .0) (c .before .before .before .before .before .before .before .before .before .before .before .before .pre .0 .1) (c .before .before .before .before .before .before .before .before .before .before .before .before .pre .1 .0 .1) (c .before .before .before .before .before .before .remainder .ensures) (c .before .root-values .ensures) (c .before .before .before .before .before .before .before .before .before .before .before .before .pre .1 .1 .1) (c .places .ensures)))
+valued-requires c κs = (search (needs, tables-given), ((search (needs, word-fits), search needs), located _ _ _ _ _ _ _ _ (c .before .before .before .before .before .before .before .before .before .before .pre .0 .0) (c .before .before .before .before .before .before .before .before .before .before .pre .0 .1) (c .before .before .before .before .before .before .before .before .before .before .pre .1 .0 .1) (c .before .before .before .before .lane .ensures) (c .before .before .before .before .before .before .before .before .before .before .pre .1 .1 .1) (c .places .ensures)))
 
 correct-word-requires : tie.Need-correct-word-requires
-correct-word-requires c κs = ((c .before .before .before .before .before .before .before .before .before .before .before .before .before .before .pre .1 .0 .0, c .before .before .before .before .before .before .before .before .before .before .before .before .before .before .pre .1 .0 .1, c .before .before .before .before .before .before .before .before .before .before .before .before .before .before .pre .1 .0 .2), word-errors _ _ _ (c .before .before .before .before .before .before .before .before .before .before .before .before .before .before .pre .1 .1 .0) (c .before .before .before .before .before .before .before .before .before .if1 .left) _ _ _ _ _ (c .before .before .before .root-values .ensures) (c .before .before .before .before .before .before .before .before .remainder .ensures) (c .before .before .before .before .before .before .before .before .before .before .before .before .before .before .pre .0 .0) (c .before .before .before .before .before .before .before .before .before .before .before .before .before .before .pre .0 .1) (c .before .valued .ensures))
+correct-word-requires c κs = ((c .before .before .before .before .before .before .before .before .before .before .before .before .pre .1 .0 .0, c .before .before .before .before .before .before .before .before .before .before .before .before .pre .1 .0 .1, c .before .before .before .before .before .before .before .before .before .before .before .before .pre .1 .0 .2), word-errors _ _ _ (c .before .before .before .before .before .before .before .before .before .before .before .before .pre .1 .1 .0) (c .before .before .before .before .before .before .before .if1 .left) _ _ _ _ (c .before .before .before .before .before .before .lane .ensures) (c .before .before .before .before .before .before .before .before .before .before .before .before .pre .0 .0) (c .before .before .before .before .before .before .before .before .before .before .before .before .pre .0 .1) (c .before .valued .ensures))
 
 with-word-requires : tie.Need-with-word-requires
-with-word-requires c κs = (search (needs, still-reached), c .before .before .before .before .before .before .before .before .before .before .before .before .before .before .before .before .before .pre .1 .0 .3, search needs)
+with-word-requires c κs = (search (needs, still-reached), c .before .before .before .before .before .before .before .before .before .before .before .before .before .before .before .pre .1 .0 .3, search needs)
 
 same-length : tie.Need-same-length
 same-length c = search needs
@@ -50,12 +44,10 @@ next-located-spec =
     tie.close
     (tie.spec
     returns
-    remainder-requires
+    lane-requires
     slice-aggregate-all-below
     all-below-requires
     returns-2
-    slice-aggregate-root-values
-    root-values-requires
     places-requires
     valued-requires
     correct-word-requires

@@ -8,8 +8,8 @@ use Rattle.g709.proofs.corrector.next_word.Tie as tie
 returns : tie.Need-returns
 returns c = (search (needs, word-skipped), search needs)
 
-remainder-requires : tie.Need-remainder-requires
-remainder-requires c κs = search needs
+lane-requires : tie.Need-lane-requires
+lane-requires c κs = search needs
 
 slice-aggregate-all-below : tie.Need-slice-aggregate-all-below
 slice-aggregate-all-below c = search needs
@@ -20,12 +20,6 @@ all-below-requires c κs = search needs
 returns-2 : tie.Need-returns-2
 returns-2 c = (search (needs, clean-word), search needs)
 
-slice-aggregate-root-values : tie.Need-slice-aggregate-root-values
-slice-aggregate-root-values c = search needs
-
-root-values-requires : tie.Need-root-values-requires
-root-values-requires c κs = search needs
-
 decode-requires : tie.Need-decode-requires
 decode-requires c κs = (search (needs, tables-given), (search (needs, word-fits), search needs))
 
@@ -33,7 +27,7 @@ correct-word-requires : tie.Need-correct-word-requires
 correct-word-requires c κs = (search needs, search (needs, word-errors))
 
 with-word-requires : tie.Need-with-word-requires
-with-word-requires c κs = (search (needs, still-reached), c .before .before .before .before .before .before .before .before .before .before .before .before .before .before .before .before .pre .1 .0 .3, search needs)
+with-word-requires c κs = (search (needs, still-reached), search needs, search needs)
 
 same-length : tie.Need-same-length
 same-length c = search needs
@@ -46,12 +40,10 @@ next-word-spec =
     tie.close
     (tie.spec
     returns
-    remainder-requires
+    lane-requires
     slice-aggregate-all-below
     all-below-requires
     returns-2
-    slice-aggregate-root-values
-    root-values-requires
     decode-requires
     correct-word-requires
     with-word-requires

@@ -5,34 +5,28 @@ use Rattle.g709.proofs.locators.crowded.Statement.{statement}
 use Rattle.g709.proofs.locators.crowded.Tie as tie
 
 abbrev Inv-loop : tie.InvT-loop
-Inv-loop rest sums n₀ j₀ n j = (j ≤ 16) × (n ≤ j)
+Inv-loop s n₀ j₀ n j = (j ≤ 16) × (n ≤ j)
 
 abbrev μ-loop : tie.MeasureT-loop
-μ-loop rest sums n₀ j₀ n j = 16 - j
-
-no-sums-requires : tie.Need-no-sums-requires Inv-loop μ-loop
-no-sums-requires c κs = search needs
-
-add-columns-requires : tie.Need-add-columns-requires Inv-loop μ-loop
-add-columns-requires c κs = search needs
+μ-loop s n₀ j₀ n j = 16 - j
 
 loop-holds : tie.Need-loop-holds Inv-loop μ-loop
 loop-holds c = search needs
 
-array-read-several : tie.Need-array-read-several Inv-loop μ-loop
-array-read-several c = search needs
+element-copy-out-several : tie.Need-element-copy-out-several Inv-loop μ-loop
+element-copy-out-several c = search needs
 
 add-several : tie.Need-add-several Inv-loop μ-loop
 add-several c = search needs
 
-array-read-several-2 : tie.Need-array-read-several-2 Inv-loop μ-loop
-array-read-several-2 c = search needs
+element-copy-out-several-2 : tie.Need-element-copy-out-several-2 Inv-loop μ-loop
+element-copy-out-several-2 c = search needs
 
 add-several-2 : tie.Need-add-several-2 Inv-loop μ-loop
 add-several-2 c = search needs
 
-array-read-several-3 : tie.Need-array-read-several-3 Inv-loop μ-loop
-array-read-several-3 c = search needs
+element-copy-out-several-3 : tie.Need-element-copy-out-several-3 Inv-loop μ-loop
+element-copy-out-several-3 c = search needs
 
 several-requires : tie.Need-several-requires Inv-loop μ-loop
 several-requires c κs = search needs
@@ -58,14 +52,12 @@ crowded-spec =
     (tie.spec
     Inv-loop
     μ-loop
-    no-sums-requires
-    add-columns-requires
     loop-holds
-    array-read-several
+    element-copy-out-several
     add-several
-    array-read-several-2
+    element-copy-out-several-2
     add-several-2
-    array-read-several-3
+    element-copy-out-several-3
     several-requires
     add-n
     add-j

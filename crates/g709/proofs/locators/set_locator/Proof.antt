@@ -5,31 +5,23 @@ use borrow.Author.Needs.{needs}
 use Rattle.g709.proofs.locators.set_locator.Statement.{statement}
 use Rattle.g709.proofs.locators.set_locator.Tie as tie
 
-remainder-requires : tie.Need-remainder-requires
-remainder-requires c κs = search needs
-
-slice-aggregate-root-values : tie.Need-slice-aggregate-root-values
-slice-aggregate-root-values c = search needs
-
-root-values-requires : tie.Need-root-values-requires
-root-values-requires c κs = search needs
+lane-requires : tie.Need-lane-requires
+lane-requires c κs = search needs
 
 annihilator-requires : tie.Need-annihilator-requires
 annihilator-requires c κs = search (needs, tables-given)
 
 set-polynomial-requires : tie.Need-set-polynomial-requires
-set-polynomial-requires c κs = (search needs, byte-coefficients _ _ _ _ (c .before .before .before .before .before .before .before .pre .0 .1) (c .before .annihilator .ensures))
+set-polynomial-requires c κs = (search needs, byte-coefficients _ _ _ _ (c .before .before .before .before .before .pre .0 .1) (c .before .annihilator .ensures))
 
 returns : tie.Need-returns
-returns c = locator-set _ _ _ _ _ _ _ _ _ (c .before .before .before .before .before .before .before .before .pre .0 .0) (c .before .before .before .before .before .before .before .before .pre .0 .1) (c .before .before .before .before .before .before .before .before .pre .1 .0) (c .before .before .before .before .before .before .before .before .pre .1 .1) (c .before .before .before .before .before .remainder .ensures) (c .before .before .before .root-values .ensures) (c .before .before .annihilator .ensures) (c .set-polynomial .ensures .0) (c .set-polynomial .ensures .1) (search needs)
+returns c = locator-set _ _ _ _ _ _ _ _ (c .before .before .before .before .before .before .pre .0 .0) (c .before .before .before .before .before .before .pre .0 .1) (c .before .before .before .before .before .before .pre .1 .0) (c .before .before .before .before .before .before .pre .1 .1) (c .before .before .before .lane .ensures) (c .before .before .annihilator .ensures) (c .set-polynomial .ensures .0) (c .set-polynomial .ensures .1) (search needs)
 
 pub set-locator-spec : {M : Type 1} → statement M
 set-locator-spec =
     tie.close
     (tie.spec
-    remainder-requires
-    slice-aggregate-root-values
-    root-values-requires
+    lane-requires
     annihilator-requires
     set-polynomial-requires
     returns)

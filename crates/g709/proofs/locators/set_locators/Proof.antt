@@ -9,10 +9,10 @@ use Rattle.g709.proofs.locators.set_locators.Statement.{statement}
 use Rattle.g709.proofs.locators.set_locators.Tie as tie
 
 abbrev Inv-loop : tie.InvT-loop
-Inv-loop exp log rest terms₀ k₀ terms k = (k ≤ 16) × (length terms ≡ 144) × LocatorsTo rest k terms
+Inv-loop exp log s terms₀ k₀ terms k = (k ≤ 16) × (length terms ≡ 144) × LocatorsTo s k terms
 
 abbrev μ-loop : tie.MeasureT-loop
-μ-loop exp log rest terms₀ k₀ terms k = 16 - k
+μ-loop exp log s terms₀ k₀ terms k = 16 - k
 
 loop-holds : tie.Need-loop-holds Inv-loop μ-loop
 loop-holds c = search (needs, locators-start)

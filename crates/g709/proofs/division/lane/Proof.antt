@@ -1,11 +1,11 @@
--- `g709::division::remainder` meets its contract. Assumes nothing.
+-- `g709::division::lane` meets its contract. Assumes nothing.
 use Prim.Native.Nat.{_+_, _-_, _*_}
 use Rattle.fields.specs.Places.{at}
 use Rattle.fields.proofs.Places.Filling.{Filled, filled-start, filled-next}
 use Rattle.g709.proofs.Correcting.{lane-end}
 use borrow.Author.Needs.{needs}
-use Rattle.g709.proofs.division.remainder.Statement.{statement}
-use Rattle.g709.proofs.division.remainder.Tie as tie
+use Rattle.g709.proofs.division.lane.Statement.{statement}
+use Rattle.g709.proofs.division.lane.Tie as tie
 
 abbrev Inv-loop : tie.InvT-loop
 Inv-loop rest k cells₀ i₀ cells i = Filled 16 (λ j. at rest (16 * j + k)) i cells
@@ -46,8 +46,8 @@ loop-again c = search (needs, filled-next)
 returns : tie.Need-returns Inv-loop μ-loop
 returns c = search (needs, lane-end)
 
-pub remainder-spec : {M : Type 1} → statement M
-remainder-spec =
+pub lane-spec : {M : Type 1} → statement M
+lane-spec =
     tie.close
     (tie.spec
     Inv-loop

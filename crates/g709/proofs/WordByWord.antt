@@ -308,6 +308,16 @@ at-word : (b o : List ℕ) (w v : ℕ) (reached : Bool) (changed : ℕ) → w �
 at-word b o w v reached changed e S = rw e at S
 
 module _ (b o : List ℕ) (r : ℕ) (reached : Bool) (changed : ℕ) where
+  -- a word before the row had none
+  pub row-skipped : not reached ≡ true → Restoring b (16 * r) o reached changed → Restoring b (16 * r + 16) o reached changed
+  row-skipped n S =
+      record {
+        room = S .room;
+        few = omega (arith, S .few);
+        so-far = λ t. absurd (one-not-other t (not-true reached n));
+        lost = λ f. let l = S .lost f in (l .0, omega (arith, l .1), l .2);
+      }
+
   pub row-start : Restoring b (16 * r) o reached changed → Restoring b (16 * r + 0) o reached changed
   row-start = at-word b o (16 * r) (16 * r + 0) reached changed (omega arith)
 

@@ -216,7 +216,7 @@ fn correct_located(
     p
 }
 
-// Corrects the words of row r in the copy of the block.
+// Corrects the words of row r in the copy of the block, unless a word before them had no code word near it.
 fn correct_row(
     exp: &[u16],
     log: &[u16],
@@ -230,6 +230,9 @@ fn correct_row(
     requires { ⌜ Restoring (now block) (16 * r) (now out) (before .reached) (before .changed) ⌝ }
     ensures { λ p. ⌜ Restoring (now (block .entry)) (16 * r + 16) (now (out .exit)) (p .reached) (p .changed) ⌝ }
 {
+    if !before.reached {
+        return before;
+    }
     let mut rest = division::empty();
     division::remainders(block, ROW * r, &mut rest);
     let mut s = division::empty();

@@ -10,7 +10,7 @@ ghost use lib.ListN.{length};
 ghost use Rattle.fields.specs.Places.{at, every};
 ghost use Rattle.g709.specs.Rows.{blockOf, payloadOfRows, isWritten};
 ghost use Rattle.g709.specs.Answers.{blockEncoded, blockChecked, blockExtracted, blockCorrected};
-ghost use Rattle.g709.specs.Steps.Registers.{over, rowWritten, rowAgrees, agree};
+ghost use Rattle.g709.specs.Steps.Registers.{over, rowWritten, rowAgrees};
 
 // Bytes of a row, of its data and of its parity.
 const ROW: usize = 4080;
@@ -70,27 +70,6 @@ pub(crate) fn encode(payload: &[u8], n: usize, long: u8, out: &mut [u8]) -> u8
     0
 }
 
-// d where x and y are equal, else 1.
-fn difference(d: u8, x: u8, y: u8) -> u8
-    ensures { λ r. ⌜ eqb r 0 ≡ eqb d 0 && eqb x y ⌝ }
-{
-    if x == y { d } else { 1 }
-}
-
-// The first n bytes of a are those of b from a place on.
-pub(crate) fn agree(a: &[u8], b: &[u8], from: usize, n: usize) -> bool
-    requires { ⌜ (n ≤ length (now a)) × (from + n ≤ length (now b)) ⌝ }
-    ensures { λ r. ⌜ r ≡ agree (now (a .entry)) (now (b .entry)) from n ⌝ }
-{
-    let mut d: u8 = 0;
-    let mut i: usize = 0;
-    while i < n {
-        d = difference(d, a[i], b[from + i]);
-        i += 1;
-    }
-    d == 0
-}
-
 // Row r ends with the parity of its data.
 fn row_agrees(block: &[u8], r: usize) -> bool
     requires { ⌜ (r < 4) × (4080 * r + 4080 ≤ length (now block)) ⌝ }
@@ -98,7 +77,7 @@ fn row_agrees(block: &[u8], r: usize) -> bool
 {
     let mut registers = division::empty();
     division::divide(block, ROW * r, &mut registers);
-    agree(&registers, block, ROW * r + DATA, PARITY)
+    division::agree(&registers, block, ROW * r + DATA, PARITY)
 }
 
 fn both(x: bool, y: bool) -> bool

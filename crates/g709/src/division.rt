@@ -1,12 +1,14 @@
 // Division of the sixteen words of a row by the generator, a column of sixteen bytes at a step. A step is the same for all words, so that it becomes
 // operations on vectors of sixteen bytes; the generator's coefficients are written out, so that a product is some of the eight doublings of a byte.
 ghost use mathlib.Core.Path.{_≡_};
+ghost use mathlib.Core.Bool.{_&&_};
 ghost use Prim.Native.Nat.{_+_, _*_, _%_, _≤_, _<_};
+ghost use lib.Dec.{eqb};
 ghost use lib.ListN.{length};
 ghost use Rattle.fields.specs.Lists.{tabulate};
 ghost use Rattle.fields.specs.Elements.{xor, scale, doubled, timesC};
 ghost use Rattle.fields.specs.Places.{at};
-ghost use Rattle.g709.specs.Steps.Registers.{over, rowDivided, rowRemainders, leading, cellStored, cellsStored};
+ghost use Rattle.g709.specs.Steps.Registers.{over, rowDivided, rowRemainders, leading, cellStored, cellsStored, agree};
 ghost use Rattle.g709.specs.Steps.Folding.{taps, QuotientTo};
 ghost use Rattle.g709.specs.Steps.Restoring.{laneOf};
 
@@ -269,4 +271,25 @@ pub(crate) fn lane(rest: &[u8; CELLS], k: usize) -> [u16; WORDS]
         i += 1;
     }
     cells
+}
+
+// d where x and y are equal, else 1.
+fn difference(d: u8, x: u8, y: u8) -> u8
+    ensures { λ r. ⌜ eqb r 0 ≡ eqb d 0 && eqb x y ⌝ }
+{
+    if x == y { d } else { 1 }
+}
+
+// The first n bytes of a are those of b from a place on.
+pub(crate) fn agree(a: &[u8], b: &[u8], from: usize, n: usize) -> bool
+    requires { ⌜ (n ≤ length (now a)) × (from + n ≤ length (now b)) ⌝ }
+    ensures { λ r. ⌜ r ≡ agree (now (a .entry)) (now (b .entry)) from n ⌝ }
+{
+    let mut d: u8 = 0;
+    let mut i: usize = 0;
+    while i < n {
+        d = difference(d, a[i], b[from + i]);
+        i += 1;
+    }
+    d == 0
 }

@@ -1,8 +1,8 @@
 // The syndromes of the sixteen words of a row: the values of their remainders at the sixteen roots, a column of sixteen bytes at a step. Value j of word k is byte 16 j + k,
 // as the remainders stand. Products are by constants that are written out.
-use crate::block;
 use crate::division::CELLS;
 use crate::division::WORDS;
+use crate::division::agree;
 use crate::division::plus;
 use crate::division::product;
 ghost use mathlib.Core.Path.{_≡_};
@@ -62,7 +62,7 @@ pub(crate) fn store(s: &mut [u8; CELLS], rest: &[u8; CELLS])
     requires { ⌜ (now s ≡ tabulate 272 (λ i. 0)) × (length (now s) ≡ 272) × (length (now rest) ≡ 272) ⌝ }
     ensures { λ _. ⌜ SyndromesTo (now (rest .entry)) 16 (now (s .exit)) × (length (now (s .exit)) ≡ 272) ⌝ }
 {
-    if block::agree(rest, s, 0, CELLS) {
+    if agree(rest, s, 0, CELLS) {
         return;
     }
     all_values(s, rest);

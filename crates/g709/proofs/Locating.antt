@@ -1,6 +1,6 @@
 -- Polynomials side by side: one is stored, and the places where it has roots are read from the columns of values. Assumes nothing.
 use mathlib.Core.Path.{_≡_, refl, sym, ap, _∙_}
-use mathlib.Core.Bool.{Bool, cond}
+use mathlib.Core.Bool.{Bool, true, false, cond}
 use mathlib.Core.List.{List}
 use Prim.Native.Nat.{ℕ, zero, suc, _+_, _-_, _*_, _/_, _%_, _≤_, _<_, zero-le}
 use native.Mathlib.Decide.{ℕ-discrete}
@@ -26,7 +26,7 @@ use Rattle.decoding.proofs.Algebra.Tables.{exponents-length}
 use Rattle.decoding.proofs.Steps.RootsFound.{kept-long, roots-none, roots-kept, roots-other}
 use Rattle.g709.specs.Steps.Restoring.{laneOf}
 use Rattle.g709.specs.Steps.RootColumns.{polynomialOf, valueAtPower, columnValues}
-use Rattle.g709.specs.Steps.Locating.{polynomialStored, LocatorAt, LocatorsTo, LocatorSet, LocatorValues, PlacesTo}
+use Rattle.g709.specs.Steps.Locating.{polynomialStored, LocatorAt, LocatorsTo, LocatorSet, LocatorValues, PlacesTo, ValuesIf, LocatedIf}
 
 -- ---- a polynomial is stored
 
@@ -188,10 +188,20 @@ polynomial-long : (terms : List ℕ) (k : ℕ) → length (polynomialOf terms k)
 unfolding polynomialOf
 polynomial-long terms k = tabulate-length 9 _
 
-pub located : (es ls s values t : List ℕ) (k : ℕ) (places : List ℕ) (count : ℕ) → es ≡ powersC → ls ≡ exponentsC → k < 16 → t ≡ laneOf s k → LocatorValues s values →
+pub values-not : (s values : List ℕ) → ValuesIf false s values
+values-not s values = record { made = λ t. let z : _≡_ {A = ℕ} 0 1 = ap (λ (b : Bool). cond b 1 0) t in absurd (omega arith) }
+
+pub values-made : (s values : List ℕ) → LocatorValues s values → ValuesIf true s values
+values-made s values L = record { made = λ t. L }
+
+pub located-if : (located : Bool) (s values t : List ℕ) (k : ℕ) → t ≡ laneOf s k → ValuesIf located s values → LocatedIf located values k t
+located-if located s values t k et made = record { made = λ b. (s, made .made b, et) }
+
+pub located : (es ls values t : List ℕ) (k : ℕ) (b : Bool) (places : List ℕ) (count : ℕ) → es ≡ powersC → ls ≡ exponentsC → k < 16 → LocatedIf b values k t → b ≡ true →
     PlacesTo values k 255 places count → Located es ls t 255 places count
-located es ls s values t k places count exp log hk et L P =
-    rw (et, exp, log) (record {
+located es ls values t k b places count exp log hk I e P =
+    let L = I .made e .1 in
+    rw (I .made e .2, exp, log) (record {
       polynomial = polynomialOf (L .terms) k;
       long = polynomial-long (L .terms) k;
       annihilates = L .locators .each k hk;

@@ -6,6 +6,7 @@ use crate::division::WORDS;
 use crate::locators;
 use crate::root_columns::VALUES;
 use crate::syndromes;
+use decoding::SYNDROMES;
 use decoding::error_values;
 use decoding::error_values::Errors;
 use decoding::symbols;
@@ -16,19 +17,16 @@ ghost use Prim.Native.Nat.{ℕ, _+_, _*_, _≤_, _<_};
 ghost use lib.ListN.{length};
 ghost use Rattle.fields.specs.Elements.{powersC, exponentsC};
 ghost use Rattle.words.specs.Answers.{changedOf};
-ghost use Rattle.decoding.specs.Steps.Decoder.{withError};
+ghost use Rattle.decoding.specs.Steps.Decoder.{Decoded, withError};
 ghost use Rattle.g709.specs.Rows.{receivedBytes};
 ghost use Rattle.g709.specs.Steps.ColumnSyndromes.{RowSyndromes};
-ghost use Rattle.g709.specs.Steps.Locating.{LocatorValues};
+ghost use Rattle.g709.specs.Steps.Locating.{ValuesIf, LocatedIf};
 ghost use Rattle.g709.specs.Steps.Restoring.{laneOf, ByteValues, valuesAdded, WordErrors, wordCorrected, Counted, Remains, WordDone, Restoring};
 
 // Bytes of a word, and of a row.
 const BYTES: usize = 255;
 
 const ROW: usize = 4080;
-
-// From so many words with more than one wrong byte on, a row's locator polynomials are evaluated by columns.
-const HEAVY: usize = 6;
 
 // Adds v to the byte at place i; a place past the end changes nothing.
 fn add(out: &mut [u8], i: usize, v: u16)
@@ -101,42 +99,32 @@ fn with_word(p: RowProgress, c: Correction) -> RowProgress
     }
 }
 
+// The errors in word k of a row, t being its syndromes: by the values of the row's locator polynomials where these were made, else by itself.
+fn errors(
+    exp: &[u16],
+    log: &[u16],
+    values: &[u8; VALUES],
+    located: bool,
+    t: [u16; SYNDROMES],
+    k: usize,
+) -> Errors
+    requires { ⌜ (now exp ≡ powersC) × (now log ≡ exponentsC) × (k < 16) ⌝ }
+    requires { ⌜ LocatedIf located (now values) k t ⌝ }
+    ensures { λ e. ⌜ Decoded (now (exp .entry)) (now (log .entry)) t 255 (e .places .at) (e .values) (e .places .count) (e .left) ⌝ }
+{
+    if located {
+        return error_values::valued(exp, log, BYTES, t, locators::places(values, k));
+    }
+    decoding::decode(exp, log, t, BYTES)
+}
+
 // Corrects word k of row r, whose syndromes are those of word k in `s`, unless a word before it had no code word near it.
 fn next_word(
     exp: &[u16],
     log: &[u16],
     s: &[u8; CELLS],
-    r: usize,
-    k: usize,
-    out: &mut [u8],
-    p: RowProgress,
-) -> RowProgress
-    requires { ⌜ (now exp ≡ powersC) × (now log ≡ exponentsC) ⌝ }
-    requires { ⌜ (r < 4) × (k < 16) × (4080 * r + 4080 ≤ length (now out)) × (p .changed ≤ 512) ⌝ }
-    requires { ⌜ Remains (p .reached) (laneOf (now s) k) (receivedBytes (now out) (16 * r + k)) ⌝ }
-    ensures { λ q. ⌜ WordDone (now (out .entry)) (16 * r + k) (p .reached) (p .changed) (now (out .exit)) (q .reached) (q .changed) ⌝ }
-    ensures { λ q. ⌜ q .changed ≤ p .changed + 8 ⌝ }
-{
-    if !p.reached {
-        return RowProgress {
-            reached: false,
-            changed: 0,
-        };
-    }
-    let t = division::lane(s, k);
-    if symbols::all_below(&t, 1) {
-        return p;
-    }
-    let e = decoding::decode(exp, log, t, BYTES);
-    with_word(p, correct_word(e, r, k, out))
-}
-
-// The same where the values of the locator polynomials are known.
-fn next_located(
-    exp: &[u16],
-    log: &[u16],
-    s: &[u8; CELLS],
     values: &[u8; VALUES],
+    located: bool,
     r: usize,
     k: usize,
     out: &mut [u8],
@@ -145,7 +133,7 @@ fn next_located(
     requires { ⌜ (now exp ≡ powersC) × (now log ≡ exponentsC) ⌝ }
     requires { ⌜ (r < 4) × (k < 16) × (4080 * r + 4080 ≤ length (now out)) × (p .changed ≤ 512) ⌝ }
     requires { ⌜ Remains (p .reached) (laneOf (now s) k) (receivedBytes (now out) (16 * r + k)) ⌝ }
-    requires { ⌜ LocatorValues (now s) (now values) ⌝ }
+    requires { ⌜ ValuesIf located (now s) (now values) ⌝ }
     ensures { λ q. ⌜ WordDone (now (out .entry)) (16 * r + k) (p .reached) (p .changed) (now (out .exit)) (q .reached) (q .changed) ⌝ }
     ensures { λ q. ⌜ q .changed ≤ p .changed + 8 ⌝ }
 {
@@ -159,38 +147,12 @@ fn next_located(
     if symbols::all_below(&t, 1) {
         return p;
     }
-    let places = locators::places(values, k);
-    let e = error_values::valued(exp, log, BYTES, t, places);
+    let e = errors(exp, log, values, located, t, k);
     with_word(p, correct_word(e, r, k, out))
 }
 
-// Corrects the words of row r one after the other.
-fn correct_singly(
-    exp: &[u16],
-    log: &[u16],
-    block: &[u8],
-    s: &[u8; CELLS],
-    r: usize,
-    out: &mut [u8],
-    before: RowProgress,
-) -> RowProgress
-    requires { ⌜ (now exp ≡ powersC) × (now log ≡ exponentsC) ⌝ }
-    requires { ⌜ (r < 4) × (4080 * r + 4080 ≤ length (now block)) ⌝ }
-    requires { ⌜ RowSyndromes (now block) r (now s) ⌝ }
-    requires { ⌜ Restoring (now block) (16 * r) (now out) (before .reached) (before .changed) ⌝ }
-    ensures { λ p. ⌜ Restoring (now (block .entry)) (16 * r + 16) (now (out .exit)) (p .reached) (p .changed) ⌝ }
-{
-    let mut p = before;
-    let mut k: usize = 0;
-    while k < WORDS {
-        p = next_word(exp, log, s, r, k, out, p);
-        k += 1;
-    }
-    p
-}
-
-// The same, the values of their locator polynomials made for all of them at once.
-fn correct_located(
+// Corrects the words of row r, whose syndromes are `s`, in the copy of the block. The first goes by itself, so that a row of noise is refused at once.
+fn correct_words(
     exp: &[u16],
     log: &[u16],
     block: &[u8],
@@ -206,17 +168,17 @@ fn correct_located(
     ensures { λ p. ⌜ Restoring (now (block .entry)) (16 * r + 16) (now (out .exit)) (p .reached) (p .changed) ⌝ }
 {
     let mut values = locators::no_values();
-    locators::evaluate(exp, log, s, &mut values);
-    let mut p = before;
-    let mut k: usize = 0;
+    let mut p = next_word(exp, log, s, &values, false, r, 0, out, before);
+    let located = locators::locate(exp, log, s, p.reached, &mut values);
+    let mut k: usize = 1;
     while k < WORDS {
-        p = next_located(exp, log, s, &values, r, k, out, p);
+        p = next_word(exp, log, s, &values, located, r, k, out, p);
         k += 1;
     }
     p
 }
 
-// Corrects the words of row r in the copy of the block, unless a word before them had no code word near it.
+// The same, unless a word before them had no code word near it.
 fn correct_row(
     exp: &[u16],
     log: &[u16],
@@ -237,10 +199,7 @@ fn correct_row(
     division::remainders(block, ROW * r, &mut rest);
     let mut s = division::empty();
     syndromes::store(&mut s, &rest);
-    if locators::crowded(&s) < HEAVY {
-        return correct_singly(exp, log, block, &s, r, out, before);
-    }
-    correct_located(exp, log, block, &s, r, out, before)
+    correct_words(exp, log, block, &s, r, out, before)
 }
 
 // Corrects the words of n rows in the copy of the block.

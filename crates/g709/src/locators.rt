@@ -19,10 +19,13 @@ ghost use lib.ListN.{length};
 ghost use Rattle.fields.specs.Elements.{powersC, exponentsC};
 ghost use Rattle.fields.specs.Places.{at};
 ghost use Rattle.decoding.specs.Steps.RootSearch.{kept};
-ghost use Rattle.g709.specs.Steps.Locating.{polynomialStored, LocatorsTo, LocatorSet, LocatorValues, PlacesTo};
+ghost use Rattle.g709.specs.Steps.Locating.{polynomialStored, LocatorsTo, LocatorSet, LocatorValues, ValuesIf, PlacesTo};
 
 // Bytes of a word.
 const BYTES: usize = 255;
+
+// From so many words with more than one wrong byte on, a row's locator polynomials are evaluated by columns.
+const CROWD: usize = 6;
 
 // Stores the coefficients of polynomial k.
 fn set_polynomial(terms: &mut [u8; TERMS], k: usize, polynomial: [u16; COEFFICIENTS])
@@ -75,7 +78,7 @@ pub(crate) fn no_values() -> [u8; VALUES]
 }
 
 // Stores the values of the locator polynomials at all powers of a.
-pub(crate) fn evaluate(exp: &[u16], log: &[u16], s: &[u8; CELLS], values: &mut [u8; VALUES])
+fn evaluate(exp: &[u16], log: &[u16], s: &[u8; CELLS], values: &mut [u8; VALUES])
     requires { ⌜ (now exp ≡ powersC) × (now log ≡ exponentsC) ⌝ }
     requires { ⌜ length (now values) ≡ 4080 ⌝ }
     ensures { λ _. ⌜ LocatorValues (now (s .entry)) (now (values .exit)) × (length (now (values .exit)) ≡ 4080) ⌝ }
@@ -127,7 +130,7 @@ fn several(x: u8, y: u8, z: u8) -> usize
 }
 
 // How many words of a row have more than one wrong byte, by a look at their syndromes that is wrong for few: the answer does not depend on it.
-pub(crate) fn crowded(s: &[u8; CELLS]) -> usize {
+fn crowded(s: &[u8; CELLS]) -> usize {
     let mut n: usize = 0;
     let mut j: usize = 0;
     while j < WORDS {
@@ -135,4 +138,26 @@ pub(crate) fn crowded(s: &[u8; CELLS]) -> usize {
         j += 1;
     }
     n
+}
+
+// Stores the values of the locator polynomials and returns true, if they are wanted and the row has enough words with more than one wrong byte.
+pub(crate) fn locate(
+    exp: &[u16],
+    log: &[u16],
+    s: &[u8; CELLS],
+    wanted: bool,
+    values: &mut [u8; VALUES],
+) -> bool
+    requires { ⌜ (now exp ≡ powersC) × (now log ≡ exponentsC) ⌝ }
+    requires { ⌜ length (now values) ≡ 4080 ⌝ }
+    ensures { λ r. ⌜ ValuesIf r (now (s .entry)) (now (values .exit)) ⌝ }
+{
+    if !wanted {
+        return false;
+    }
+    if crowded(s) < CROWD {
+        return false;
+    }
+    evaluate(exp, log, s, values);
+    true
 }

@@ -1,6 +1,6 @@
 -- The locator polynomials of the sixteen words of a row, side by side, and the places of their roots.
 use mathlib.Core.Path.{_≡_}
-use mathlib.Core.Bool.{cond}
+use mathlib.Core.Bool.{Bool, true, cond}
 use mathlib.Core.List.{List}
 use Prim.Native.Nat.{ℕ, _+_, _*_, _/_, _%_, _<_}
 use lib.Dec.{eqb}
@@ -40,3 +40,10 @@ pub record LocatorValues (s values : List ℕ) : Type 0 where
 -- the places, among the first i, where polynomial k has a root, whatever the polynomials are whose values these are
 pub record PlacesTo (values : List ℕ) (k i : ℕ) (places : List ℕ) (count : ℕ) : Type 0 where
   pub roots : (terms : List ℕ) → values ≡ columnValues terms → Roots powersC exponentsC (polynomialOf terms k) 255 i places count
+
+-- where a row was looked at by columns, these are the values of its locator polynomials; and polynomial k is one for the syndromes t
+pub record ValuesIf (located : Bool) (s values : List ℕ) : Type 0 where
+  pub made : located ≡ true → LocatorValues s values
+
+pub record LocatedIf (located : Bool) (values : List ℕ) (k : ℕ) (t : List ℕ) : Type 0 where
+  pub made : located ≡ true → (s : List ℕ) × LocatorValues s values × (t ≡ laneOf s k)

@@ -1,6 +1,6 @@
 -- `g709::corrector::correct_row` meets its contract. Assumes nothing.
 use native.Mathlib.Omega.{arith}
-use Rattle.g709.proofs.WordByWord.{row-skipped, row-syndromes}
+use Rattle.g709.proofs.WordByWord.{row-syndromes, row-skipped}
 use borrow.Author.Needs.{needs}
 use Rattle.g709.proofs.corrector.correct_row.Statement.{statement}
 use Rattle.g709.proofs.corrector.correct_row.Tie as tie
@@ -23,26 +23,14 @@ empty-requires-2 c κs = search needs
 store-requires : tie.Need-store-requires
 store-requires c κs = search needs
 
-crowded-requires : tie.Need-crowded-requires
-crowded-requires c κs = search needs
-
-correct-singly-requires : tie.Need-correct-singly-requires
-correct-singly-requires c κs = (c .before .before .before .before .before .before .before .before .before .before .before .before .before .before .before .before .before .before .pre .0, (c .before .before .before .before .before .before .before .before .before .before .before .before .before .before .before .before .before .before .pre .1 .0, (row-syndromes _ _ _ _ (λ i. omega (arith, c .before .before .before .before .before .before .before .before .before .before .before .before .before .before .before .shared-slice-known3 .given i)) (c .before .before .before .before .before .before .before .before .before .remainders .ensures .0) (c .before .before .before .before .before .store .ensures .0), c .before .before .before .before .before .before .before .before .before .before .before .before .before .before .before .before .before .before .pre .1 .1)))
+correct-words-requires : tie.Need-correct-words-requires
+correct-words-requires c κs = (c .before .before .before .before .before .before .before .before .before .before .before .before .before .before .before .pre .0, (c .before .before .before .before .before .before .before .before .before .before .before .before .before .before .before .pre .1 .0, (row-syndromes _ _ _ _ (λ i. omega (arith, c .before .before .before .before .before .before .before .before .before .before .before .before .shared-slice-known3 .given i)) (c .before .before .before .before .before .before .remainders .ensures .0) (c .before .before .store .ensures .0), c .before .before .before .before .before .before .before .before .before .before .before .before .before .before .before .pre .1 .1)))
 
 same-length : tie.Need-same-length
 same-length c = search needs
 
 returns-2 : tie.Need-returns-2
 returns-2 c = search needs
-
-correct-located-requires : tie.Need-correct-located-requires
-correct-located-requires c κs = (c .before .before .before .before .before .before .before .before .before .before .before .before .before .before .before .before .before .before .pre .0, (c .before .before .before .before .before .before .before .before .before .before .before .before .before .before .before .before .before .before .pre .1 .0, (row-syndromes _ _ _ _ (λ i. omega (arith, c .before .before .before .before .before .before .before .before .before .before .before .before .before .before .before .shared-slice-known3 .given i)) (c .before .before .before .before .before .before .before .before .before .remainders .ensures .0) (c .before .before .before .before .before .store .ensures .0), c .before .before .before .before .before .before .before .before .before .before .before .before .before .before .before .before .before .before .pre .1 .1)))
-
-same-length-2 : tie.Need-same-length-2
-same-length-2 c = search needs
-
-returns-3 : tie.Need-returns-3
-returns-3 c = search needs
 
 pub correct-row-spec : {M : Type 1} → statement M
 correct-row-spec =
@@ -54,10 +42,6 @@ correct-row-spec =
     remainders-requires
     empty-requires-2
     store-requires
-    crowded-requires
-    correct-singly-requires
+    correct-words-requires
     same-length
-    returns-2
-    correct-located-requires
-    same-length-2
-    returns-3)
+    returns-2)

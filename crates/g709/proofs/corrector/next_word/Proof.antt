@@ -1,6 +1,6 @@
 -- `g709::corrector::next_word` meets its contract. Assumes nothing.
-use Rattle.g709.proofs.Correcting.{tables-given, word-fits}
 use Rattle.g709.proofs.WordByWord.{word-skipped, clean-word, word-errors, still-reached, word-answered}
+use Rattle.g709.proofs.Locating.{located-if}
 use borrow.Author.Needs.{needs}
 use Rattle.g709.proofs.corrector.next_word.Statement.{statement}
 use Rattle.g709.proofs.corrector.next_word.Tie as tie
@@ -20,8 +20,8 @@ all-below-requires c κs = search needs
 returns-2 : tie.Need-returns-2
 returns-2 c = (search (needs, clean-word), search needs)
 
-decode-requires : tie.Need-decode-requires
-decode-requires c κs = (search (needs, tables-given), (search (needs, word-fits), search needs))
+errors-requires : tie.Need-errors-requires
+errors-requires c κs = ((search needs, search needs, search needs), search (needs, located-if))
 
 correct-word-requires : tie.Need-correct-word-requires
 correct-word-requires c κs = (search needs, search (needs, word-errors))
@@ -44,7 +44,7 @@ next-word-spec =
     slice-aggregate-all-below
     all-below-requires
     returns-2
-    decode-requires
+    errors-requires
     correct-word-requires
     with-word-requires
     same-length

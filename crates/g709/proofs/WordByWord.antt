@@ -34,7 +34,7 @@ use Rattle.g709.specs.Rows.{isByteWord, blockOfWords, receivedBytes, byt
 use Rattle.g709.specs.Answers.{blockCorrected, withoutChanges}
 use Rattle.g709.specs.Steps.Registers.{over, rowRemainders}
 use Rattle.g709.specs.Steps.ColumnSyndromes.{SyndromesTo, RowSyndromes}
-use Rattle.g709.specs.Steps.Restoring.{wordOf, bytePlace, laneOf, wordStored, wordCorrected, WordErrors, Counted, Remains, WordDone, RestoredTo, Restoring}
+use Rattle.g709.specs.Steps.Restoring.{wordOf, bytePlace, laneOf, wordStored, wordCorrected, WordErrors, Counted, alone, Remains, WordDone, RestoredTo, Restoring}
 use Rattle.g709.proofs.ByteCode.{byte-nearest}
 use Rattle.g709.proofs.Rows.{received-length, place-back, block-length, block-at, words-in, apart-words}
 use Rattle.g709.proofs.Overlays.{over-length, over-in}
@@ -189,6 +189,14 @@ word-remains b o s r k reached changed small Y hk room S =
     same : reached ≡ true → receivedBytes o (16 * r + k) ≡ receivedBytes b (16 * r + k)
     same t = received-same b o (16 * r + k) (omega arith) changed (S .so-far t)
 
+pub alone-first : (r : ℕ) → r ≡ 0 → 1 ≡ alone r
+unfolding alone
+alone-first r e = rw (eq-eqb r 0 e)
+
+pub alone-later : (r : ℕ) → (r ≡ 0 → ⊥) → 0 ≡ alone r
+unfolding alone
+alone-later r n = rw (ne-eqb r 0 n)
+
 pub restoring-room : (b o : List ℕ) (r w : ℕ) (reached : Bool) (changed : ℕ) → Restoring b w o reached changed → r < 4 → w ≤ 16 * r + 16 → 4080 * r + 4080 ≤ length b →
     (4080 * r + 4080 ≤ length o) × (changed ≤ 512)
 restoring-room b o r w reached changed S four most room = (omega (arith, S .room), omega (arith, S .few))
@@ -325,6 +333,17 @@ module _ (b o : List ℕ) (r : ℕ) (reached : Bool) (changed : ℕ) where
       WordDone o (16 * r + k) reached changed next still sum → sum ≤ changed + 8 → Restoring b (16 * r + (k + 1)) next still sum
   row-step k next still sum hk room S D most =
       at-word b next (16 * r + k + 1) (16 * r + (k + 1)) still sum (omega arith) (restoring-next b o next (16 * r + k) reached still changed sum (omega arith) S D most)
+
+  -- the words that go by themselves
+  pub none-alone : (r ≡ 0 → ⊥) → Restoring b (16 * r) o reached changed → Restoring b (16 * r + alone r) o reached changed
+  none-alone n S = rw (← alone-later r n) (row-start S)
+
+  pub one-alone : (next : List ℕ) (still : Bool) (sum : ℕ) → r ≡ 0 → 4080 * r + 4080 ≤ length b → Restoring b (16 * r) o reached changed →
+      WordDone o (16 * r + 0) reached changed next still sum → sum ≤ changed + 8 → Restoring b (16 * r + alone r) next still sum
+  one-alone next still sum e room S D most = rw (← alone-first r e) (row-step 0 next still sum (lit< tt) room (row-start S) D most)
+
+  pub after-alone : (k : ℕ) → k ≡ alone r → Restoring b (16 * r + alone r) o reached changed → Restoring b (16 * r + k) o reached changed
+  after-alone k e S = rw e S
 
   pub row-end : (k : ℕ) → k ≤ 16 → 16 ≤ k → Restoring b (16 * r + k) o reached changed → Restoring b (16 * r + 16) o reached changed
   row-end k l h = at-word b o (16 * r + k) (16 * r + 16) reached changed (omega arith)

@@ -21,7 +21,7 @@ ghost use Rattle.decoding.specs.Steps.Decoder.{Decoded, withError};
 ghost use Rattle.g709.specs.Rows.{receivedBytes};
 ghost use Rattle.g709.specs.Steps.ColumnSyndromes.{RowSyndromes};
 ghost use Rattle.g709.specs.Steps.Locating.{ValuesIf, LocatedIf};
-ghost use Rattle.g709.specs.Steps.Restoring.{laneOf, ByteValues, valuesAdded, WordErrors, wordCorrected, Counted, Remains, WordDone, Restoring};
+ghost use Rattle.g709.specs.Steps.Restoring.{laneOf, ByteValues, valuesAdded, WordErrors, wordCorrected, Counted, alone, Remains, WordDone, Restoring};
 
 // Bytes of a word, and of a row.
 const BYTES: usize = 255;
@@ -151,7 +151,37 @@ fn next_word(
     with_word(p, correct_word(e, r, k, out))
 }
 
-// Corrects the words of row r, whose syndromes are `s`, in the copy of the block. The first goes by itself, so that a row of noise is refused at once.
+// How many words of row r go by themselves before the others: the first of the block, so that noise is refused at once.
+fn alone(r: usize) -> usize
+    ensures { λ n. ⌜ (n ≡ alone r) × (n ≤ 1) ⌝ }
+{
+    if r == 0 { 1 } else { 0 }
+}
+
+// Corrects these.
+fn first_word(
+    exp: &[u16],
+    log: &[u16],
+    block: &[u8],
+    s: &[u8; CELLS],
+    values: &[u8; VALUES],
+    r: usize,
+    out: &mut [u8],
+    before: RowProgress,
+) -> RowProgress
+    requires { ⌜ (now exp ≡ powersC) × (now log ≡ exponentsC) ⌝ }
+    requires { ⌜ (r < 4) × (4080 * r + 4080 ≤ length (now block)) ⌝ }
+    requires { ⌜ RowSyndromes (now block) r (now s) ⌝ }
+    requires { ⌜ Restoring (now block) (16 * r) (now out) (before .reached) (before .changed) ⌝ }
+    ensures { λ p. ⌜ Restoring (now (block .entry)) (16 * r + alone r) (now (out .exit)) (p .reached) (p .changed) ⌝ }
+{
+    if r != 0 {
+        return before;
+    }
+    next_word(exp, log, s, values, false, r, 0, out, before)
+}
+
+// Corrects the words of row r, whose syndromes are `s`, in the copy of the block.
 fn correct_words(
     exp: &[u16],
     log: &[u16],
@@ -168,9 +198,9 @@ fn correct_words(
     ensures { λ p. ⌜ Restoring (now (block .entry)) (16 * r + 16) (now (out .exit)) (p .reached) (p .changed) ⌝ }
 {
     let mut values = locators::no_values();
-    let mut p = next_word(exp, log, s, &values, false, r, 0, out, before);
+    let mut p = first_word(exp, log, block, s, &values, r, out, before);
     let located = locators::locate(exp, log, s, p.reached, &mut values);
-    let mut k: usize = 1;
+    let mut k = alone(r);
     while k < WORDS {
         p = next_word(exp, log, s, &values, located, r, k, out, p);
         k += 1;

@@ -64,6 +64,10 @@ pub record Counted (changed : ℕ) (c : Correction) (still : Bool) (sum : ℕ) :
   pub lost : still ≡ false → (n : ℕ) × (c ≡ Refused n)
   pub most : sum ≤ changed + changedOf c
 
+-- how many words of row r go by themselves: the first of the block
+unfoldable pub alone : ℕ → ℕ
+alone r = cond (eqb r 0) 1 0
+
 -- a step over word w of the block o: it is restored, and its changes are counted; or it has no code word near it, or one before it had none
 pub record WordDone (o : List ℕ) (w : ℕ) (reached : Bool) (changed : ℕ) (next : List ℕ) (still : Bool) (sum : ℕ) : Type 0 where
   pub long : length next ≡ length o

@@ -11,14 +11,14 @@ use lib.Dec.{eqb}
 use lib.ListN.{length, set}
 use Rattle.fields.specs.Lists.{tabulate}
 use Rattle.fields.specs.Elements.{xor, scale, doubled, power, timesC, powersC, exponentsC}
-use Rattle.fields.specs.Places.{at, horner, allBelow, every}
+use Rattle.fields.specs.Places.{at, horner, allBelow}
 use Rattle.fields.proofs.Instances.{field-c}
 use Rattle.fields.proofs.Lists.{tabulate-at, tabulate-length, tabulate-same}
 use Rattle.fields.proofs.Places.Tests.{every-at}
 use Rattle.decoding.specs.Steps.ByTables.{rootValue, rootValues}
 use Rattle.words.proofs.Codes.Horner.{horner-same}
 use Rattle.words.proofs.Codes.ReedSolomon.{root-is}
-use Rattle.g709.specs.Steps.Registers.{over, agree}
+use Rattle.g709.specs.Steps.Registers.{agree}
 use Rattle.g709.specs.Steps.Restoring.{laneOf}
 use Rattle.g709.specs.Steps.ColumnSyndromes.{valueStored, valuesStored, SyndromesTo}
 use Rattle.g709.proofs.Overlays.{over-length, over-in, over-front, over-behind, OverTo, over-next, over-end}

@@ -7,11 +7,10 @@ use native.Mathlib.Decide.{ℕ-discrete}
 use native.Mathlib.Nat.{le-refl}
 use native.Mathlib.Omega.{arith}
 use borrow.Author.Tests.{eq-eqb, ne-eqb, not-false, not-true}
-use lib.Dec.{eqb, lit<}
+use lib.Dec.{eqb}
 use lib.ListN.{length, set}
-use Rattle.fields.specs.Lists.{tabulate}
 use Rattle.fields.specs.Elements.{xor, powersC, exponentsC}
-use Rattle.fields.specs.Places.{at, allBelow, apart}
+use Rattle.fields.specs.Places.{at, allBelow}
 use Rattle.fields.proofs.Instances.{field-c}
 use Rattle.fields.proofs.Lists.{tabulate-at, tabulate-is, tabulate-same}
 use Rattle.fields.proofs.Xor.{xor-zero-r}
@@ -23,7 +22,7 @@ use Rattle.decoding.proofs.Algebra.Tables.{powers-length, exponents-length}
 use Rattle.decoding.proofs.Decoding.Changes.{errors-length, errors-at, weight-most}
 use Rattle.words.specs.declared.Correction.{Correction}
 use Rattle.words.specs.declared.Correction.the-variants.{Corrected, Refused}
-use Rattle.words.specs.Answers.{changedOf, found}
+use Rattle.words.specs.Answers.{found}
 use Rattle.words.proofs.Decoding.ReedSolomon.{tables-of, symbols-changed, symbols-found, symbols-lost}
 use Rattle.words.proofs.Steps.Corrections.{added-here, errorsAdded, errors-next}
 use Rattle.g709.specs.Rows.{receivedBytes, bytesRestored}

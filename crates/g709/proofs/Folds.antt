@@ -1,24 +1,23 @@
 -- Folding by a polynomial over two elements with the generator's roots leaves the remainder as it is. Assumes nothing.
 use mathlib.Core.Path.{_≡_, refl, sym, ap, ap₂, _∙_}
-use mathlib.Core.Bool.{Bool, true}
+use mathlib.Core.Bool.{true}
 use mathlib.Core.List.{List, _++_}
-use Prim.Native.Nat.{ℕ, zero, suc, _+_, _-_, _*_, _/_, _%_, _^_, _≤_, _<_}
+use Prim.Native.Nat.{ℕ, zero, suc, _+_, _-_, _*_, _/_, _%_, _≤_, _<_}
 use native.Mathlib.Decide.{decLt, ℕ-discrete}
-use native.Mathlib.Nat.{add-suc, mul-suc, mul-zero, zero-add}
+use native.Mathlib.Nat.{mul-suc, mul-zero, zero-add}
 use native.Mathlib.Omega.{arith}
 use borrow.Author.Tests.{eq-eqb, eqb-true}
 use lib.Dec.{eqb, lit<}
 use lib.ListN.{length, set, length-append, List·getD-append, List·getD-eq-default}
 use lib.Seq.{ext-getD, getD-append-add, getD-set-same, getD-set-other}
 use Rattle.fields.specs.Lists.{tabulate}
-use Rattle.fields.specs.Elements.{xor, scale, doubled, times, power, timesC}
+use Rattle.fields.specs.Elements.{xor, scale, doubled, power, timesC}
 use Rattle.fields.proofs.Lists.{tabulate-at, tabulate-length, tabulate-lt}
-use Rattle.fields.proofs.Xor.{xor-zero-l, xor-zero-r, xor-self, xor-assoc, xor-comm, xor-cancel, xor-four, xor-lt, additive-zero}
+use Rattle.fields.proofs.Xor.{xor-zero-l, xor-zero-r, xor-self, xor-assoc, xor-cancel, xor-lt, additive-zero}
 use Rattle.fields.specs.Places.{at, every, allBelow, horner}
 use Rattle.fields.proofs.Places.Tests.{every-at, every-true, below-at, below-all, below-append}
 use Rattle.decoding.proofs.Algebra.Values.{value-lt}
 use Rattle.words.proofs.Codes.Horner.{Additive, iter, iter-sum, horner-same, horner-sum, horner-zero, horner-parts}
-use Rattle.words.proofs.Codes.TableValues.{divided-lt}
 use Rattle.words.proofs.Codes.Packing.{divided-same}
 use Rattle.words.specs.ReedSolomon.{valueAtRoot, isCodeWord, generatorOf, divided, parityOf}
 use Rattle.g709.specs.Steps.Folding.{exponentsBelow, sumUpTo, taps, QuotientTo, Folded}
@@ -292,14 +291,8 @@ module _ (d : ℕ → ℕ) (q out : List ℕ) (Q : QuotientTo d 2784 q) (F : Fol
   unfolding isCodeWord
   word-code = rw (below-append 256 dd T dd-below T-below) (every-true 16 _ (λ j l. eq-eqb (valueAtRoot 8 285 0 (dd ++ T) j) 0 (word-zero j l)))
 
-  parity-dd : parityOf 8 285 0 16 dd ≡ divided timesC 16 (at (generatorOf 8 285 0 16)) (λ t. d (16 * t + k)) 239
-  unfolding parityOf
-  parity-dd =
-      ap (divided timesC 16 (at (generatorOf 8 285 0 16)) (at dd)) (tabulate-length {A = ℕ} 239 (λ t. d (16 * t + k)))
-      ∙ divided-same timesC 16 (at (generatorOf 8 285 0 16)) (at dd) (λ t. d (16 * t + k)) 239 dd-at
-
   pub lane-folded : T ≡ divided timesC 16 (at (generatorOf 8 285 0 16)) (λ t. d (16 * t + k)) 239
-  lane-folded = code-c .parity-only dd T (omega (arith, tabulate-length {A = ℕ} 239 (λ t. d (16 * t + k)))) T-length word-code ∙ parity-dd
+  lane-folded = code-c .parity-only dd T (omega (arith, tabulate-length {A = ℕ} 239 (λ t. d (16 * t + k)))) T-length word-code ∙ parity-lane d k
 
 -- ---- the loops
 

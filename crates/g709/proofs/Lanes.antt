@@ -11,11 +11,11 @@ use Rattle.fields.specs.Elements.{xor, timesC}
 use Rattle.fields.proofs.Lists.{tabulate-at, tabulate-is, tabulate-length, tabulate-same}
 use Rattle.fields.specs.Places.{at}
 use Rattle.words.specs.ReedSolomon.{generatorOf, shiftedIn, divided}
-use Rattle.fields.proofs.Places.Filling.{zeros-at, Filled, filled-next, filled-end}
+use Rattle.fields.proofs.Places.Filling.{zeros-at, Filled, filled-end}
 use Rattle.words.proofs.Codes.Division.{divided-length}
-use Rattle.g709.specs.Steps.Registers.{over, registers, rowDivided, leading, cellStored, cellsStored}
+use Rattle.g709.specs.Steps.Registers.{registers, rowDivided, leading, cellStored, cellsStored}
 use Rattle.g709.proofs.ByteCode.{generator-c}
-use Rattle.g709.proofs.Overlays.{over-length, over-in, over-front, over-behind, OverTo, over-start, over-next, over-end}
+use Rattle.g709.proofs.Overlays.{over-length, over-in, over-front, over-behind, OverTo, over-next, over-end}
 
 -- ---- the leading coefficients
 

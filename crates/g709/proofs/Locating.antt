@@ -2,7 +2,7 @@
 use mathlib.Core.Path.{_≡_, refl, sym, ap, _∙_}
 use mathlib.Core.Bool.{Bool, true, false, cond}
 use mathlib.Core.List.{List}
-use Prim.Native.Nat.{ℕ, zero, suc, _+_, _-_, _*_, _/_, _%_, _≤_, _<_, zero-le}
+use Prim.Native.Nat.{ℕ, suc, _+_, _-_, _*_, _/_, _%_, _≤_, _<_, zero-le}
 use native.Mathlib.Decide.{ℕ-discrete}
 use native.Mathlib.Nat.{not-suc-le-zero}
 use native.Mathlib.Omega.{arith}
@@ -20,7 +20,7 @@ use Rattle.decoding.specs.declared.root_search.Places.{Places}
 use Rattle.decoding.specs.Steps.ByTables.{tableValue}
 use Rattle.decoding.specs.Steps.Decoder.{locator}
 use Rattle.decoding.specs.Steps.Annihilator.{Annihilates}
-use Rattle.decoding.specs.Steps.RootSearch.{kept, Roots, RootAt}
+use Rattle.decoding.specs.Steps.RootSearch.{kept}
 use Rattle.decoding.specs.Steps.ErrorValues.{Located}
 use Rattle.decoding.proofs.Algebra.Tables.{exponents-length}
 use Rattle.decoding.proofs.Steps.RootsFound.{kept-long, roots-none, roots-kept, roots-other}

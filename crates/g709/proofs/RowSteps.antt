@@ -2,28 +2,27 @@
 use mathlib.Core.Path.{_≡_, refl, sym, ap, ap₂, _∙_}
 use mathlib.Core.Bool.{Bool, true, false, _&&_}
 use mathlib.Core.List.{List, _++_}
-use Prim.Native.Nat.{ℕ, zero, suc, _+_, _-_, _*_, _/_, _%_, _≤_, _<_}
+use Prim.Native.Nat.{ℕ, suc, _+_, _-_, _*_, _/_, _%_, _≤_, _<_}
 use native.Mathlib.Decide.{decLt}
 use native.Mathlib.Omega.{arith}
 use borrow.Author.Tests.{eq-eqb, ne-eqb, eqb-true}
 use lib.Dec.{eqb}
 use lib.ListN.{length, set}
 use lib.Seq.{ext-getD, getD-append-add}
-use Rattle.fields.specs.Lists.{tabulate}
-use Rattle.fields.proofs.Lists.{tabulate-at, tabulate-length, tabulate-same}
-use Rattle.fields.specs.Places.{at, every, apart}
+use Rattle.fields.proofs.Lists.{tabulate-at, tabulate-is, tabulate-length}
+use Rattle.fields.specs.Places.{at, every}
 use Rattle.words.specs.Answers.{answered}
-use Rattle.words.specs.ReedSolomon.{generatorOf, divided, parityOf}
-use Rattle.fields.proofs.Places.Filling.{Filled, filled-start}
-use Rattle.fields.proofs.Places.Tests.{tests-agree, every-at, every-true, every-same}
+use Rattle.words.specs.ReedSolomon.{generatorOf}
+use Rattle.fields.proofs.Places.Tests.{tests-agree, every-at, every-true}
 use Rattle.words.proofs.Codes.Packing.{divided-same}
 use Rattle.fields.proofs.Places.Differences.{apart-none}
 use Rattle.fields.specs.Elements.{timesC}
-use Rattle.g709.specs.Rows.{byteParity, byteData, byteWord, blockOfWords, blockOf, payloadOfRows, isWritten, receivedBytes}
+use Rattle.g709.specs.Rows.{byteParity, byteData, byteWord, blockOf, payloadOfRows, isWritten, receivedBytes}
 use Rattle.g709.specs.Answers.{blockEncoded, blockChecked, blockExtracted}
 use Rattle.g709.specs.Steps.Registers.{over, registers, rowDivided, rowWritten, agree, rowAgrees}
-use Rattle.g709.proofs.Overlays.{over-length, over-in, over-front, over-behind, OverTo, over-next}
+use Rattle.g709.proofs.Overlays.{over-length, over-in, over-front, OverTo, over-next}
 use Rattle.g709.proofs.Lanes.{lane, registers-at}
+use Rattle.g709.proofs.Folds.{parity-lane}
 use Rattle.g709.proofs.Rows.{row-to-word, own-words, row-begins, same-written, data-length, block-length}
 
 -- ---- copies
@@ -40,11 +39,9 @@ data-at : (p : List ℕ) (r k t : ℕ) → k < 16 → t < 239 → at (byteData p
 unfolding byteData
 data-at p r k t hk ht = tabulate-at 239 _ t 0 ht ∙ ap (at p) (omega arith)
 
-parity-lane : (p : List ℕ) (r k : ℕ) → k < 16 → byteParity (byteData p (16 * r + k)) ≡ lane (λ i. at p (3824 * r + i)) 239 k
-unfolding parityOf
-parity-lane p r k hk =
-    ap (divided timesC 16 (at (generatorOf 8 285 0 16)) (at (byteData p (16 * r + k)))) (data-length p (16 * r + k))
-    ∙ divided-same timesC 16 (at (generatorOf 8 285 0 16)) (at (byteData p (16 * r + k))) (λ t. at p (3824 * r + (16 * t + k))) 239 (λ t l. data-at p r k t hk l)
+data-parity : (p : List ℕ) (r k : ℕ) → k < 16 → byteParity (byteData p (16 * r + k)) ≡ lane (λ i. at p (3824 * r + i)) 239 k
+data-parity p r k hk =
+    ap byteParity (tabulate-is 239 _ (byteData p (16 * r + k)) 0 (data-length p (16 * r + k)) (λ t l. data-at p r k t hk l)) ∙ parity-lane (λ i. at p (3824 * r + i)) k
 
 divided-at : (p : List ℕ) (from i : ℕ) → i < 256 → at (rowDivided p from 239) i ≡ at (lane (λ i. at p (from + i)) 239 (i % 16)) (i / 16)
 unfolding rowDivided
@@ -65,7 +62,7 @@ row-ends n p r i h l =
     ∙ ap₂ (λ (k c : ℕ). at (receivedBytes (blockOf n p) (16 * r + k)) c) m q
     ∙ ap (λ (c : List ℕ). at c (239 + i / 16)) (own-words n p (16 * r + i % 16) (omega arith))
     ∙ word-parity p (16 * r + i % 16) (i / 16)
-    ∙ ap (λ (c : List ℕ). at c (i / 16)) (parity-lane p r (i % 16) (omega arith))
+    ∙ ap (λ (c : List ℕ). at c (i / 16)) (data-parity p r (i % 16) (omega arith))
     ∙ sym (divided-at p (3824 * r) i l)
 
 -- ---- writing

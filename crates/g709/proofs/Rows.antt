@@ -5,7 +5,7 @@ use mathlib.Core.List.{List, [], _++_}
 use mathlib.Core.Option.{Option, none, some, Option·map}
 use Prim.Native.Nat.{ℕ, zero, suc, _+_, _*_, _/_, _%_, _≤_, _<_}
 use native.Mathlib.Decide.{decLe}
-use native.Mathlib.Nat.{add-suc, add-zero, mul-suc, mul-zero}
+use native.Mathlib.Nat.{mul-suc, mul-zero}
 use native.Mathlib.Omega.{arith}
 use borrow.Author.Tests.{eq-eqb, eqb-true}
 use lib.Dec.{eqb, lit<}
@@ -23,7 +23,7 @@ use Rattle.words.specs.Nearest.{everyOf}
 use Rattle.fields.proofs.Places.Differences.{sum-at, sum-plus, sum-grid, apart-tables, apart-self, apart-none}
 use Rattle.words.proofs.Codes.Options.{every-some, every-missing, every-none, every-all}
 use Rattle.words.specs.ReedSolomon.{isCodeWord, parityOf}
-use Rattle.g709.specs.Rows.{isPayloadOf, isBlockOf, isByteWord, byteParity, byteData, byteWord, blockOfWords, blockOf, payloadOfRows, isWritten, receivedBytes, bytesRestored, restoredBlock}
+use Rattle.g709.specs.Rows.{isPayloadOf, isBlockOf, isByteWord, byteData, byteWord, blockOfWords, blockOf, payloadOfRows, isWritten, receivedBytes, bytesRestored, restoredBlock}
 use Rattle.g709.specs.Answers.{blockCorrected}
 use Rattle.g709.specs.Laws.{Beyond, Within, RowLaws}
 use Rattle.g709.proofs.ByteCode.{code-c, byte-nearest, byte-lt}

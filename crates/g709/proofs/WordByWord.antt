@@ -3,20 +3,19 @@ use mathlib.Core.Path.{_≡_, refl, sym, ap, ap₂, _∙_}
 use mathlib.Core.Bool.{Bool, true, false, not, cond}
 use mathlib.Core.List.{List, []}
 use mathlib.Core.Logic.{_⊎_, inl, inr}
-use mathlib.Core.Option.{Option, none, some, Option·map}
-use Prim.Native.Nat.{ℕ, zero, suc, _+_, _*_, _/_, _%_, _≤_, _<_}
-use native.Mathlib.Decide.{ℕ-discrete, decLt}
-use native.Mathlib.Nat.{add-zero}
+use mathlib.Core.Option.{Option, none, some}
+use Prim.Native.Nat.{ℕ, suc, _+_, _*_, _/_, _%_, _≤_, _<_}
+use native.Mathlib.Decide.{ℕ-discrete}
 use native.Mathlib.Omega.{arith}
 use borrow.Author.Tests.{eq-eqb, ne-eqb, not-false, not-true}
 use lib.Dec.{eqb, lit<}
 use lib.ListN.{length, getD}
 use lib.Seq.{ext-getD}
 use Rattle.fields.specs.Lists.{tabulate}
-use Rattle.fields.specs.Elements.{xor, powersC, exponentsC}
+use Rattle.fields.specs.Elements.{powersC, exponentsC}
 use Rattle.fields.specs.Places.{at, allBelow, sumTo, apart}
 use Rattle.fields.proofs.Instances.{field-c}
-use Rattle.fields.proofs.Lists.{tabulate-at, tabulate-is, tabulate-length, tabulate-lt, tabulate-same}
+use Rattle.fields.proofs.Lists.{tabulate-at, tabulate-is, tabulate-lt, tabulate-same}
 use Rattle.fields.proofs.Places.Counting.{sum-same}
 use Rattle.fields.proofs.Places.Differences.{apart-self}
 use Rattle.fields.proofs.Places.Tests.{below-at, below-all}
@@ -26,9 +25,9 @@ use Rattle.decoding.specs.Steps.Decoder.{Decoded}
 use Rattle.words.specs.declared.Correction.{Correction}
 use Rattle.words.specs.declared.Correction.the-variants.{Corrected, Refused}
 use Rattle.words.specs.Answers.{refusalOf, changedOf, found, corrected}
-use Rattle.words.specs.ReedSolomon.{valueAtRoot, isCodeWord}
+use Rattle.words.specs.ReedSolomon.{valueAtRoot}
 use Rattle.words.specs.Nearest.{nearest, everyOf}
-use Rattle.words.proofs.Codes.Options.{some-same, some-not-none, every-some, every-missing}
+use Rattle.words.proofs.Codes.Options.{every-some, every-missing}
 use Rattle.words.proofs.Codes.ReedSolomon.{root-is, is-code}
 use Rattle.g709.specs.Rows.{isByteWord, blockOfWords, receivedBytes, bytesRestored, restoredBlock}
 use Rattle.g709.specs.Answers.{blockCorrected, withoutChanges}

@@ -1,13 +1,13 @@
 // Blocks of rows: a row is written, or tested, by the division of its data.
+use crate::columns;
 use crate::corrector;
 use crate::division;
 use words::Correction;
 ghost use mathlib.Core.Path.{_≡_};
 ghost use mathlib.Core.Bool.{_&&_};
 ghost use Prim.Native.Nat.{_+_, _*_, _≤_, _<_};
-ghost use lib.Dec.{eqb};
 ghost use lib.ListN.{length};
-ghost use Rattle.fields.specs.Places.{at, every};
+ghost use Rattle.fields.specs.Places.{at};
 ghost use Rattle.g709.specs.Rows.{blockOf, payloadOfRows, isWritten};
 ghost use Rattle.g709.specs.Answers.{blockEncoded, blockChecked, blockExtracted, blockCorrected};
 ghost use Rattle.g709.specs.Steps.Registers.{over, rowWritten, rowAgrees};
@@ -38,7 +38,7 @@ fn write_row(payload: &[u8], r: usize, out: &mut [u8])
     requires { ⌜ (r < 4) × (3824 * r + 3824 ≤ length (now payload)) × (4080 * r + 4080 ≤ length (now out)) ⌝ }
     ensures { λ _. ⌜ now (out .exit) ≡ rowWritten (now (payload .entry)) r (now (out .entry)) ⌝ }
 {
-    let mut registers = division::empty();
+    let mut registers = columns::empty();
     division::divide(payload, DATA * r, &mut registers);
     copy(payload, DATA * r, out, ROW * r, DATA);
     copy(&registers, 0, out, ROW * r + DATA, PARITY);
@@ -75,9 +75,9 @@ fn row_agrees(block: &[u8], r: usize) -> bool
     requires { ⌜ (r < 4) × (4080 * r + 4080 ≤ length (now block)) ⌝ }
     ensures { λ b. ⌜ b ≡ rowAgrees (now (block .entry)) r ⌝ }
 {
-    let mut registers = division::empty();
+    let mut registers = columns::empty();
     division::divide(block, ROW * r, &mut registers);
-    division::agree(&registers, block, ROW * r + DATA, PARITY)
+    columns::agree(&registers, block, ROW * r + DATA, PARITY)
 }
 
 fn both(x: bool, y: bool) -> bool

@@ -1,8 +1,9 @@
 // Correction of the words of a block, in a copy of it. A word's values at the roots are those of its remainder; they are the syndromes from which the decoder finds the
 // errors.
+use crate::columns;
+use crate::columns::CELLS;
+use crate::columns::WORDS;
 use crate::division;
-use crate::division::CELLS;
-use crate::division::WORDS;
 use crate::locators;
 use crate::root_columns::VALUES;
 use crate::syndromes;
@@ -13,7 +14,7 @@ use decoding::symbols;
 use words::Correction;
 ghost use mathlib.Core.Path.{_≡_};
 ghost use mathlib.Core.Bool.{true};
-ghost use Prim.Native.Nat.{ℕ, _+_, _*_, _≤_, _<_};
+ghost use Prim.Native.Nat.{_+_, _*_, _≤_, _<_};
 ghost use lib.ListN.{length};
 ghost use Rattle.fields.specs.Elements.{powersC, exponentsC};
 ghost use Rattle.words.specs.Answers.{changedOf};
@@ -34,7 +35,7 @@ fn add(out: &mut [u8], i: usize, v: u16)
     ensures { λ _. ⌜ now (out .exit) ≡ withError (now (out .entry)) i v ⌝ }
 {
     if i < out.len() {
-        out[i] = division::plus(out[i], division::narrow(v));
+        out[i] = columns::plus(out[i], columns::narrow(v));
     }
 }
 
@@ -143,7 +144,7 @@ fn next_word(
             changed: 0,
         };
     }
-    let t = division::lane(s, k);
+    let t = columns::lane(s, k);
     if symbols::all_below(&t, 1) {
         return p;
     }
@@ -225,9 +226,9 @@ fn correct_row(
     if !before.reached {
         return before;
     }
-    let mut rest = division::empty();
+    let mut rest = columns::empty();
     division::remainders(block, ROW * r, &mut rest);
-    let mut s = division::empty();
+    let mut s = columns::empty();
     syndromes::store(&mut s, &rest);
     correct_words(exp, log, block, &s, r, out, before)
 }

@@ -1,64 +1,17 @@
-// Division of the sixteen words of a row by the generator, a column of sixteen bytes at a step. A step is the same for all words, so that it becomes
-// operations on vectors of sixteen bytes; the generator's coefficients are written out, so that a product is some of the eight doublings of a byte.
+// Division of the sixteen words of a row by the generator, a column at a step: cell i of the sixteen registers is a column. The generator's coefficients are written out, so
+// that a product is some of the eight doublings of a byte.
+use crate::columns::CELLS;
+use crate::columns::WORDS;
+use crate::columns::plus;
+use crate::columns::product;
 ghost use mathlib.Core.Path.{_≡_};
-ghost use mathlib.Core.Bool.{_&&_};
-ghost use Prim.Native.Nat.{_+_, _*_, _%_, _≤_, _<_};
-ghost use lib.Dec.{eqb};
+ghost use Prim.Native.Nat.{_+_, _*_, _≤_, _<_};
 ghost use lib.ListN.{length};
 ghost use Rattle.fields.specs.Lists.{tabulate};
-ghost use Rattle.fields.specs.Elements.{xor, scale, doubled, timesC};
+ghost use Rattle.fields.specs.Elements.{xor};
 ghost use Rattle.fields.specs.Places.{at};
-ghost use Rattle.g709.specs.Steps.Registers.{over, rowDivided, rowRemainders, leading, cellStored, cellsStored, agree};
+ghost use Rattle.g709.specs.Steps.Registers.{over, rowDivided, rowRemainders, leading, cellStored, cellsStored};
 ghost use Rattle.g709.specs.Steps.Folding.{taps, QuotientTo};
-ghost use Rattle.g709.specs.Steps.Restoring.{laneOf};
-
-// Words in a row.
-pub(crate) const WORDS: usize = 16;
-
-// Sixteen registers of sixteen cells, and a column of zeros.
-pub(crate) const CELLS: usize = 272;
-
-pub(crate) fn plus(x: u8, y: u8) -> u8
-    ensures { λ r. ⌜ r ≡ xor x y ⌝ }
-{
-    x ^ y
-}
-
-fn double(x: u8) -> u8
-    ensures { λ r. ⌜ r ≡ doubled 8 285 x ⌝ }
-{
-    (x << 1) ^ (29 * (x >> 7))
-}
-
-// x where y is odd.
-fn part(x: u8, y: u8) -> u8
-    ensures { λ r. ⌜ r ≡ scale (y % 2) x ⌝ }
-{
-    if y % 2 < 1 { 0 } else { x }
-}
-
-pub(crate) fn product(x: u8, y: u8) -> u8
-    ensures { λ r. ⌜ r ≡ timesC x y ⌝ }
-{
-    let mut a = x;
-    let mut b = y;
-    let mut r: u8 = 0;
-    let mut i: usize = 0;
-    while i < 8 {
-        r = plus(r, part(a, b));
-        a = double(a);
-        b = b / 2;
-        i += 1;
-    }
-    r
-}
-
-// Registers before the first column.
-pub fn empty() -> [u8; CELLS]
-    ensures { λ r. ⌜ (r ≡ tabulate 272 (λ i. 0)) × (length r ≡ 272) ⌝ }
-{
-    [0; CELLS]
-}
 
 fn leading(r: &[u8; CELLS], row: &[u8], from: usize) -> [u8; WORDS]
     requires { ⌜ from + 16 ≤ length (now row) ⌝ }
@@ -213,7 +166,7 @@ fn add(out: &[u8; LEFT], r: &mut [u8; CELLS])
 }
 
 // The registers after the 239 columns of data from a place on: the parity bytes.
-pub fn divide(row: &[u8], from: usize, r: &mut [u8; CELLS])
+pub(crate) fn divide(row: &[u8], from: usize, r: &mut [u8; CELLS])
     requires { ⌜ (from + 3824 ≤ length (now row)) × (now r ≡ tabulate 272 (λ i. 0)) × (length (now r) ≡ 272) ⌝ }
     ensures { λ _. ⌜ (now (r .exit) ≡ rowDivided (now (row .entry)) from 239) × (length (now (r .exit)) ≡ 272) ⌝ }
 {
@@ -238,58 +191,10 @@ fn add_parity(row: &[u8], from: usize, r: &mut [u8; CELLS])
 }
 
 // The remainders of the sixteen words of the row from a place on. A word's values at the roots are those of its remainder.
-pub fn remainders(row: &[u8], from: usize, r: &mut [u8; CELLS])
+pub(crate) fn remainders(row: &[u8], from: usize, r: &mut [u8; CELLS])
     requires { ⌜ (from + 4080 ≤ length (now row)) × (now r ≡ tabulate 272 (λ i. 0)) × (length (now r) ≡ 272) ⌝ }
     ensures { λ _. ⌜ (now (r .exit) ≡ rowRemainders (now (row .entry)) from) × (length (now (r .exit)) ≡ 272) ⌝ }
 {
     divide(row, from, r);
     add_parity(row, from + 3824, r);
-}
-
-fn wide(x: u8) -> u16
-    ensures { λ r. ⌜ r ≡ x ⌝ }
-{
-    x as u16
-}
-
-pub(crate) fn narrow(x: u16) -> u8
-    requires { ⌜ x < 256 ⌝ }
-    ensures { λ r. ⌜ r ≡ x ⌝ }
-{
-    x as u8
-}
-
-// What sixteen columns hold of word k.
-pub(crate) fn lane(rest: &[u8; CELLS], k: usize) -> [u16; WORDS]
-    requires { ⌜ k < 16 ⌝ }
-    ensures { λ r. ⌜ r ≡ laneOf (now (rest .entry)) k ⌝ }
-{
-    let mut cells = [0u16; WORDS];
-    let mut i: usize = 0;
-    while i < WORDS {
-        cells[i] = wide(rest[WORDS * i + k]);
-        i += 1;
-    }
-    cells
-}
-
-// d where x and y are equal, else 1.
-fn difference(d: u8, x: u8, y: u8) -> u8
-    ensures { λ r. ⌜ eqb r 0 ≡ eqb d 0 && eqb x y ⌝ }
-{
-    if x == y { d } else { 1 }
-}
-
-// The first n bytes of a are those of b from a place on.
-pub(crate) fn agree(a: &[u8], b: &[u8], from: usize, n: usize) -> bool
-    requires { ⌜ (n ≤ length (now a)) × (from + n ≤ length (now b)) ⌝ }
-    ensures { λ r. ⌜ r ≡ agree (now (a .entry)) (now (b .entry)) from n ⌝ }
-{
-    let mut d: u8 = 0;
-    let mut i: usize = 0;
-    while i < n {
-        d = difference(d, a[i], b[from + i]);
-        i += 1;
-    }
-    d == 0
 }

@@ -1,7 +1,7 @@
 // RS(255,239) frames of G.709 for the older terminals, and single rows of them: encoder, checker, extractor and corrector.
 //
 // A row has 4,080 bytes: sixteen Reed-Solomon words over field C, byte j in word j mod 16, so that a column of sixteen bytes is one byte of each word. A frame has four rows.
-//     encode   the sixteen words of a row are divided by the generator at once, a column at a step; what is left is the parity (module division)
+//     encode   the sixteen words of a row are divided by the generator at once, a column at a step; what is left is the parity (modules columns and division)
 //     check    the parity of a row's data is compared with the parity that stands there
 //     extract  the data of the rows, if the block passes that check
 //     correct  a word's remainder gives its syndromes (module syndromes), from which the decoder finds the errors (module corrector; in a row with many of them their places
@@ -15,6 +15,7 @@ ghost use Rattle.g709.specs.Answers.{rowEncoded, rowChecked, rowExtracte
 
 mod block;
 mod c_entries;
+mod columns;
 mod corrector;
 mod division;
 mod locators;

@@ -1,8 +1,8 @@
 // The locator polynomials of the sixteen words of a row, side by side, so that their roots are found by columns. This pays where many words have several
 // wrong bytes.
-use crate::division;
-use crate::division::CELLS;
-use crate::division::WORDS;
+use crate::columns;
+use crate::columns::CELLS;
+use crate::columns::WORDS;
 use crate::root_columns;
 use crate::root_columns::TERMS;
 use crate::root_columns::VALUES;
@@ -35,7 +35,7 @@ fn set_polynomial(terms: &mut [u8; TERMS], k: usize, polynomial: [u16; COEFFICIE
 {
     let mut d: usize = 0;
     while d < COEFFICIENTS {
-        terms[WORDS * d + k] = division::narrow(polynomial[d]);
+        terms[WORDS * d + k] = columns::narrow(polynomial[d]);
         d += 1;
     }
 }
@@ -46,7 +46,7 @@ fn set_locator(exp: &[u16], log: &[u16], s: &[u8; CELLS], k: usize, terms: &mut 
     requires { ⌜ (k < 16) × (length (now terms) ≡ 144) ⌝ }
     ensures { λ _. ⌜ LocatorSet (now (s .entry)) k (now (terms .entry)) (now (terms .exit)) ⌝ }
 {
-    let t = division::lane(s, k);
+    let t = columns::lane(s, k);
     let polynomial = annihilator::annihilator(exp, log, t);
     set_polynomial(terms, k, polynomial);
 }
@@ -123,7 +123,7 @@ fn several(x: u8, y: u8, z: u8) -> usize
     if y == 0 {
         return 0;
     }
-    if division::product(y, y) == division::product(x, z) {
+    if columns::product(y, y) == columns::product(x, z) {
         return 0;
     }
     1

@@ -1,7 +1,7 @@
 // Values of sixteen polynomials at all powers of a, a column of sixteen bytes at a step, as the division of a row goes. From one power to the next the coefficient of x^d
 // is multiplied by a^d, a constant that is written out; the sum of the nine columns is the column of values.
-use crate::division::WORDS;
-use crate::division::product;
+use crate::columns::WORDS;
+use crate::columns::product;
 ghost use mathlib.Core.Path.{_≡_};
 ghost use Prim.Native.Nat.{_+_, _*_, _<_};
 ghost use lib.ListN.{length};

@@ -1,10 +1,10 @@
 // The syndromes of the sixteen words of a row: the values of their remainders at the sixteen roots, a column of sixteen bytes at a step. Value j of word k is byte 16 j + k,
 // as the remainders stand. Products are by constants that are written out.
-use crate::division::CELLS;
-use crate::division::WORDS;
-use crate::division::agree;
-use crate::division::plus;
-use crate::division::product;
+use crate::columns::CELLS;
+use crate::columns::WORDS;
+use crate::columns::agree;
+use crate::columns::plus;
+use crate::columns::product;
 ghost use mathlib.Core.Path.{_≡_};
 ghost use Prim.Native.Nat.{_+_, _<_};
 ghost use lib.ListN.{length};

@@ -1,7 +1,7 @@
 -- `g709::division::add` meets its contract. Assumes nothing.
 use native.Mathlib.Omega.{arith}
 use mathlib.Core.Path.{_≡_}
-use Prim.Native.Nat.{_+_, _-_, _≤_}
+use Prim.Native.Nat.{_+_, _-_}
 use lib.ListN.{length}
 use Rattle.fields.specs.Elements.{xor}
 use Rattle.fields.specs.Places.{at}

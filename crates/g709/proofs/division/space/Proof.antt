@@ -1,6 +1,5 @@
 -- `g709::division::space` meets its contract. Assumes nothing.
 use Rattle.g709.proofs.Lanes.{zeros-table, zeros-length}
-use borrow.Author.Needs.{needs}
 use Rattle.g709.proofs.division.space.Statement.{statement}
 use Rattle.g709.proofs.division.space.Tie as tie
 

@@ -1,9 +1,9 @@
--- `g709::division::double` meets its contract. Assumes nothing.
+-- `g709::columns::double` meets its contract. Assumes nothing.
 use Rattle.fields.specs.Elements.{xor}
 use Rattle.g709.proofs.ByteProducts.{double-is}
 use borrow.Author.Needs.{needs}
-use Rattle.g709.proofs.division.double.Statement.{statement}
-use Rattle.g709.proofs.division.double.Tie as tie
+use Rattle.g709.proofs.columns.double.Statement.{statement}
+use Rattle.g709.proofs.columns.double.Tie as tie
 
 mul-result : tie.Need-mul-result
 mul-result c = search needs

@@ -1,8 +1,8 @@
--- `g709::division::part` meets its contract. Assumes nothing.
+-- `g709::columns::part` meets its contract. Assumes nothing.
 use Rattle.g709.proofs.ByteProducts.{part-none, part-all}
 use borrow.Author.Needs.{needs}
-use Rattle.g709.proofs.division.part.Statement.{statement}
-use Rattle.g709.proofs.division.part.Tie as tie
+use Rattle.g709.proofs.columns.part.Statement.{statement}
+use Rattle.g709.proofs.columns.part.Tie as tie
 
 returns : tie.Need-returns
 returns c = search (needs, part-none)

@@ -1,17 +1,17 @@
--- `g709::division::lane` meets its contract. Assumes nothing.
+-- `g709::columns::lane` meets its contract. Assumes nothing.
 use Prim.Native.Nat.{_+_, _-_, _*_}
 use Rattle.fields.specs.Places.{at}
 use Rattle.fields.proofs.Places.Filling.{Filled, filled-start, filled-next}
 use Rattle.g709.proofs.Correcting.{lane-end}
 use borrow.Author.Needs.{needs}
-use Rattle.g709.proofs.division.lane.Statement.{statement}
-use Rattle.g709.proofs.division.lane.Tie as tie
+use Rattle.g709.proofs.columns.lane.Statement.{statement}
+use Rattle.g709.proofs.columns.lane.Tie as tie
 
 abbrev Inv-loop : tie.InvT-loop
-Inv-loop rest k cells₀ i₀ cells i = Filled 16 (λ j. at rest (16 * j + k)) i cells
+Inv-loop columns k cells₀ i₀ cells i = Filled 16 (λ j. at columns (16 * j + k)) i cells
 
 abbrev μ-loop : tie.MeasureT-loop
-μ-loop rest k cells₀ i₀ cells i = 16 - i
+μ-loop columns k cells₀ i₀ cells i = 16 - i
 
 loop-holds : tie.Need-loop-holds Inv-loop μ-loop
 loop-holds c = search (needs, filled-start)

@@ -1,4 +1,4 @@
--- `g709::division::agree` meets its contract. Assumes nothing.
+-- `g709::columns::agree` meets its contract. Assumes nothing.
 use mathlib.Core.Path.{_≡_}
 use Prim.Native.Nat.{_+_, _-_, _≤_}
 use lib.Dec.{eqb}
@@ -6,8 +6,8 @@ use lib.ListN.{length}
 use Rattle.g709.specs.Steps.Registers.{agree}
 use Rattle.g709.proofs.RowSteps.{agree-start, agree-next, agree-end}
 use borrow.Author.Needs.{needs}
-use Rattle.g709.proofs.division.agree.Statement.{statement}
-use Rattle.g709.proofs.division.agree.Tie as tie
+use Rattle.g709.proofs.columns.agree.Statement.{statement}
+use Rattle.g709.proofs.columns.agree.Tie as tie
 
 abbrev Inv-loop : tie.InvT-loop
 Inv-loop a b from n d₀ i₀ d i = (i ≤ n) × (n ≤ length a) × (from + n ≤ length b) × (eqb d 0 ≡ agree a b from i)

@@ -1,11 +1,11 @@
--- `g709::division::product` meets its contract. Assumes nothing.
+-- `g709::columns::product` meets its contract. Assumes nothing.
 use mathlib.Core.Path.{_≡_}
 use Prim.Native.Nat.{_-_, _≤_}
 use Rattle.fields.specs.Elements.{timesC}
 use Rattle.g709.proofs.ByteProducts.{soFar, product-start, product-next, product-end}
 use borrow.Author.Needs.{needs}
-use Rattle.g709.proofs.division.product.Statement.{statement}
-use Rattle.g709.proofs.division.product.Tie as tie
+use Rattle.g709.proofs.columns.product.Statement.{statement}
+use Rattle.g709.proofs.columns.product.Tie as tie
 
 abbrev Inv-loop : tie.InvT-loop
 Inv-loop x y a₀ b₀ r₀ i₀ a b r i = (i ≤ 8) × (timesC x y ≡ soFar r (8 - i) a b)

@@ -1,8 +1,8 @@
--- `g709::division::plus` meets its contract. Assumes nothing.
+-- `g709::columns::plus` meets its contract. Assumes nothing.
 use Rattle.fields.specs.Elements.{xor}
 use borrow.Author.Needs.{needs}
-use Rattle.g709.proofs.division.plus.Statement.{statement}
-use Rattle.g709.proofs.division.plus.Tie as tie
+use Rattle.g709.proofs.columns.plus.Statement.{statement}
+use Rattle.g709.proofs.columns.plus.Tie as tie
 
 returns : tie.Need-returns
 unfolding xor

@@ -1,8 +1,7 @@
--- `g709::division::difference` meets its contract. Assumes nothing.
+-- `g709::columns::difference` meets its contract. Assumes nothing.
 use Rattle.g709.proofs.RowSteps.{difference-none, difference-some}
-use borrow.Author.Needs.{needs}
-use Rattle.g709.proofs.division.difference.Statement.{statement}
-use Rattle.g709.proofs.division.difference.Tie as tie
+use Rattle.g709.proofs.columns.difference.Statement.{statement}
+use Rattle.g709.proofs.columns.difference.Tie as tie
 
 returns : tie.Need-returns
 returns c = difference-none (c .before .args .d) (c .before .args .x) (c .before .args .y) (c .if1 .taken)

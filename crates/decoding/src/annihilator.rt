@@ -4,7 +4,7 @@ ghost use Rattle.std.specs.Prelude.{◌≡◌, true, ℕ, ◌+◌, ◌-◌, ◌�
 ghost use Rattle.fields.specs.Lists.{tabulate};
 ghost use Rattle.fields.specs.Places.{at};
 ghost use Rattle.decoding.specs.Steps.Decoder.{Tables};
-ghost use Rattle.decoding.specs.Steps.Annihilator.{Annihilates, powerRow, PlusPart, Zeros, cellCleared, cells_of, reduced, FirstNonzero, convolved, plusShifted, adjusted, berlekampMasseyStep, berlekampMassey, reversedAt};
+ghost use Rattle.decoding.specs.Steps.Annihilator.{Annihilates, power_row, PlusPart, Zeros, cell_cleared, cells_of, reduced, FirstNonzero, convolved, plus_shifted, adjusted, berlekamp_massey_step, berlekamp_massey, reversed_at};
 
 use crate::{COEFFICIENTS, RADIUS, SYNDROMES, symbols};
 
@@ -20,7 +20,7 @@ pub struct Row {
 // The row of the polynomial x^d. Times 1: an element, whatever number t holds there.
 fn power_row(exp: &[u16], log: &[u16], t: [u16; SYNDROMES], d: usize) -> Row
     requires { d < 9 }
-    ensures { result.cells ≡ powerRow exp.now log.now t d }
+    ensures { result.cells ≡ power_row exp.now log.now t d }
 {
     let mut cells = [0u16; CELLS];
     let mut i: usize = 0;
@@ -51,7 +51,7 @@ fn plus_scaled(exp: &[u16], log: &[u16], u: Row, c: u16, v: Row, from: usize, to
 fn cell_cleared(exp: &[u16], log: &[u16], u: Row, v: Row, j: usize, top: usize) -> Row
     requires j_bound { (j < 8) × (8 ≤ top) × (top ≤ 17) }
     requires zeros { Zeros v.cells j top }
-    ensures { result.cells ≡ cellCleared exp.now log.now u.cells v.cells j }
+    ensures { result.cells ≡ cell_cleared exp.now log.now u.cells v.cells j }
 {
     let c = fields::product(exp, log, u.cells[j], fields::inverse(exp, log, v.cells[j]));
     if c == 0 {
@@ -162,7 +162,7 @@ fn plus_shifted(
     s: usize,
 ) -> [u16; COEFFICIENTS]
     requires { s ≤ 16 }
-    ensures { result ≡ plusShifted exp.now log.now c f p s (9 - s) }
+    ensures { result ≡ plus_shifted exp.now log.now c f p s (9 - s) }
 {
     let mut r = c;
     let mut k: usize = 0;
@@ -208,7 +208,7 @@ fn berlekamp_massey_step(
     n: usize,
 ) -> Recurrence
     requires { (n < 16) × (s.order ≤ n) × (s.since ≤ n) }
-    ensures { (result ≡ berlekampMasseyStep exp.now log.now t n s) × (result.order ≤ n + 1) × (result.since ≤ n + 1) }
+    ensures { (result ≡ berlekamp_massey_step exp.now log.now t n s) × (result.order ≤ n + 1) × (result.since ≤ n + 1) }
 {
     let d = convolved(exp, log, &s.coefficients, &t, n, s.order + 1);
     if d == 0 {
@@ -218,7 +218,7 @@ fn berlekamp_massey_step(
 }
 
 fn shortest_recurrence(exp: &[u16], log: &[u16], t: [u16; SYNDROMES]) -> Recurrence
-    ensures { (result ≡ berlekampMassey exp.now log.now t 16) × (result.order ≤ 16) }
+    ensures { (result ≡ berlekamp_massey exp.now log.now t 16) × (result.order ≤ 16) }
 {
     let mut s = Recurrence {
         coefficients: [1, 0, 0, 0, 0, 0, 0, 0, 0],
@@ -239,7 +239,7 @@ fn shortest_recurrence(exp: &[u16], log: &[u16], t: [u16; SYNDROMES]) -> Recurre
 // polynomial; the test decides on what stands there then.
 fn reversed_at(c: [u16; COEFFICIENTS], order: usize, k: usize) -> u16
     requires { (order ≤ 16) × (k < 9) }
-    ensures { result ≡ reversedAt c order k }
+    ensures { result ≡ reversed_at c order k }
 {
     if k + order < RADIUS {
         return 0;
@@ -249,7 +249,7 @@ fn reversed_at(c: [u16; COEFFICIENTS], order: usize, k: usize) -> u16
 
 fn reversed(s: Recurrence) -> [u16; COEFFICIENTS]
     requires { s.order ≤ 16 }
-    ensures { result ≡ tabulate 9 (reversedAt s.coefficients s.order) }
+    ensures { result ≡ tabulate 9 (reversed_at s.coefficients s.order) }
 {
     let c = s.coefficients;
     let mut v = [0u16; COEFFICIENTS];

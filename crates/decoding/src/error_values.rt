@@ -2,10 +2,10 @@
 // value; then the error's own syndromes are taken away. In a word of bits the values are known, and tried first.
 ghost use Rattle.std.specs.Prelude.{◌≡◌, ℕ, ◌≤◌, ◌<◌, length};
 ghost use Rattle.fields.specs.Elements.{xor};
-ghost use Rattle.fields.specs.Steps.ByTables.{tableProduct};
+ghost use Rattle.fields.specs.Steps.ByTables.{table_product};
 ghost use Rattle.fields.specs.Places.{at};
 ghost use Rattle.decoding.specs.Steps.Decoder.{Tables, Decoded};
-ghost use Rattle.decoding.specs.Steps.ErrorValues.{filtered, errorValue, lessError, resolved, Located, lessPowers, flipped, flippedTo};
+ghost use Rattle.decoding.specs.Steps.ErrorValues.{filtered, error_value, less_error, resolved, Located, less_powers, flipped, flipped_to};
 
 use crate::exponents::plus;
 use crate::root_search::Places;
@@ -36,7 +36,7 @@ struct Filter {
 
 // The powers of y are filtered out too; x is the other locator.
 fn extended(exp: &[u16], log: &[u16], f: Filter, x: u16, y: u16) -> Filter
-    ensures { (result.sequence ≡ filtered exp.now log.now y f.sequence) × (result.factor ≡ tableProduct exp.now log.now f.factor (xor x y)) }
+    ensures { (result.sequence ≡ filtered exp.now log.now y f.sequence) × (result.factor ≡ table_product exp.now log.now f.factor (xor x y)) }
 {
     let t = f.sequence;
     let sequence = filtered(exp, log, y, t);
@@ -56,7 +56,7 @@ fn error_value(
     k: usize,
 ) -> u16
     requires { (n < 65536) × (k < 8) }
-    ensures { result ≡ errorValue exp.now log.now n places.at t k }
+    ensures { result ≡ error_value exp.now log.now n places.at t k }
 {
     let x = locator(exp, n, places.at[k] as usize);
     let mut f = Filter {
@@ -73,7 +73,7 @@ fn error_value(
 
 // The syndromes t, with those of the error v at the locator x taken away.
 fn less_error(exp: &[u16], log: &[u16], x: u16, v: u16, t: [u16; SYNDROMES]) -> [u16; SYNDROMES]
-    ensures { result ≡ lessError exp.now log.now x v t }
+    ensures { result ≡ less_error exp.now log.now x v t }
 {
     let mut s = [0u16; SYNDROMES];
     let mut c = v;
@@ -136,7 +136,7 @@ pub fn valued(exp: &[u16], log: &[u16], n: usize, t: [u16; SYNDROMES], places: P
 // The syndromes t, with those of the error a^e at the locator a^e taken away.
 fn less_powers(exp: &[u16], e: usize, t: [u16; SYNDROMES]) -> [u16; SYNDROMES]
     requires { (e < length exp.now) × (length exp.now ≤ 65536) }
-    ensures { result ≡ lessPowers exp.now e t }
+    ensures { result ≡ less_powers exp.now e t }
 {
     let mut s = [0u16; SYNDROMES];
     let mut k = e;
@@ -172,7 +172,7 @@ fn flipped(exp: &[u16], n: usize, e: Errors, k: usize) -> Errors
 fn all_flipped(exp: &[u16], n: usize, t: [u16; SYNDROMES], places: Places) -> Errors
     requires n_in_bounds { (n ≤ length exp.now) × (length exp.now ≤ 65536) }
     requires count_bound { (places.count ≤ 8) × ((k : ℕ) → k < places.count → at places.at k < n) }
-    ensures { result ≡ flippedTo exp.now n t places places.count }
+    ensures { result ≡ flipped_to exp.now n t places places.count }
 {
     let mut e = Errors {
         places,

@@ -1,11 +1,11 @@
 // Exponents of a, counted modulo its order n: by one comparison and one subtraction, for the crates above too.
 ghost use Rattle.std.specs.Prelude.{◌≡◌, ◌+◌, ◌%◌, ◌≤◌, ◌<◌};
-ghost use Rattle.decoding.specs.Steps.RootSearch.{lessModulo};
+ghost use Rattle.decoding.specs.Steps.RootSearch.{less_modulo};
 
 // e - d, counted modulo n.
 pub(crate) fn less(n: usize, e: usize, d: usize) -> usize
     requires { (e < n) × (d < n) }
-    ensures { result ≡ lessModulo n e d }
+    ensures { result ≡ less_modulo n e d }
 {
     if e < d { e + (n - d) } else { e - d }
 }

@@ -9,8 +9,8 @@
 // annihilates will do: the values tell which of its roots are errors. The modules `symbols` and `exponents` have what these steps do with single symbols. The laws behind
 // it, power sums, locators and the minimum distance, are in proofs/Algebra; those of the decoder in proofs/Decoding.
 ghost use Rattle.std.specs.Prelude.{◌≡◌, ◌%◌, ◌≤◌, ◌<◌, length};
-ghost use Rattle.fields.specs.Elements.{powersB};
-ghost use Rattle.decoding.specs.Steps.Decoder.{Tables, locator, Decoded, changeBetween, weightBetween};
+ghost use Rattle.fields.specs.Elements.{powers_b};
+ghost use Rattle.decoding.specs.Steps.Decoder.{Tables, locator, Decoded, change_between, weight_between};
 ghost use Rattle.decoding.specs.Steps.PowerTables.{PowerTables};
 
 use crate::error_values::Errors;
@@ -72,7 +72,7 @@ pub fn decode_bits_by_tables(
 ) -> Errors
     requires tables { Tables exp.now log.now }
     requires n_in_bounds { (n ≤ length exp.now) × (n < 65536) × (n % 40 ≡ 0) × (length exp.now ≡ 2047) }
-    requires exp_value { (exp.now ≡ powersB) × PowerTables exp.now tables.old }
+    requires exp_value { (exp.now ≡ powers_b) × PowerTables exp.now tables.old }
     ensures decoded { Decoded exp.now log.now t n result.places.at result.values result.places.count result.left }
     ensures power_tables { PowerTables exp.now tables.new }
 {
@@ -83,7 +83,7 @@ pub fn decode_bits_by_tables(
 
 // 1 for an error that is not zero at a place from `from` on and before `to`.
 fn changes(place: usize, value: u16, from: usize, to: usize) -> u16
-    ensures { (result ≡ changeBetween from to place value) × (result ≤ 1) }
+    ensures { (result ≡ change_between from to place value) × (result ≤ 1) }
 {
     if place < from {
         return 0;
@@ -97,7 +97,7 @@ fn changes(place: usize, value: u16, from: usize, to: usize) -> u16
 // How many of the errors at places from `from` on and before `to` are not zero: the number of places there that they change.
 pub fn weight(e: Errors, from: usize, to: usize) -> u16
     requires { e.places.count ≤ 8 }
-    ensures { result ≡ weightBetween from to e.places.at e.values e.places.count }
+    ensures { result ≡ weight_between from to e.places.at e.values e.places.count }
 {
     let places = e.places;
     let mut n: u16 = 0;

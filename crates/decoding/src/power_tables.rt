@@ -2,11 +2,11 @@
 // the other, so that the values of a term at neighbouring places are neighbours there, and the values of a polynomial at 40 places are eight runs of entries added.
 ghost use Rattle.std.specs.Prelude.{◌≡◌, cond, List, ℕ, ◌+◌, ◌-◌, ◌*◌, ◌%◌, ◌≤◌, ◌<◌, eqb, length};
 ghost use Rattle.fields.specs.Lists.{tabulate};
-ghost use Rattle.fields.specs.Elements.{powersB};
+ghost use Rattle.fields.specs.Elements.{powers_b};
 ghost use Rattle.fields.specs.Places.{at};
 ghost use Rattle.decoding.specs.Steps.Decoder.{Tables};
 ghost use Rattle.decoding.specs.Steps.RootSearch.{Roots, kept};
-ghost use Rattle.decoding.specs.Steps.PowerTables.{PowerTables, TableFilled, near, far, blockSum, stored, withSums, reciprocals, tableBase, tableStart, tableBases, tableStarts, tablePosition, Inside, fourAt, eightAt, tablesSum, kept_to, TablesFor};
+ghost use Rattle.decoding.specs.Steps.PowerTables.{PowerTables, TableFilled, near, far, block_sum, stored, with_sums, reciprocals, table_base, table_start, table_bases, table_starts, table_position, Inside, four_at, eight_at, tables_sum, kept_to, TablesFor};
 
 use crate::annihilator::leading_zeros;
 use crate::exponents::{less, plus};
@@ -81,7 +81,7 @@ fn start_table(exp: &[u16], tables: &mut [u16], d: usize)
 
 fn block_sums(tables: &[u16], a: usize, b: usize) -> [u16; BLOCK]
     requires { (a + 40 ≤ length tables.now) × (b + 40 ≤ length tables.now) }
-    ensures { result ≡ tabulate 40 (blockSum tables.now a b) }
+    ensures { result ≡ tabulate 40 (block_sum tables.now a b) }
 {
     let mut sums = [0u16; BLOCK];
     let mut l: usize = 0;
@@ -106,7 +106,7 @@ fn store_block(tables: &mut [u16], s: usize, block: [u16; BLOCK])
 // The sums are taken first and stored then: in one loop they would be taken one by one, since each might change the next.
 fn add_block(tables: &mut [u16], s: usize, p: usize, q: usize)
     requires { (s + 40 ≤ length tables.old) × (p ≤ s) × (q ≤ s) }
-    ensures { tables.new ≡ withSums tables.old s p q }
+    ensures { tables.new ≡ with_sums tables.old s p q }
 {
     let sums = block_sums(tables, s - p, s - q);
     store_block(tables, s, sums);
@@ -114,8 +114,8 @@ fn add_block(tables: &mut [u16], s: usize, p: usize, q: usize)
 
 // The other entries of table d.
 fn finish_table(tables: &mut [u16], d: usize)
-    requires { (length tables.old ≡ 18784) × (0 < d) × (d ≤ 8) × TableFilled powersB tables.old d 167 tables.old }
-    ensures { TableFilled powersB tables.old d 2087 tables.new }
+    requires { (length tables.old ≡ 18784) × (0 < d) × (d ≤ 8) × TableFilled powers_b tables.old d 167 tables.old }
+    ensures { TableFilled powers_b tables.old d 2087 tables.new }
 {
     let p = near(d);
     let q = far(d);
@@ -128,7 +128,7 @@ fn finish_table(tables: &mut [u16], d: usize)
 
 // Fills table d, the first that is missing.
 fn fill_table(exp: &[u16], tables: &mut [u16], d: usize)
-    requires exp_value { exp.now ≡ powersB }
+    requires exp_value { exp.now ≡ powers_b }
     requires power_tables { PowerTables exp.now tables.old × (d ≤ 8) × (d ≡ at tables.old 18783 + 1) }
     ensures { PowerTables exp.now tables.new × (at tables.new 18783 ≡ d) }
 {
@@ -139,7 +139,7 @@ fn fill_table(exp: &[u16], tables: &mut [u16], d: usize)
 
 // Fills the tables up to that of the degree that are missing.
 fn need_tables(exp: &[u16], tables: &mut [u16], degree: usize)
-    requires exp_value { exp.now ≡ powersB }
+    requires exp_value { exp.now ≡ powers_b }
     requires power_tables { PowerTables exp.now tables.old × (degree ≤ 8) }
     ensures { PowerTables exp.now tables.new × (degree ≤ at tables.new 18783) }
 {
@@ -180,14 +180,14 @@ fn folded(x: usize) -> usize
 
 fn table_base(c: u16, d: usize) -> usize
     requires { d < 9 }
-    ensures { result ≡ tableBase c d }
+    ensures { result ≡ table_base c d }
 {
     if c == 0 { 0 } else { TABLE_ENTRIES * d }
 }
 
 fn table_start(log: &[u16], c: u16, d: usize, n: usize) -> usize
     requires { (d < 9) × (n ≤ 2047) }
-    ensures { result ≡ tableStart log.now c d n }
+    ensures { result ≡ table_start log.now c d n }
 {
     if c == 0 {
         return 0;
@@ -205,7 +205,7 @@ struct TermTables {
 
 fn tables_of(log: &[u16], polynomial: [u16; COEFFICIENTS], n: usize) -> TermTables
     requires { n ≤ 2047 }
-    ensures { (result.bases ≡ tableBases polynomial) × (result.starts ≡ tableStarts log.now polynomial n) }
+    ensures { (result.bases ≡ table_bases polynomial) × (result.starts ≡ table_starts log.now polynomial n) }
 {
     let mut bases = [0usize; RADIUS];
     let mut starts = [0usize; RADIUS];
@@ -223,14 +223,14 @@ fn tables_of(log: &[u16], polynomial: [u16; COEFFICIENTS], n: usize) -> TermTabl
 fn position(s: TermTables, i: usize, d: usize) -> usize
     requires d_bound { (d < 8) × (i < 2047) }
     requires by_index { ((k : ℕ) → at s.bases k ≤ 16696) × ((k : ℕ) → at s.starts k < 2047) }
-    ensures { (result ≡ tablePosition s.bases s.starts i d) × (result + 40 ≤ 18784) }
+    ensures { (result ≡ table_position s.bases s.starts i d) × (result + 40 ≤ 18784) }
 {
     s.bases[d] + plus(ORDER, s.starts[d], i)
 }
 
 fn four(tables: &[u16], a: usize, b: usize, c: usize, d: usize, l: usize) -> u16
     requires { Inside tables.now a b c d × (l < 40) }
-    ensures { result ≡ fourAt tables.now a b c d l }
+    ensures { result ≡ four_at tables.now a b c d l }
 {
     symbols::sum(
         symbols::sum(tables[a + l], tables[b + l]),
@@ -251,7 +251,7 @@ fn eight(
     l: usize,
 ) -> u16
     requires { Inside tables.now a b c d × Inside tables.now e f g h × (l < 40) }
-    ensures { result ≡ eightAt tables.now a b c d e f g h l }
+    ensures { result ≡ eight_at tables.now a b c d e f g h l }
 {
     symbols::sum(four(tables, a, b, c, d, l), four(tables, e, f, g, h, l))
 }
@@ -277,7 +277,7 @@ fn any(
     x: u16,
 ) -> u16
     requires { Inside tables.now a b c d × Inside tables.now e f g h }
-    ensures { result ≡ 0 → (l : ℕ) → l < 40 → eightAt tables.now a b c d e f g h l ≡ x → ⊥ }
+    ensures { result ≡ 0 → (l : ℕ) → l < 40 → eight_at tables.now a b c d e f g h l ≡ x → ⊥ }
 {
     let mut z: u16 = 0;
     let mut l: usize = 0;
@@ -315,7 +315,7 @@ fn kept_of(
 ) -> Places
     requires inside { Inside tables.now a b c d × Inside tables.now e f g h }
     requires count_bound { (places.count ≤ 8) × (i < 2047) }
-    ensures { result ≡ kept_to (eightAt tables.now a b c d e f g h) x i places 40 }
+    ensures { result ≡ kept_to (eight_at tables.now a b c d e f g h) x i places 40 }
 {
     let mut p = places;
     let mut l: usize = 0;
@@ -330,7 +330,7 @@ fn kept_of(
 fn block(tables: &[u16], s: TermTables, x: u16, places: Places, i: usize) -> Places
     requires tables_len { (length tables.now ≡ 18784) × (places.count ≤ 8) × (i < 2047) }
     requires by_index { ((k : ℕ) → at s.bases k ≤ 16696) × ((k : ℕ) → at s.starts k < 2047) }
-    ensures { result ≡ kept_to (tablesSum tables.now s.bases s.starts i) x i places 40 }
+    ensures { result ≡ kept_to (tables_sum tables.now s.bases s.starts i) x i places 40 }
 {
     let a = position(s, i, 0);
     let b = position(s, i, 1);
@@ -383,7 +383,7 @@ pub(crate) fn roots_by_tables(
     requires tables { Tables exp.now log.now }
     requires n_in_bounds { (n ≤ length exp.now) × (n < 65536) × (n % 40 ≡ 0) × (length exp.now ≡ 2047) }
     requires by_index { (k : ℕ) → at polynomial k < length log.now }
-    requires exp_value { (exp.now ≡ powersB) × PowerTables exp.now tables.old }
+    requires exp_value { (exp.now ≡ powers_b) × PowerTables exp.now tables.old }
     ensures roots { Roots exp.now log.now polynomial n n result.at result.count }
     ensures power_tables { PowerTables exp.now tables.new }
 {

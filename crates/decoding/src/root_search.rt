@@ -3,7 +3,7 @@
 ghost use Rattle.std.specs.Prelude.{◌≡◌, ℕ, ◌≤◌, ◌<◌, length};
 ghost use Rattle.fields.specs.Places.{at};
 ghost use Rattle.decoding.specs.Steps.Decoder.{Tables};
-ghost use Rattle.decoding.specs.Steps.RootSearch.{Roots, withTerm, termsTo, Exponents, powersTo, lowered, FirstRoot, quotient_of, kept};
+ghost use Rattle.decoding.specs.Steps.RootSearch.{Roots, with_term, terms_to, Exponents, powers_to, lowered, FirstRoot, quotient_of, kept};
 
 use crate::annihilator::leading_zeros;
 use crate::exponents::less;
@@ -21,7 +21,7 @@ struct Terms {
 // The terms with one more, if its value is not zero. From one place to the next it is divided by that power of a.
 fn with_term(log: &[u16], t: Terms, value: u16, power: u16) -> Terms
     requires { t.count < 9 }
-    ensures { result ≡ withTerm log.now value power t }
+    ensures { result ≡ with_term log.now value power t }
 {
     if value == 0 {
         return t;
@@ -40,7 +40,7 @@ fn with_term(log: &[u16], t: Terms, value: u16, power: u16) -> Terms
 
 // The terms at the locator x.
 fn terms_at(exp: &[u16], log: &[u16], polynomial: [u16; COEFFICIENTS], x: u16) -> Terms
-    ensures { result ≡ termsTo exp.now log.now polynomial x 9 }
+    ensures { result ≡ terms_to exp.now log.now polynomial x 9 }
 {
     let mut t = Terms {
         exponents: [0usize; COEFFICIENTS],
@@ -62,7 +62,7 @@ fn terms_at(exp: &[u16], log: &[u16], polynomial: [u16; COEFFICIENTS], x: u16) -
 fn next_value(exp: &[u16], exponents: &mut [usize], steps: &[usize], count: usize) -> u16
     requires exponents { Exponents exp.now count exponents.old }
     requires exponents_2 { Exponents exp.now count steps.now }
-    ensures value { result ≡ powersTo exp.now exponents.old count }
+    ensures value { result ≡ powers_to exp.now exponents.old count }
     ensures exponents_after { exponents.new ≡ lowered (length exp.now) exponents.old steps.now count }
 {
     let mut v: u16 = 0;

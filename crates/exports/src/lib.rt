@@ -2,13 +2,13 @@
 // G.709 frames and rows with their counts, the worst list of any counts, and chains of products through tables that are bound once and lent. An answer of more than
 // one number comes packed into one, and a list in a buffer that is lent.
 ghost use Rattle.std.specs.Prelude.{◌≡◌, ◌+◌, ◌≤◌};
-ghost use Rattle.fields.specs.Elements.{powersA, exponentsA, powersB, exponentsB, powersC, exponentsC};
-ghost use Rattle.words.specs.Answers.{outerChecked, outerEncoded, innerChecked, innerEncoded, refusalOf, changedOf, innerRefusalOf, dataChangedOf, parityChangedOf, outerCorrected, innerCorrected};
-ghost use Rattle.frames.specs.Answers.{frameCorrected};
-ghost use Rattle.g709.specs.Answers.{rowsCorrected, rowCorrected};
+ghost use Rattle.fields.specs.Elements.{powers_a, exponents_a, powers_b, exponents_b, powers_c, exponents_c};
+ghost use Rattle.words.specs.Answers.{outer_checked, outer_encoded, inner_checked, inner_encoded, refusal_of, changed_of, inner_refusal_of, data_changed_of, parity_changed_of, outer_corrected, inner_corrected};
+ghost use Rattle.frames.specs.Answers.{frame_corrected};
+ghost use Rattle.g709.specs.Answers.{rows_corrected, row_corrected};
 ghost use Rattle.exports.specs.Chains.{chain};
-ghost use Rattle.exports.specs.Lists.{listedWords};
-ghost use Rattle.exports.specs.Packed.{packed, packedWord, packedInner, packedFrame};
+ghost use Rattle.exports.specs.Lists.{listed_words};
+ghost use Rattle.exports.specs.Packed.{packed, packed_word, packed_inner, packed_frame};
 
 use decoding::symbols;
 use frames::{Frame, Report};
@@ -16,21 +16,21 @@ use words::{Correction, InnerCorrection};
 
 #[unsafe(no_mangle)]
 pub extern "C" fn exports_check_outer(word: &[u16]) -> u8
-    ensures { result ≡ outerChecked word.now }
+    ensures { result ≡ outer_checked word.now }
 {
     words::check_outer(word)
 }
 
 #[unsafe(no_mangle)]
 pub extern "C" fn exports_encode_outer(data: &[u16], out: &mut [u16]) -> u8
-    ensures { (result, out.new) ≡ outerEncoded «data».now out.old }
+    ensures { (result, out.new) ≡ outer_encoded «data».now out.old }
 {
     words::encode_outer(data, out)
 }
 
 // 256 times the number of changes, or the refusal's number.
 fn packed_word(c: Correction) -> u32
-    ensures { result ≡ packed (refusalOf c) (changedOf c) }
+    ensures { result ≡ packed (refusal_of c) (changed_of c) }
 {
     match c {
         Correction::Corrected { changed } => 256 * changed as u32,
@@ -40,29 +40,29 @@ fn packed_word(c: Correction) -> u32
 
 #[unsafe(no_mangle)]
 pub extern "C" fn exports_correct_outer(word: &[u16], out: &mut [u16]) -> u32
-    ensures { (result, out.new) ≡ packedWord (outerCorrected word.now out.old) }
+    ensures { (result, out.new) ≡ packed_word (outer_corrected word.now out.old) }
 {
     packed_word(words::correct_outer(word, out))
 }
 
 #[unsafe(no_mangle)]
 pub extern "C" fn exports_check_inner(word: &[u8]) -> u8
-    ensures { result ≡ innerChecked word.now }
+    ensures { result ≡ inner_checked word.now }
 {
     words::check_inner(word)
 }
 
 #[unsafe(no_mangle)]
 pub extern "C" fn exports_encode_inner(data: &[u8], out: &mut [u8]) -> u8
-    ensures { (result, out.new) ≡ innerEncoded «data».now out.old }
+    ensures { (result, out.new) ≡ inner_encoded «data».now out.old }
 {
     words::encode_inner(data, out)
 }
 
 // 256 times the number of changed data places and 65,536 times that of changed parity places, or the refusal's number.
 fn packed_inner(c: InnerCorrection) -> u32
-    requires { dataChangedOf c + parityChangedOf c ≤ 8 }
-    ensures { result ≡ packed (innerRefusalOf c) (packed (dataChangedOf c) (parityChangedOf c)) }
+    requires { data_changed_of c + parity_changed_of c ≤ 8 }
+    ensures { result ≡ packed (inner_refusal_of c) (packed (data_changed_of c) (parity_changed_of c)) }
 {
     match c {
         InnerCorrection::Corrected { data, parity } => 256 * data as u32 + 65536 * parity as u32,
@@ -72,7 +72,7 @@ fn packed_inner(c: InnerCorrection) -> u32
 
 #[unsafe(no_mangle)]
 pub extern "C" fn exports_correct_inner(word: &[u8], out: &mut [u8]) -> u32
-    ensures { (result, out.new) ≡ packedInner (innerCorrected word.now out.old) }
+    ensures { (result, out.new) ≡ packed_inner (inner_corrected word.now out.old) }
 {
     packed_inner(words::correct_inner(word, out))
 }
@@ -86,7 +86,7 @@ pub extern "C" fn exports_correct_frame(
     parity: &mut [u16],
 ) -> u64
     ensures { (result, out.new, «data».new, parity.new)
-        ≡ packedFrame (frameCorrected block.now out.old) «data».old parity.old }
+        ≡ packed_frame (frame_corrected block.now out.old) «data».old parity.old }
 {
     let report = frames::correct_frame(block, out);
     let in_data = report.data;
@@ -98,14 +98,14 @@ pub extern "C" fn exports_correct_frame(
 
 #[unsafe(no_mangle)]
 pub extern "C" fn exports_g709_correct(block: &[u8], out: &mut [u8]) -> u32
-    ensures { (result, out.new) ≡ packedWord (rowsCorrected block.now out.old) }
+    ensures { (result, out.new) ≡ packed_word (rows_corrected block.now out.old) }
 {
     packed_word(g709::correct(block, out))
 }
 
 #[unsafe(no_mangle)]
 pub extern "C" fn exports_g709_correct_row(row: &[u8], out: &mut [u8]) -> u32
-    ensures { (result, out.new) ≡ packedWord (rowCorrected row.now out.old) }
+    ensures { (result, out.new) ≡ packed_word (row_corrected row.now out.old) }
 {
     packed_word(g709::correct_row(row, out))
 }
@@ -114,7 +114,7 @@ pub extern "C" fn exports_g709_correct_row(row: &[u8], out: &mut [u8]) -> u32
 // place for exactly eight.
 #[unsafe(no_mangle)]
 pub extern "C" fn exports_worst_words(data: &[u16], parity: &[u16], list: &mut [u8])
-    ensures { list.new ≡ listedWords «data».now parity.now list.old }
+    ensures { list.new ≡ listed_words «data».now parity.now list.old }
 {
     let mut in_data = [0u16; Frame::INNER_WORDS];
     let mut in_parity = [0u16; Frame::INNER_WORDS];
@@ -143,7 +143,7 @@ fn products(exp: &[u16], log: &[u16], x: u16, y: u16, n: u32) -> u16
 
 #[unsafe(no_mangle)]
 pub extern "C" fn exports_products_a(x: u16, y: u16, n: u32) -> u16
-    ensures { result ≡ chain powersA exponentsA x y n }
+    ensures { result ≡ chain powers_a exponents_a x y n }
 {
     let exp = fields::exp_a();
     let log = fields::log_a();
@@ -152,7 +152,7 @@ pub extern "C" fn exports_products_a(x: u16, y: u16, n: u32) -> u16
 
 #[unsafe(no_mangle)]
 pub extern "C" fn exports_products_b(x: u16, y: u16, n: u32) -> u16
-    ensures { result ≡ chain powersB exponentsB x y n }
+    ensures { result ≡ chain powers_b exponents_b x y n }
 {
     let exp = fields::exp_b();
     let log = fields::log_b();
@@ -161,7 +161,7 @@ pub extern "C" fn exports_products_b(x: u16, y: u16, n: u32) -> u16
 
 #[unsafe(no_mangle)]
 pub extern "C" fn exports_products_c(x: u16, y: u16, n: u32) -> u16
-    ensures { result ≡ chain powersC exponentsC x y n }
+    ensures { result ≡ chain powers_c exponents_c x y n }
 {
     let exp = fields::exp_c();
     let log = fields::log_c();

@@ -7,7 +7,7 @@ use native.Mathlib.Omega.{arith}
 use borrow.Author.Tests.{eq-eqb}
 use lib.Dec.{T, eqb, eqb→eq}
 use Rattle.fields.specs.Elements.{doubled, power}
-use Rattle.fields.proofs.Doubling.{two-le}
+use Rattle.fields.proofs.Doubling.{two_le}
 use Rattle.fields.proofs.Walk.{walk, walk_at}
 
 -- p has degree m, which is not 0, and 2 has the order 2^m - 1
@@ -22,34 +22,34 @@ abbrev pub alike : Bool → Bool → Bool
 alike true b = b
 alike false b = not b
 
-alike-left : (a b : Bool) → T (alike a b) → b ≡ true → T a
-alike-left true b t e = tt
-alike-left false b t e = rw e at t
+alike_left : (a b : Bool) → T (alike a b) → b ≡ true → T a
+alike_left true b t e = tt
+alike_left false b t e = rw e at t
 
 alike_right : (a b : Bool) → T (alike a b) → a ≡ true → T b
 alike_right a b t e = rw e at t
 
 module _ (m p : ℕ) where
   -- x is 1 just where i is 2^m - 1
-  abbrev pub one-at-end : ℕ → ℕ → Bool
-  one-at-end i x = alike (eqb x 1) (eqb i (2 ^ m - 1))
+  abbrev pub one_at_end : ℕ → ℕ → Bool
+  one_at_end i x = alike (eqb x 1) (eqb i (2 ^ m - 1))
 
   -- the powers of 2 from the first to the last: only the last is 1
   abbrev pub round : Bool
-  round = walk m p one-at-end (2 ^ m - 1) 1 (doubled m p 1)
+  round = walk m p one_at_end (2 ^ m - 1) 1 (doubled m p 1)
 
   module _ (positive : 0 < m) (test : T round) where
-    at : (j : ℕ) → j < 2 ^ m - 1 → T (one-at-end (1 + j) (power m p (1 + j)))
+    at : (j : ℕ) → j < 2 ^ m - 1 → T (one_at_end (1 + j) (power m p (1 + j)))
     unfolding power
-    at = walk_at m p one-at-end (2 ^ m - 1) 1 (doubled m p 1) refl test
+    at = walk_at m p one_at_end (2 ^ m - 1) 1 (doubled m p 1) refl test
 
     cycle : power m p (2 ^ m - 1) ≡ 1
     cycle =
-        let two = two-le m positive in
+        let two = two_le m positive in
         let i = 1 + (2 ^ m - 2) in
         let e : i ≡ 2 ^ m - 1 = omega arith in
         ap (power m p) (sym e)
-        ∙ eqb→eq (power m p i) 1 (alike-left (eqb (power m p i) 1) (eqb i (2 ^ m - 1)) (at (2 ^ m - 2) (omega arith)) (eq-eqb i (2 ^ m - 1) e))
+        ∙ eqb→eq (power m p i) 1 (alike_left (eqb (power m p i) 1) (eqb i (2 ^ m - 1)) (at (2 ^ m - 2) (omega arith)) (eq-eqb i (2 ^ m - 1) e))
 
     order : (d : ℕ) → d < 2 ^ m - 1 → power m p d ≡ 1 → d ≡ 0
     order zero h q = refl

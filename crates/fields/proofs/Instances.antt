@@ -1,42 +1,42 @@
 -- The three fields, that their tables are tables of a field, and the products that pin field C. Assumes nothing.
 use mathlib.Core.Path.{refl}
 use lib.Dec.{lit<}
-use Rattle.fields.specs.Elements.{xor, scale, doubled, times, timesFrom, powersA, exponentsA, powersB, exponentsB, powersC, exponentsC}
+use Rattle.fields.specs.Elements.{xor, scale, doubled, times, times_from, powers_a, exponents_a, powers_b, exponents_b, powers_c, exponents_c}
 use Rattle.fields.specs.Field.{Field, PinnedC}
 use Rattle.fields.specs.Steps.ByTables.{FieldTables}
 use Rattle.fields.proofs.Cycle.{Cyclic, cyclic}
 use Rattle.fields.proofs.Laws.{field}
 
-cyclic-a : Cyclic 10 1033
+cyclic_a : Cyclic 10 1033
 unfolding doubled scale xor
-cyclic-a = cyclic 10 1033 (lit< tt) tt refl
+cyclic_a = cyclic 10 1033 (lit< tt) tt refl
 
-pub field-a : Field 10 1033
-field-a = field 10 1033 cyclic-a
+pub field_a : Field 10 1033
+field_a = field 10 1033 cyclic_a
 
-pub field-tables-a : FieldTables 10 1033 powersA exponentsA
-field-tables-a = record { field = field-a; exp = refl; log = refl }
+pub field_tables_a : FieldTables 10 1033 powers_a exponents_a
+field_tables_a = record { field = field_a; exp = refl; log = refl }
 
-cyclic-b : Cyclic 11 2053
+cyclic_b : Cyclic 11 2053
 unfolding doubled scale xor
-cyclic-b = cyclic 11 2053 (lit< tt) tt refl
+cyclic_b = cyclic 11 2053 (lit< tt) tt refl
 
-pub field-b : Field 11 2053
-field-b = field 11 2053 cyclic-b
+pub field_b : Field 11 2053
+field_b = field 11 2053 cyclic_b
 
-pub field-tables-b : FieldTables 11 2053 powersB exponentsB
-field-tables-b = record { field = field-b; exp = refl; log = refl }
+pub field_tables_b : FieldTables 11 2053 powers_b exponents_b
+field_tables_b = record { field = field_b; exp = refl; log = refl }
 
-cyclic-c : Cyclic 8 285
+cyclic_c : Cyclic 8 285
 unfolding doubled scale xor
-cyclic-c = cyclic 8 285 (lit< tt) tt refl
+cyclic_c = cyclic 8 285 (lit< tt) tt refl
 
-pub field-c : Field 8 285
-field-c = field 8 285 cyclic-c
+pub field_c : Field 8 285
+field_c = field 8 285 cyclic_c
 
-pub field-tables-c : FieldTables 8 285 powersC exponentsC
-field-tables-c = record { field = field-c; exp = refl; log = refl }
+pub field_tables_c : FieldTables 8 285 powers_c exponents_c
+field_tables_c = record { field = field_c; exp = refl; log = refl }
 
-pub pinned-c : PinnedC
-unfolding times timesFrom doubled scale xor
-pinned-c = record { carry = refl; square = refl; half = refl }
+pub pinned_c : PinnedC
+unfolding times times_from doubled scale xor
+pinned_c = record { carry = refl; square = refl; half = refl }

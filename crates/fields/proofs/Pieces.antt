@@ -11,25 +11,25 @@ use lib.ListN.{length, get_or, take, drop}
 use lib.Seq.{get_or-take, get_or-drop}
 
 -- k pieces of 32 entries
-abbrev piecesFrom : ℕ → List ℕ → List (List ℕ)
-piecesFrom zero xs = []
-piecesFrom (suc k) xs = take 32 xs ∷ piecesFrom k (drop 32 xs)
+abbrev pieces_from : ℕ → List ℕ → List (List ℕ)
+pieces_from zero xs = []
+pieces_from (suc k) xs = take 32 xs ∷ pieces_from k (drop 32 xs)
 
 abbrev pub pieces : List ℕ → List (List ℕ)
-pieces xs = piecesFrom (length xs / 32 + 1) xs
+pieces xs = pieces_from (length xs / 32 + 1) xs
 
 abbrev pub look : List (List ℕ) → ℕ → ℕ
 look rs i = get_or (get_or rs (i / 32) []) (i % 32) 0
 
-look-from : (k a b : ℕ) (xs : List ℕ) → a < k → b < 32 → get_or (get_or (piecesFrom k xs) a []) b 0 ≡ get_or xs (a * 32 + b) 0
-look-from zero a b xs ha hb = absurd (not-suc-le-zero ha)
-look-from (suc k) zero b xs ha hb = get_or-take 32 xs b 0 hb ∙ ap (λ (i : ℕ). get_or xs i 0) (omega arith)
-look-from (suc k) (suc a) b xs ha hb =
-    look-from k a b (drop 32 xs) (le_of_suc-le-suc ha) hb ∙ get_or-drop 32 xs (a * 32 + b) 0 ∙ ap (λ (i : ℕ). get_or xs i 0) (omega arith)
+look_from : (k a b : ℕ) (xs : List ℕ) → a < k → b < 32 → get_or (get_or (pieces_from k xs) a []) b 0 ≡ get_or xs (a * 32 + b) 0
+look_from zero a b xs ha hb = absurd (not-suc-le-zero ha)
+look_from (suc k) zero b xs ha hb = get_or-take 32 xs b 0 hb ∙ ap (λ (i : ℕ). get_or xs i 0) (omega arith)
+look_from (suc k) (suc a) b xs ha hb =
+    look_from k a b (drop 32 xs) (le_of_suc-le-suc ha) hb ∙ get_or-drop 32 xs (a * 32 + b) 0 ∙ ap (λ (i : ℕ). get_or xs i 0) (omega arith)
 
 pub look_is : (xs : List ℕ) (i : ℕ) → i < length xs → look (pieces xs) i ≡ get_or xs i 0
 look_is xs i h =
-    look-from (length xs / 32 + 1) (i / 32) (i % 32) xs (omega arith) (mod-lt i (lit< tt)) ∙ ap (λ (j : ℕ). get_or xs j 0) (div-add-mod' i 32)
+    look_from (length xs / 32 + 1) (i / 32) (i % 32) xs (omega arith) (mod-lt i (lit< tt)) ∙ ap (λ (j : ℕ). get_or xs j 0) (div-add-mod' i 32)
 
 -- f at pieces that are computed first, and once: an argument that is a call may be computed anew wherever f reads it
 abbrev pub once : (List (List ℕ) → Bool) → List (List ℕ) → Bool

@@ -9,13 +9,13 @@ use lib.Dec.{T, eqb, eqb→eq}
 use lib.ListN.{length, get_or}
 use Rattle.fields.specs.Elements.{power, exponent, powers, exponents}
 use Rattle.fields.specs.Field.{Field}
-use Rattle.fields.proofs.Lists.{tabulate-is}
+use Rattle.fields.proofs.Lists.{tabulate_is}
 use Rattle.fields.proofs.Pieces.{pieces, look, look_is, once, once_is}
 use Rattle.fields.proofs.Walk.{walk, walk_at}
 
 -- the i-th entry is x; the entry at x is i
-abbrev pub entry-is : List (List ℕ) → ℕ → ℕ → Bool
-entry-is rs i x = eqb (look rs i) x
+abbrev pub entry_is : List (List ℕ) → ℕ → ℕ → Bool
+entry_is rs i x = eqb (look rs i) x
 
 abbrev pub entry_gives : List (List ℕ) → ℕ → ℕ → Bool
 entry_gives rs i x = eqb (look rs x) i
@@ -28,26 +28,26 @@ module _ (m p : ℕ) where
   abbrev pub whole : (List (List ℕ) → ℕ → ℕ → Bool) → List ℕ → Bool
   whole f xs = once (over f) (pieces xs)
 
-  whole-at : (f : List (List ℕ) → ℕ → ℕ → Bool) (xs : List ℕ) → T (whole f xs) → (i : ℕ) → i < 2 ^ m - 1 → T (f (pieces xs) i (power m p i))
+  whole_at : (f : List (List ℕ) → ℕ → ℕ → Bool) (xs : List ℕ) → T (whole f xs) → (i : ℕ) → i < 2 ^ m - 1 → T (f (pieces xs) i (power m p i))
   unfolding power
-  whole-at f xs t i h = rw zero-add at (walk_at m p (f (pieces xs)) (2 ^ m - 1) 0 1 refl (once_is (over f) (pieces xs) t) i h)
+  whole_at f xs t i h = rw zero-add at (walk_at m p (f (pieces xs)) (2 ^ m - 1) 0 1 refl (once_is (over f) (pieces xs) t) i h)
 
   -- a table of powers has at each exponent its power
-  pub powers-are : (es : List ℕ) → length es ≡ 2 ^ m - 1 → T (whole entry-is es) → es ≡ powers m p
+  pub powers_are : (es : List ℕ) → length es ≡ 2 ^ m - 1 → T (whole entry_is es) → es ≡ powers m p
   unfolding powers
-  powers-are es e t = tabulate-is (2 ^ m - 1) (power m p) es 0 e entry
+  powers_are es e t = tabulate_is (2 ^ m - 1) (power m p) es 0 e entry
     where
       entry : (i : ℕ) → i < 2 ^ m - 1 → get_or es i 0 ≡ power m p i
-      entry i h = sym (look_is es i (rw e h)) ∙ eqb→eq (look (pieces es) i) (power m p i) (whole-at entry-is es t i h)
+      entry i h = sym (look_is es i (rw e h)) ∙ eqb→eq (look (pieces es) i) (power m p i) (whole_at entry_is es t i h)
 
   -- a table of exponents has at each power its exponent, and 0 at 0
-  pub exponents-are : Field m p → (ls : List ℕ) → length ls ≡ 2 ^ m → get_or ls 0 0 ≡ 0 → T (whole entry_gives ls) → ls ≡ exponents m p
+  pub exponents_are : Field m p → (ls : List ℕ) → length ls ≡ 2 ^ m → get_or ls 0 0 ≡ 0 → T (whole entry_gives ls) → ls ≡ exponents m p
   unfolding exponents
-  exponents-are F ls e z t = tabulate-is (2 ^ m) (exponent m p) ls 0 e entry
+  exponents_are F ls e z t = tabulate_is (2 ^ m) (exponent m p) ls 0 e entry
     where
       entry : (x : ℕ) → x < 2 ^ m → get_or ls x 0 ≡ exponent m p x
-      entry zero h = z ∙ sym F.exponent-zero
+      entry zero h = z ∙ sym F.exponent_zero
       entry (suc x) h =
           let i = exponent m p (suc x) in
-          sym (look_is ls (suc x) (rw e h)) ∙ ap (look (pieces ls)) (sym (F.power-exponent (suc x) (zero-lt-suc x) h))
-          ∙ eqb→eq (look (pieces ls) (power m p i)) i (whole-at entry_gives ls t i (F.exponent_lt (suc x)))
+          sym (look_is ls (suc x) (rw e h)) ∙ ap (look (pieces ls)) (sym (F.power_exponent (suc x) (zero-lt-suc x) h))
+          ∙ eqb→eq (look (pieces ls) (power m p i)) i (whole_at entry_gives ls t i (F.exponent_lt (suc x)))

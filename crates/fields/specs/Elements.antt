@@ -18,13 +18,13 @@ unfoldable pub doubled : ℕ → ℕ → ℕ → ℕ
 doubled m p x = xor (scale (2 * x / 2 ^ m % 2) p) (2 * x)
 
 -- the product by shift and add: the sum of z^i times x over those of the n low bits i of y that are 1
-unfoldable pub timesFrom : ℕ → ℕ → ℕ → ℕ → ℕ → ℕ
-timesFrom m p zero x y = 0
-timesFrom m p (suc n) x y = xor (scale (y % 2) x) (timesFrom m p n (doubled m p x) (y / 2))
+unfoldable pub times_from : ℕ → ℕ → ℕ → ℕ → ℕ → ℕ
+times_from m p zero x y = 0
+times_from m p (suc n) x y = xor (scale (y % 2) x) (times_from m p n (doubled m p x) (y / 2))
 
 -- x times y
 unfoldable pub times : ℕ → ℕ → ℕ → ℕ → ℕ
-times m p x y = timesFrom m p m x y
+times m p x y = times_from m p m x y
 
 -- 2 to the i-th
 unfoldable pub power : ℕ → ℕ → ℕ → ℕ
@@ -47,31 +47,31 @@ unfoldable pub exponents : ℕ → ℕ → List ℕ
 exponents m p = tabulate (2 ^ m) (exponent m p)
 
 -- field A: 1,024 elements, from z^10 + z^3 + 1
-abbrev pub timesA : ℕ → ℕ → ℕ
-timesA = times 10 1033
+abbrev pub times_a : ℕ → ℕ → ℕ
+times_a = times 10 1033
 
-abbrev pub powersA : List ℕ
-powersA = powers 10 1033
+abbrev pub powers_a : List ℕ
+powers_a = powers 10 1033
 
-abbrev pub exponentsA : List ℕ
-exponentsA = exponents 10 1033
+abbrev pub exponents_a : List ℕ
+exponents_a = exponents 10 1033
 
 -- field B: 2,048 elements, from z^11 + z^2 + 1
-abbrev pub timesB : ℕ → ℕ → ℕ
-timesB = times 11 2053
+abbrev pub times_b : ℕ → ℕ → ℕ
+times_b = times 11 2053
 
-abbrev pub powersB : List ℕ
-powersB = powers 11 2053
+abbrev pub powers_b : List ℕ
+powers_b = powers 11 2053
 
-abbrev pub exponentsB : List ℕ
-exponentsB = exponents 11 2053
+abbrev pub exponents_b : List ℕ
+exponents_b = exponents 11 2053
 
 -- field C: 256 elements, from z^8 + z^4 + z^3 + z^2 + 1
-abbrev pub timesC : ℕ → ℕ → ℕ
-timesC = times 8 285
+abbrev pub times_c : ℕ → ℕ → ℕ
+times_c = times 8 285
 
-abbrev pub powersC : List ℕ
-powersC = powers 8 285
+abbrev pub powers_c : List ℕ
+powers_c = powers 8 285
 
-abbrev pub exponentsC : List ℕ
-exponentsC = exponents 8 285
+abbrev pub exponents_c : List ℕ
+exponents_c = exponents 8 285

@@ -33,9 +33,9 @@ sum_to (suc n) f = sum_to n f + f n
 unfoldable pub differs : ℕ → ℕ → ℕ
 differs x y = cond (eqb x y) 0 1
 
-unfoldable pub apartBetween : ℕ → ℕ → List ℕ → List ℕ → ℕ
-apartBetween from to c d = sum_to (to - from) (λ i. differs (at c (from + i)) (at d (from + i)))
+unfoldable pub apart_between : ℕ → ℕ → List ℕ → List ℕ → ℕ
+apart_between from to c d = sum_to (to - from) (λ i. differs (at c (from + i)) (at d (from + i)))
 
 -- the distance of two words: in how many of all places of the first they differ
 unfoldable pub apart : List ℕ → List ℕ → ℕ
-apart c d = apartBetween 0 (length c) c d
+apart c d = apart_between 0 (length c) c d

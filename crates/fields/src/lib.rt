@@ -8,54 +8,54 @@
 //
 // exp_a, log_a and those of fields B and C hand the tables out by value. A caller binds them once and lends them on: what it lends is not copied again.
 ghost use Rattle.std.specs.Prelude.{◌≡◌, ℕ, ◌-◌, ◌%◌, ◌^◌, ◌<◌, length, get_or};
-ghost use Rattle.fields.specs.Elements.{times, power, inverse, powers, powersA, exponentsA, powersB, exponentsB, powersC, exponentsC};
+ghost use Rattle.fields.specs.Elements.{times, power, inverse, powers, powers_a, exponents_a, powers_b, exponents_b, powers_c, exponents_c};
 ghost use Rattle.fields.specs.Field.{Field};
-ghost use Rattle.fields.specs.Steps.ByTables.{place_in, wrapped, powerNear, tablePower, tableProduct, tableInverse, FieldTables};
+ghost use Rattle.fields.specs.Steps.ByTables.{place_in, wrapped, power_near, table_power, table_product, table_inverse, FieldTables};
 
 mod tables;
 
 // Field A: 1,024 elements, from z^10 + z^3 + 1.
 pub fn exp_a() -> [u16; 1023]
-    ensures { result ≡ powersA }
+    ensures { result ≡ powers_a }
 {
     tables::exp_a::EXP_A
 }
 
 pub fn log_a() -> [u16; 1024]
-    ensures { result ≡ exponentsA }
+    ensures { result ≡ exponents_a }
 {
     tables::log_a::LOG_A
 }
 
 // Field B: 2,048 elements, from z^11 + z^2 + 1.
 pub fn exp_b() -> [u16; 2047]
-    ensures { result ≡ powersB }
+    ensures { result ≡ powers_b }
 {
     tables::exp_b::EXP_B
 }
 
 pub fn log_b() -> [u16; 2048]
-    ensures { result ≡ exponentsB }
+    ensures { result ≡ exponents_b }
 {
     tables::log_b::LOG_B
 }
 
 // Field C: 256 elements, from z^8 + z^4 + z^3 + z^2 + 1.
 pub fn exp_c() -> [u16; 255]
-    ensures { result ≡ powersC }
+    ensures { result ≡ powers_c }
 {
     tables::exp_c::EXP_C
 }
 
 pub fn log_c() -> [u16; 256]
-    ensures { result ≡ exponentsC }
+    ensures { result ≡ exponents_c }
 {
     tables::log_c::LOG_C
 }
 
 // 2 to the i-th.
 pub fn power(exp: &[u16], i: u16) -> u16
-    ensures by_table { result ≡ tablePower exp.now i }
+    ensures by_table { result ≡ table_power exp.now i }
     ensures in_field { (m p : ℕ) → Field m p → exp.now ≡ powers m p → result ≡ power m p i }
 {
     let n = exp.len();
@@ -67,7 +67,7 @@ pub fn power(exp: &[u16], i: u16) -> u16
 
 // x times y.
 pub fn product(exp: &[u16], log: &[u16], x: u16, y: u16) -> u16
-    ensures by_tables { result ≡ tableProduct exp.now log.now x y }
+    ensures by_tables { result ≡ table_product exp.now log.now x y }
     ensures in_field { (m p : ℕ) → FieldTables m p exp.now log.now → result ≡ times m p (x % 2 ^ m) (y % 2 ^ m) }
 {
     let n = log.len();
@@ -89,7 +89,7 @@ pub fn product(exp: &[u16], log: &[u16], x: u16, y: u16) -> u16
 
 // One over x, and 0 for 0.
 pub fn inverse(exp: &[u16], log: &[u16], x: u16) -> u16
-    ensures by_tables { result ≡ tableInverse exp.now log.now x }
+    ensures by_tables { result ≡ table_inverse exp.now log.now x }
     ensures in_field { (m p : ℕ) → FieldTables m p exp.now log.now → result ≡ inverse m p (x % 2 ^ m) }
 {
     let n = log.len();
@@ -141,7 +141,7 @@ pub fn wrapped(i: usize, n: usize) -> usize
 
 // The power whose exponent is i, below twice the table's length; 0 from there on.
 fn power_near(exp: &[u16], i: usize) -> u16
-    ensures { result ≡ powerNear exp.now i }
+    ensures { result ≡ power_near exp.now i }
 {
     let k = wrapped(i, exp.len());
     if k < exp.len() {

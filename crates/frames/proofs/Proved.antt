@@ -3,32 +3,32 @@ use mathlib.Core.Path.{◌≡◌, ap}
 use mathlib.Core.Bool.{true}
 use mathlib.Core.List.{List}
 use Prim.Native.Nat.{ℕ}
-use Rattle.inner_words.proofs.Interleaving.InterleavedBits.{place-to-bit, bit-to-place}
-use Rattle.frames.specs.Frames.{isPayload, outerWords, frame_of, payloadOf}
+use Rattle.inner_words.proofs.Interleaving.InterleavedBits.{place_to_bit, bit_to_place}
+use Rattle.frames.specs.Frames.{is_payload, outer_words, frame_of, payload_of}
 use Rattle.frames.specs.FrameLaws.{FrameLaws}
-use Rattle.frames.proofs.Frames.FrameBits.{payload-is, payloadOf-length, payloadOf-below, frame-block, frame-parity, frame-inner, outer-code, payload-bits, payload-back}
-use Rattle.frames.proofs.OuterSymbols.Received.{frame_same, same-frame}
-use Rattle.frames.proofs.Frames.ExamplesHold.{examples-hold}
+use Rattle.frames.proofs.Frames.FrameBits.{payload_is, payload_of_length, payload_of_below, frame_block, frame_parity, frame_inner, outer_code, payload_bits, payload_back}
+use Rattle.frames.proofs.OuterSymbols.Received.{frame_same, same_frame}
+use Rattle.frames.proofs.Frames.ExamplesHold.{examples_hold}
 
-back : (p : List ℕ) → isPayload p ≡ true → payloadOf (frame_of p) ≡ p
-back p h = let t = payload-is p h in payload-back p t.0 t.1
+back : (p : List ℕ) → is_payload p ≡ true → payload_of (frame_of p) ≡ p
+back p h = let t = payload_is p h in payload_back p t.0 t.1
 
-stands : (b : List ℕ) → isPayload (payloadOf b) ≡ true
-unfolding isPayload
-stands b = rw (payloadOf-length b, payloadOf-below b)
+stands : (b : List ℕ) → is_payload (payload_of b) ≡ true
+unfolding is_payload
+stands b = rw (payload_of_length b, payload_of_below b)
 
-pub frame-laws : FrameLaws
+pub frame_laws : FrameLaws
 unfolding frame_of
-frame-laws =
+frame_laws =
     record {
-      payload-back = back;
-      written-accepted = λ p h. (frame-block (outerWords p), same-frame (frame_of p) (ap frame_of (back p h)));
-      written-only = λ b h t. (stands b, frame_same b h t);
-      outer-words = λ p w h. outer-code p w;
-      inner-words = λ p k h l. frame-inner (outerWords p) k l;
-      payload-bits = λ p i h l. payload-bits p i l;
-      place-to-bit = place-to-bit;
-      bit-to-place = bit-to-place;
-      parity-bits = λ payload p k h l m. frame-parity (outerWords payload) p k l m;
-      examples-hold = examples-hold;
+      payload_back = back;
+      written_accepted = λ p h. (frame_block (outer_words p), same_frame (frame_of p) (ap frame_of (back p h)));
+      written_only = λ b h t. (stands b, frame_same b h t);
+      outer_words_lem = λ p w h. outer_code p w;
+      inner_words = λ p k h l. frame_inner (outer_words p) k l;
+      payload_bits = λ p i h l. payload_bits p i l;
+      place_to_bit = place_to_bit;
+      bit_to_place = bit_to_place;
+      parity_bits = λ payload p k h l m. frame_parity (outer_words payload) p k l m;
+      examples_hold = examples_hold;
     }

@@ -1,7 +1,7 @@
 // The report of a correction: in how many data places and in how many parity places of each inner word the received block and the restored frame differ, and
 // the sum.
 ghost use Rattle.std.specs.Prelude.{◌≡◌, ◌-◌, ◌%◌, ◌≤◌, length};
-ghost use Rattle.frames.specs.Correction.{countsBetween, total};
+ghost use Rattle.frames.specs.Correction.{counts_between, total};
 
 use crate::Frame;
 use inner_words::places;
@@ -16,7 +16,7 @@ pub(crate) fn counts(
     to: usize,
 ) -> [u16; Frame::INNER_WORDS]
     requires { (length block.now ≡ 16320) × (length frame.now ≡ 16320) × (from ≤ to) × (to ≤ 2040) × ((to - from) % 8 ≡ 0) }
-    ensures { result ≡ countsBetween from to block.now frame.now }
+    ensures { result ≡ counts_between from to block.now frame.now }
 {
     let n = (to - from) / counters::STEP;
     let mut planes = Planes {

@@ -15,11 +15,11 @@
 ghost use Rattle.std.specs.Prelude.{◌≡◌, true, ◌&&◌, length};
 ghost use Rattle.std.proofs.Math.Option.{some};
 ghost use Rattle.words.specs.Bits.{bit_at};
-ghost use Rattle.inner_words.specs.Steps.Passes.{innerCodes};
-ghost use Rattle.frames.specs.Correction.{outerFrame, restoredFrame};
-ghost use Rattle.frames.specs.Steps.Received.{outerCodes};
+ghost use Rattle.inner_words.specs.Steps.Passes.{inner_codes};
+ghost use Rattle.frames.specs.Correction.{outer_frame, restored_frame};
+ghost use Rattle.frames.specs.Steps.Received.{outer_codes};
 ghost use Rattle.frames.specs.Steps.Passes.{provided};
-ghost use Rattle.frames.specs.Answers.{frameEncoded, frameChecked, payloadExtracted, noCounts, reported, frameCorrected};
+ghost use Rattle.frames.specs.Answers.{frame_encoded, frame_checked, payload_extracted, no_counts, reported, frame_corrected};
 
 use decoding::symbols;
 use inner_words::Interleaved;
@@ -65,7 +65,7 @@ impl Frame {
 
 // Writes the frame of the payload and returns 0; 1 or 3.
 pub fn encode_frame(payload: &[u8], out: &mut [u8]) -> u8
-    ensures { (result, out.new) ≡ frameEncoded payload.now out.old }
+    ensures { (result, out.new) ≡ frame_encoded payload.now out.old }
 {
     if payload.len() != Frame::PAYLOAD_BYTES {
         return 1;
@@ -83,7 +83,7 @@ pub fn encode_frame(payload: &[u8], out: &mut [u8]) -> u8
 // The outer words of the block and its inner words are all code words.
 fn is_frame(block: &[u8]) -> bool
     requires { length block.now ≡ 16320 }
-    ensures { result ≡ (outerCodes (bit_at block.now) && innerCodes (bit_at block.now)) }
+    ensures { result ≡ (outer_codes (bit_at block.now) && inner_codes (bit_at block.now)) }
 {
     if outer_test::are_code_words(block) {
         inner_words::are_code_words(block)
@@ -94,7 +94,7 @@ fn is_frame(block: &[u8]) -> bool
 
 // 0 for a frame; 2 or 4.
 pub fn check_frame(block: &[u8]) -> u8
-    ensures { result ≡ frameChecked block.now }
+    ensures { result ≡ frame_checked block.now }
 {
     if block.len() != Frame::BYTES {
         return 2;
@@ -104,7 +104,7 @@ pub fn check_frame(block: &[u8]) -> u8
 
 // Writes the payload of the frame and returns 0; 2, 3 or 4.
 pub fn extract_payload(block: &[u8], out: &mut [u8]) -> u8
-    ensures { (result, out.new) ≡ payloadExtracted block.now out.old }
+    ensures { (result, out.new) ≡ payload_extracted block.now out.old }
 {
     if block.len() != Frame::BYTES {
         return 2;
@@ -132,7 +132,7 @@ pub struct Report {
 }
 
 fn refused(number: u8) -> Report
-    ensures { (result.refusal ≡ number) × (result.«data» ≡ noCounts) × (result.parity ≡ noCounts) × (result.sum ≡ 0) }
+    ensures { (result.refusal ≡ number) × (result.«data» ≡ no_counts) × (result.parity ≡ no_counts) × (result.sum ≡ 0) }
 {
     Report {
         refusal: number,
@@ -146,8 +146,8 @@ fn refused(number: u8) -> Report
 // has none. A block that is a frame already is that frame; `inner` is true only if its inner words are code words.
 fn outer_pass(frame: &mut [u8], inner: bool) -> bool
     requires frame_len { length frame.old ≡ 16320 }
-    requires frame_value { inner ≡ true → innerCodes (bit_at frame.old) ≡ true }
-    ensures { (length frame.new ≡ 16320) × (provided result frame.new ≡ outerFrame (bit_at frame.old)) }
+    requires frame_value { inner ≡ true → inner_codes (bit_at frame.old) ≡ true }
+    ensures { (length frame.new ≡ 16320) × (provided result frame.new ≡ outer_frame (bit_at frame.old)) }
 {
     if inner {
         if outer_test::are_code_words(frame) {
@@ -166,7 +166,7 @@ fn outer_pass(frame: &mut [u8], inner: bool) -> bool
 // The two passes over a copy of the received block, which becomes the restored frame; false, if there is none.
 fn restore_frame(frame: &mut [u8]) -> bool
     requires { length frame.old ≡ 16320 }
-    ensures { (length frame.new ≡ 16320) × (provided result frame.new ≡ restoredFrame frame.old) }
+    ensures { (length frame.new ≡ 16320) × (provided result frame.new ≡ restored_frame frame.old) }
 {
     let left = inner_words::correct(frame);
     outer_pass(frame, left == 0)
@@ -191,7 +191,7 @@ fn conclude(block: &[u8], frame: &[u8], out: &mut [u8]) -> Report
 
 // Writes the restored frame and gives the report; 2, 3 or 5.
 pub fn correct_frame(block: &[u8], out: &mut [u8]) -> Report
-    ensures { (result.refusal, result.«data», result.parity, result.sum, out.new) ≡ frameCorrected block.now out.old }
+    ensures { (result.refusal, result.«data», result.parity, result.sum, out.new) ≡ frame_corrected block.now out.old }
 {
     if block.len() != Frame::BYTES {
         return refused(2);

@@ -11,127 +11,127 @@ use lib.Dec.{eqb, lit<}
 use lib.ListN.{length, set, length-append, get_or-append, get_or-eq_default}
 use lib.Seq.{ext_get_or, get_or-append-add, get_or-set_same, get_or-set_other}
 use Rattle.fields.specs.Lists.{tabulate}
-use Rattle.fields.specs.Elements.{xor, scale, doubled, power, timesC}
-use Rattle.fields.proofs.Lists.{tabulate-at, tabulate-length, tabulate-lt}
-use Rattle.fields.proofs.Xor.{xor_zero_l, xor_zero_r, xor_self, xor_assoc, xor-cancel, xor_lt, additive-zero}
+use Rattle.fields.specs.Elements.{xor, scale, doubled, power, times_c}
+use Rattle.fields.proofs.Lists.{tabulate_at, tabulate_length, tabulate_lt}
+use Rattle.fields.proofs.Xor.{xor_zero_l, xor_zero_r, xor_self, xor_assoc, xor_cancel, xor_lt, additive_zero}
 use Rattle.fields.specs.Places.{at, every, all_below, horner}
-use Rattle.fields.proofs.Places.Tests.{every-at, every_true, below_at, below_all, below-append}
-use Rattle.decoding.proofs.Algebra.Values.{value-lt}
-use Rattle.words.proofs.Codes.Horner.{Additive, iter, iter-sum, horner-same, horner-sum, horner-zero, horner-parts}
-use Rattle.words.proofs.Codes.Packing.{divided-same}
-use Rattle.words.specs.ReedSolomon.{valueAtRoot, isCodeWord, generatorOf, divided, parityOf}
-use Rattle.g709.specs.Steps.Folding.{exponentsBelow, sumUpTo, taps, QuotientTo, Folded}
-use Rattle.g709.specs.Steps.Registers.{over, registers, rowDivided, rowRemainders}
-use Rattle.fields.proofs.Instances.{field-c}
+use Rattle.fields.proofs.Places.Tests.{every_at, every_true, below_at, below_all, below_append}
+use Rattle.decoding.proofs.Algebra.Values.{value_lt}
+use Rattle.words.proofs.Codes.Horner.{Additive, iter, iter_sum, horner_same, horner_sum, horner_zero, horner_parts}
+use Rattle.words.proofs.Codes.Packing.{divided_same}
+use Rattle.words.specs.ReedSolomon.{value_at_root, is_code_word, generator_of, divided, parity_of}
+use Rattle.g709.specs.Steps.Folding.{exponents_below, sum_up_to, taps, QuotientTo, Folded}
+use Rattle.g709.specs.Steps.Registers.{over, registers, row_divided, row_remainders}
+use Rattle.fields.proofs.Instances.{field_c}
 use Rattle.words.proofs.Codes.ReedSolomon.{code_is}
-use Rattle.g709.proofs.ByteCode.{code-c}
-use Rattle.g709.proofs.Overlays.{over-length, over-in, over-front, over-behind, OverTo, over-next}
-use Rattle.g709.proofs.Lanes.{lane, lane_past, registers-at, registers-length}
+use Rattle.g709.proofs.ByteCode.{code_c}
+use Rattle.g709.proofs.Overlays.{over_length, over_in, over_front, over_behind, OverTo, over_next}
+use Rattle.g709.proofs.Lanes.{lane, lane_past, registers_at, registers_length}
 
 -- ---- sums
 
-pub sum_same : (g h : ℕ → ℕ) (n : ℕ) → ((m : ℕ) → g m ≡ h m) → sumUpTo g n ≡ sumUpTo h n
-unfolding sumUpTo
+pub sum_same : (g h : ℕ → ℕ) (n : ℕ) → ((m : ℕ) → g m ≡ h m) → sum_up_to g n ≡ sum_up_to h n
+unfolding sum_up_to
 sum_same g h zero e = e 0
 sum_same g h (suc n) e = ap₂ xor (sum_same g h n e) (e (suc n))
 
-sum_lt : (g : ℕ → ℕ) (n : ℕ) → ((m : ℕ) → g m < 256) → sumUpTo g n < 256
-unfolding sumUpTo
+sum_lt : (g : ℕ → ℕ) (n : ℕ) → ((m : ℕ) → g m < 256) → sum_up_to g n < 256
+unfolding sum_up_to
 sum_lt g zero h = h 0
 sum_lt g (suc n) h = xor_lt 8 _ _ (sum_lt g n h) (h (suc n))
 
-exponent_lt : (n : ℕ) → at exponentsBelow n < 80
-unfolding exponentsBelow all_below every
-exponent_lt n = below_at 80 exponentsBelow (lit< tt) refl n
+exponent_lt : (n : ℕ) → at exponents_below n < 80
+unfolding exponents_below all_below every
+exponent_lt n = below_at 80 exponents_below (lit< tt) refl n
 
-pub taps-lt : (q : List ℕ) (i : ℕ) → ((i : ℕ) → at q i < 256) → taps q i < 256
+pub taps_lt : (q : List ℕ) (i : ℕ) → ((i : ℕ) → at q i < 256) → taps q i < 256
 unfolding taps
-taps-lt q i h = sum_lt _ 20 (λ n. h _)
+taps_lt q i h = sum_lt _ 20 (λ n. h _)
 
 -- what is stored at a later place does not matter
-pub taps-same : (p q : List ℕ) (i : ℕ) → ((j : ℕ) → j < i + 1296 → at p j ≡ at q j) → taps p i ≡ taps q i
+pub taps_same : (p q : List ℕ) (i : ℕ) → ((j : ℕ) → j < i + 1296 → at p j ≡ at q j) → taps p i ≡ taps q i
 unfolding taps
-taps-same p q i h = sum_same _ _ 20 (λ n. h _ (omega (arith, exponent_lt n)))
+taps_same p q i h = sum_same _ _ 20 (λ n. h _ (omega (arith, exponent_lt n)))
 
 -- ---- at a root of the generator
 
 abbrev pub by : ℕ → ℕ → ℕ
-by j v = timesC v (power 8 285 j)
+by j v = times_c v (power 8 285 j)
 
-pub by-sum : (j : ℕ) → Additive (by j)
-by-sum j u v = field-c.sum-times u v (power 8 285 j)
+pub by_sum : (j : ℕ) → Additive (by j)
+by_sum j u v = field_c.sum_times u v (power 8 285 j)
 
-pub iter-power : (j e w : ℕ) → w < 256 → iter (by j) e w ≡ timesC w (power 8 285 (j * e))
+pub iter_power : (j e w : ℕ) → w < 256 → iter (by j) e w ≡ times_c w (power 8 285 (j * e))
 unfolding iter power
-iter-power j zero w h = sym (ap (λ (k : ℕ). timesC w (power 8 285 k)) (mul-zero j) ∙ field-c.times-one w h)
-iter-power j (suc e) w h =
-    ap (by j) (iter-power j e w h)
-    ∙ field-c.times-assoc w (power 8 285 (j * e)) (power 8 285 j) h (field-c.power-lt (j * e)) (field-c.power-lt j)
-    ∙ ap (timesC w) (field-c.power-sum (j * e) j ∙ ap (power 8 285) (sym (mul-suc j e)))
+iter_power j zero w h = sym (ap (λ (k : ℕ). times_c w (power 8 285 k)) (mul-zero j) ∙ field_c.times_one w h)
+iter_power j (suc e) w h =
+    ap (by j) (iter_power j e w h)
+    ∙ field_c.times_assoc w (power 8 285 (j * e)) (power 8 285 j) h (field_c.power_lt (j * e)) (field_c.power_lt j)
+    ∙ ap (times_c w) (field_c.power_sum_lem (j * e) j ∙ ap (power 8 285) (sym (mul-suc j e)))
 
-sum-times : (w : ℕ) (g : ℕ → ℕ) (n : ℕ) → sumUpTo (λ m. timesC w (g m)) n ≡ timesC w (sumUpTo g n)
-unfolding sumUpTo
-sum-times w g zero = refl
-sum-times w g (suc n) = ap (λ (x : ℕ). xor x (timesC w (g (suc n)))) (sum-times w g n) ∙ sym (field-c.times-sum w _ _)
+sum_times : (w : ℕ) (g : ℕ → ℕ) (n : ℕ) → sum_up_to (λ m. times_c w (g m)) n ≡ times_c w (sum_up_to g n)
+unfolding sum_up_to
+sum_times w g zero = refl
+sum_times w g (suc n) = ap (λ (x : ℕ). xor x (times_c w (g (suc n)))) (sum_times w g n) ∙ sym (field_c.times_sum w _ _)
 
-abbrev polynomialAt : ℕ → ℕ
-polynomialAt j = xor (power 8 285 (j * 81)) (sumUpTo (λ n. power 8 285 (j * at exponentsBelow n)) 20)
+abbrev polynomial_at : ℕ → ℕ
+polynomial_at j = xor (power 8 285 (j * 81)) (sum_up_to (λ n. power 8 285 (j * at exponents_below n)) 20)
 
 -- the sixteen roots
-roots-test : every 16 (λ j. eqb (polynomialAt j) 0) ≡ true
-unfolding every sumUpTo exponentsBelow power doubled scale xor
-roots-test = refl
+roots_test : every 16 (λ j. eqb (polynomial_at j) 0) ≡ true
+unfolding every sum_up_to exponents_below power doubled scale xor
+roots_test = refl
 
-vanishes : (j w : ℕ) → j < 16 → w < 256 → xor (iter (by j) 81 w) (sumUpTo (λ n. iter (by j) (at exponentsBelow n) w) 20) ≡ 0
+vanishes : (j w : ℕ) → j < 16 → w < 256 → xor (iter (by j) 81 w) (sum_up_to (λ n. iter (by j) (at exponents_below n) w) 20) ≡ 0
 vanishes j w l h =
-    ap₂ xor (iter-power j 81 w h) (sum_same _ _ 20 (λ n. iter-power j (at exponentsBelow n) w h) ∙ sum-times w (λ n. power 8 285 (j * at exponentsBelow n)) 20)
-    ∙ sym (field-c.times-sum w _ _)
-    ∙ ap (timesC w) (eqb-true _ 0 (every-at 16 (λ j. eqb (polynomialAt j) 0) roots-test j l)) ∙ field-c.times_zero w
+    ap₂ xor (iter_power j 81 w h) (sum_same _ _ 20 (λ n. iter_power j (at exponents_below n) w h) ∙ sum_times w (λ n. power 8 285 (j * at exponents_below n)) 20)
+    ∙ sym (field_c.times_sum w _ _)
+    ∙ ap (times_c w) (eqb-true _ 0 (every_at 16 (λ j. eqb (polynomial_at j) 0) roots_test j l)) ∙ field_c.times_zero w
 
-horner-sums : (j : ℕ) (g : ℕ → ℕ → ℕ) (n k : ℕ) → horner (by j) (λ t. sumUpTo (λ m. g m t) n) k ≡ sumUpTo (λ m. horner (by j) (g m) k) n
-unfolding sumUpTo
-horner-sums j g zero k = refl
-horner-sums j g (suc n) k = horner-sum (by j) (by-sum j) (λ t. sumUpTo (λ m. g m t) n) (g (suc n)) k ∙ ap (λ (x : ℕ). xor x (horner (by j) (g (suc n)) k)) (horner-sums j g n k)
+horner_sums : (j : ℕ) (g : ℕ → ℕ → ℕ) (n k : ℕ) → horner (by j) (λ t. sum_up_to (λ m. g m t) n) k ≡ sum_up_to (λ m. horner (by j) (g m) k) n
+unfolding sum_up_to
+horner_sums j g zero k = refl
+horner_sums j g (suc n) k = horner_sum (by j) (by_sum j) (λ t. sum_up_to (λ m. g m t) n) (g (suc n)) k ∙ ap (λ (x : ℕ). xor x (horner (by j) (g (suc n)) k)) (horner_sums j g n k)
 
 -- zeros
 pub none : (j : ℕ) (b : ℕ → ℕ) (n : ℕ) → ((i : ℕ) → i < n → b i ≡ 0) → horner (by j) b n ≡ 0
-none j b n h = horner-same (by j) b (λ i. 0) n h ∙ horner-zero (by j) (by-sum j) (λ i. 0) (λ i. refl) n
+none j b n h = horner_same (by j) b (λ i. 0) n h ∙ horner_zero (by j) (by_sum j) (λ i. 0) (λ i. refl) n
 
-iter-none : (j n : ℕ) → iter (by j) n 0 ≡ 0
-iter-none j n = additive-zero (iter (by j) n) (iter-sum (by j) (by-sum j) n)
+iter_none : (j n : ℕ) → iter (by j) n 0 ≡ 0
+iter_none j n = additive_zero (iter (by j) n) (iter_sum (by j) (by_sum j) n)
 
 -- a shifted word: what is shifted out is zero, and so is what is shifted in
 shifted : (j : ℕ) (b : ℕ → ℕ) (e n : ℕ) → ((i : ℕ) → i < e → b i ≡ 0) → ((i : ℕ) → n ≤ i → b i ≡ 0) → horner (by j) (λ t. b (e + t)) n ≡ iter (by j) e (horner (by j) b n)
 shifted j b e n front behind =
     let f = by j in
     let left : horner f b (e + n) ≡ horner f (λ t. b (e + t)) n =
-    horner-parts f (by-sum j) b e n ∙ ap (λ (x : ℕ). xor (iter f n x) (horner f (λ t. b (e + t)) n)) (none j b e front)
-    ∙ ap (λ (x : ℕ). xor x (horner f (λ t. b (e + t)) n)) (iter-none j n) ∙ xor_zero_l _ in
+    horner_parts f (by_sum j) b e n ∙ ap (λ (x : ℕ). xor (iter f n x) (horner f (λ t. b (e + t)) n)) (none j b e front)
+    ∙ ap (λ (x : ℕ). xor x (horner f (λ t. b (e + t)) n)) (iter_none j n) ∙ xor_zero_l _ in
     let right : horner f b (n + e) ≡ iter f e (horner f b n) =
-    horner-parts f (by-sum j) b n e ∙ ap (xor (iter f e (horner f b n))) (none j (λ i. b (n + i)) e (λ i l. behind (n + i) (omega arith))) ∙ xor_zero_r _ in
+    horner_parts f (by_sum j) b n e ∙ ap (xor (iter f e (horner f b n))) (none j (λ i. b (n + i)) e (λ i l. behind (n + i) (omega arith))) ∙ xor_zero_r _ in
     let comm : n + e ≡ e + n = omega arith in
     sym left ∙ ap (horner f b) (sym comm) ∙ right
 
 -- the value of a word at the root a^j
-pub value-by : (w : List ℕ) (j : ℕ) → valueAtRoot 8 285 0 w j ≡ horner (by j) (at w) (length w)
-unfolding valueAtRoot
-value-by w j = ap (λ (i : ℕ). horner (by i) (at w) (length w)) (zero-add j)
+pub value_by : (w : List ℕ) (j : ℕ) → value_at_root 8 285 0 w j ≡ horner (by j) (at w) (length w)
+unfolding value_at_root
+value_by w j = ap (λ (i : ℕ). horner (by i) (at w) (length w)) (zero-add j)
 
 -- a word with sixteen symbols after it
-pub append-value : (j : ℕ) (a b : List ℕ) → length b ≡ 16 → valueAtRoot 8 285 0 (a ++ b) j ≡ xor (iter (by j) 16 (horner (by j) (at a) (length a))) (horner (by j) (at b) 16)
-append-value j a b long =
-    value-by (a ++ b) j ∙ ap (horner (by j) (at (a ++ b))) (length-append a b ∙ ap (λ (n : ℕ). length a + n) long)
-    ∙ horner-parts (by j) (by-sum j) (at (a ++ b)) (length a) 16
-    ∙ ap₂ (λ (x y : ℕ). xor (iter (by j) 16 x) y) (horner-same (by j) _ _ (length a) (get_or-append a b 0)) (horner-same (by j) _ _ 16 (λ i l. get_or-append-add a b i 0))
+pub append_value : (j : ℕ) (a b : List ℕ) → length b ≡ 16 → value_at_root 8 285 0 (a ++ b) j ≡ xor (iter (by j) 16 (horner (by j) (at a) (length a))) (horner (by j) (at b) 16)
+append_value j a b long =
+    value_by (a ++ b) j ∙ ap (horner (by j) (at (a ++ b))) (length-append a b ∙ ap (λ (n : ℕ). length a + n) long)
+    ∙ horner_parts (by j) (by_sum j) (at (a ++ b)) (length a) 16
+    ∙ ap₂ (λ (x y : ℕ). xor (iter (by j) 16 x) y) (horner_same (by j) _ _ (length a) (get_or-append a b 0)) (horner_same (by j) _ _ 16 (λ i l. get_or-append-add a b i 0))
 
 pub same_of : (x y : ℕ) → xor x y ≡ 0 → x ≡ y
-same_of x y e = sym (xor_zero_r x) ∙ ap (xor x) (sym e) ∙ xor-cancel x y
+same_of x y e = sym (xor_zero_r x) ∙ ap (xor x) (sym e) ∙ xor_cancel x y
 
-pub parity-lane : (d : ℕ → ℕ) (k : ℕ) → parityOf 8 285 0 16 (tabulate 239 (λ t. d (16 * t + k))) ≡ lane d 239 k
-unfolding parityOf
-parity-lane d k =
-    ap (divided timesC 16 (at (generatorOf 8 285 0 16)) (at (tabulate 239 (λ t. d (16 * t + k))))) (tabulate-length {A = ℕ} 239 (λ t. d (16 * t + k)))
-    ∙ divided-same timesC 16 (at (generatorOf 8 285 0 16)) (at (tabulate 239 (λ t. d (16 * t + k)))) (λ t. d (16 * t + k)) 239 (λ t l. tabulate-at 239 _ t 0 l)
+pub parity_lane : (d : ℕ → ℕ) (k : ℕ) → parity_of 8 285 0 16 (tabulate 239 (λ t. d (16 * t + k))) ≡ lane d 239 k
+unfolding parity_of
+parity_lane d k =
+    ap (divided times_c 16 (at (generator_of 8 285 0 16)) (at (tabulate 239 (λ t. d (16 * t + k))))) (tabulate_length {A = ℕ} 239 (λ t. d (16 * t + k)))
+    ∙ divided_same times_c 16 (at (generator_of 8 285 0 16)) (at (tabulate 239 (λ t. d (16 * t + k)))) (λ t. d (16 * t + k)) 239 (λ t l. tabulate_at 239 _ t 0 l)
 
 -- ---- a lane
 
@@ -146,25 +146,25 @@ module _ (d : ℕ → ℕ) (q out : List ℕ) (Q : QuotientTo d 2784 q) (F : Fol
   O s = at out (16 * s + k)
 
   abbrev S : ℕ → ℕ
-  S t = sumUpTo (λ n. R (at exponentsBelow n + t)) 20
+  S t = sum_up_to (λ n. R (at exponents_below n + t)) 20
 
   abbrev H : ℕ → ℕ
   H t = xor (R (81 + t)) (S t)
 
-  dd-at : (t : ℕ) → t < 239 → at dd t ≡ d (16 * t + k)
-  dd-at t l = tabulate-at 239 _ t 0 l
+  dd_at : (t : ℕ) → t < 239 → at dd t ≡ d (16 * t + k)
+  dd_at t l = tabulate_at 239 _ t 0 l
 
-  dd-past : (t : ℕ) → 239 ≤ t → at dd t ≡ 0
-  dd-past t l = get_or-eq_default dd 0 {n = t} (omega (arith, tabulate-length {A = ℕ} 239 (λ t. d (16 * t + k))))
+  dd_past : (t : ℕ) → 239 ≤ t → at dd t ≡ 0
+  dd_past t l = get_or-eq_default dd 0 {n = t} (omega (arith, tabulate_length {A = ℕ} 239 (λ t. d (16 * t + k))))
 
-  tap-lane : (t : ℕ) → taps q (16 * t + k) ≡ S t
+  tap_lane : (t : ℕ) → taps q (16 * t + k) ≡ S t
   unfolding taps
-  tap-lane t = sum_same _ _ 20 (λ n. ap (at q) (omega arith))
+  tap_lane t = sum_same _ _ 20 (λ n. ap (at q) (omega arith))
 
   early : (t : ℕ) → t < 174 → xor (at dd t) (H t) ≡ 0
   early t l =
       let e : 16 * (81 + t) + k ≡ 1296 + (16 * t + k) = omega arith in
-      let r : R (81 + t) ≡ xor (at dd t) (S t) = ap (at q) e ∙ Q.made (16 * t + k) (omega arith) ∙ ap₂ xor (sym (dd-at t (omega arith))) (tap-lane t) in
+      let r : R (81 + t) ≡ xor (at dd t) (S t) = ap (at q) e ∙ Q.made (16 * t + k) (omega arith) ∙ ap₂ xor (sym (dd_at t (omega arith))) (tap_lane t) in
       ap (λ (x : ℕ). xor (at dd t) (xor x (S t))) r ∙ ap (xor (at dd t)) (xor_assoc (at dd t) (S t) (S t) ∙ ap (xor (at dd t)) (xor_self (S t)) ∙ xor_zero_r (at dd t)) ∙ xor_self (at dd t)
 
   out_at : (s : ℕ) → s < 81 → O s ≡ xor (at dd (174 + s)) (S (174 + s))
@@ -174,139 +174,139 @@ module _ (d : ℕ → ℕ) (q out : List ℕ) (Q : QuotientTo d 2784 q) (F : Fol
       e = omega arith
 
       go : Dec (s < 65) → O s ≡ xor (at dd (174 + s)) (S (174 + s))
-      go (yes h) = F.first (16 * s + k) (omega arith) ∙ ap₂ xor (ap d e ∙ sym (dd-at (174 + s) (omega arith))) (ap (taps q) e ∙ tap-lane (174 + s))
+      go (yes h) = F.first (16 * s + k) (omega arith) ∙ ap₂ xor (ap d e ∙ sym (dd_at (174 + s) (omega arith))) (ap (taps q) e ∙ tap_lane (174 + s))
       go (no h) =
-          F.last (16 * s + k) (omega arith) (omega arith) ∙ ap (taps q) e ∙ tap-lane (174 + s)
-          ∙ sym (ap (λ (x : ℕ). xor x (S (174 + s))) (dd-past (174 + s) (omega arith)) ∙ xor_zero_l _)
+          F.last (16 * s + k) (omega arith) (omega arith) ∙ ap (taps q) e ∙ tap_lane (174 + s)
+          ∙ sym (ap (λ (x : ℕ). xor x (S (174 + s))) (dd_past (174 + s) (omega arith)) ∙ xor_zero_l _)
 
   late : (s : ℕ) → s < 81 → xor (at dd (174 + s)) (H (174 + s)) ≡ O s
   late s l =
       ap (λ (x : ℕ). xor (at dd (174 + s)) (xor x (S (174 + s)))) (Q.behind (16 * (81 + (174 + s)) + k) (omega arith))
       ∙ ap (xor (at dd (174 + s))) (xor_zero_l _) ∙ sym (out_at s l)
 
-  R-front : (i : ℕ) → i < 81 → R i ≡ 0
-  R-front i l = Q.front (16 * i + k) (omega arith)
+  R_front : (i : ℕ) → i < 81 → R i ≡ 0
+  R_front i l = Q.front (16 * i + k) (omega arith)
 
-  R-behind : (i : ℕ) → 255 ≤ i → R i ≡ 0
-  R-behind i l = Q.behind (16 * i + k) (omega arith)
+  R_behind : (i : ℕ) → 255 ≤ i → R i ≡ 0
+  R_behind i l = Q.behind (16 * i + k) (omega arith)
 
   module _ (j : ℕ) (hj : j < 16) where
     abbrev W : ℕ
     W = horner (by j) R 255
 
-    W-lt : W < 256
-    W-lt = value-lt 8 285 field-c (power 8 285 j) R (λ i. Q.bytes (16 * i + k)) 255
+    W_lt : W < 256
+    W_lt = value_lt 8 285 field_c (power 8 285 j) R (λ i. Q.bytes (16 * i + k)) 255
 
     multiple : horner (by j) H 255 ≡ 0
     multiple =
-        horner-sum (by j) (by-sum j) (λ t. R (81 + t)) S 255
-        ∙ ap₂ xor (shifted j R 81 255 R-front R-behind)
-        (horner-sums j (λ n t. R (at exponentsBelow n + t)) 20 255
-        ∙ sum_same _ _ 20 (λ n. shifted j R (at exponentsBelow n) 255 (λ i l. R-front i (omega (arith, exponent_lt n))) R-behind))
-        ∙ vanishes j W hj W-lt
+        horner_sum (by j) (by_sum j) (λ t. R (81 + t)) S 255
+        ∙ ap₂ xor (shifted j R 81 255 R_front R_behind)
+        (horner_sums j (λ n t. R (at exponents_below n + t)) 20 255
+        ∙ sum_same _ _ 20 (λ n. shifted j R (at exponents_below n) 255 (λ i l. R_front i (omega (arith, exponent_lt n))) R_behind))
+        ∙ vanishes j W hj W_lt
 
-    fold-value : horner (by j) (at dd) 255 ≡ horner (by j) O 81
-    fold-value =
+    fold_value : horner (by j) (at dd) 255 ≡ horner (by j) O 81
+    fold_value =
         let f = by j in
         let E : ℕ → ℕ = λ t. xor (at dd t) (H t) in
-        sym (horner-sum f (by-sum j) (at dd) H 255 ∙ ap (xor (horner f (at dd) 255)) multiple ∙ xor_zero_r _)
-        ∙ horner-parts f (by-sum j) E 174 81
-        ∙ ap₂ (λ (x y : ℕ). xor (iter f 81 x) y) (none j E 174 early) (horner-same f (λ s. E (174 + s)) O 81 late)
-        ∙ ap (λ (x : ℕ). xor x (horner f O 81)) (iter-none j 81) ∙ xor_zero_l _
+        sym (horner_sum f (by_sum j) (at dd) H 255 ∙ ap (xor (horner f (at dd) 255)) multiple ∙ xor_zero_r _)
+        ∙ horner_parts f (by_sum j) E 174 81
+        ∙ ap₂ (λ (x y : ℕ). xor (iter f 81 x) y) (none j E 174 early) (horner_same f (λ s. E (174 + s)) O 81 late)
+        ∙ ap (λ (x : ℕ). xor x (horner f O 81)) (iter_none j 81) ∙ xor_zero_l _
 
   -- ---- the remainder of the folded word
 
-  out-lt : (s : ℕ) → s < 81 → O s < 256
-  out-lt s l =
-      rw (out_at s l) (xor_lt 8 _ _ (tabulate-lt 256 239 _ (lit< tt) (λ t. small (16 * t + k)) (174 + s)) (sum_lt _ 20 (λ n. Q.bytes _)))
+  out_lt : (s : ℕ) → s < 81 → O s < 256
+  out_lt s l =
+      rw (out_at s l) (xor_lt 8 _ _ (tabulate_lt 256 239 _ (lit< tt) (λ t. small (16 * t + k)) (174 + s)) (sum_lt _ 20 (λ n. Q.bytes _)))
 
   abbrev P : List ℕ
-  P = divided timesC 16 (at (generatorOf 8 285 0 16)) O 65
+  P = divided times_c 16 (at (generator_of 8 285 0 16)) O 65
 
   abbrev T : List ℕ
   T = tabulate 16 (λ c. xor (at P c) (O (65 + c)))
 
-  hd-at : (i : ℕ) → i < 65 → at (tabulate 65 O) i ≡ O i
-  hd-at i l = tabulate-at 65 O i 0 l
+  hd_at : (i : ℕ) → i < 65 → at (tabulate 65 O) i ≡ O i
+  hd_at i l = tabulate_at 65 O i 0 l
 
-  parity-is : parityOf 8 285 0 16 (tabulate 65 O) ≡ P
-  unfolding parityOf
-  parity-is =
-      ap (divided timesC 16 (at (generatorOf 8 285 0 16)) (at (tabulate 65 O))) (tabulate-length 65 O)
-      ∙ divided-same timesC 16 (at (generatorOf 8 285 0 16)) (at (tabulate 65 O)) O 65 hd-at
+  parity_is : parity_of 8 285 0 16 (tabulate 65 O) ≡ P
+  unfolding parity_of
+  parity_is =
+      ap (divided times_c 16 (at (generator_of 8 285 0 16)) (at (tabulate 65 O))) (tabulate_length 65 O)
+      ∙ divided_same times_c 16 (at (generator_of 8 285 0 16)) (at (tabulate 65 O)) O 65 hd_at
 
-  hd-below : all_below 256 (tabulate 65 O) ≡ true
-  hd-below = below_all 256 (tabulate 65 O) (λ i l. let m : i < 65 = rw (tabulate-length 65 O) at l in rw (hd-at i m) (out-lt i (omega arith)))
+  hd_below : all_below 256 (tabulate 65 O) ≡ true
+  hd_below = below_all 256 (tabulate 65 O) (λ i l. let m : i < 65 = rw (tabulate_length 65 O) at l in rw (hd_at i m) (out_lt i (omega arith)))
 
-  P-length : length P ≡ 16
-  P-length = ap length (sym parity-is) ∙ code-c.parity-length (tabulate 65 O)
+  P_length : length P ≡ 16
+  P_length = ap length (sym parity_is) ∙ code_c.parity_length (tabulate 65 O)
 
-  hd-code : isCodeWord 8 285 0 16 (tabulate 65 O ++ P) ≡ true
-  hd-code = rw (← parity-is) (code-c.parity-made (tabulate 65 O) hd-below)
+  hd_code : is_code_word 8 285 0 16 (tabulate 65 O ++ P) ≡ true
+  hd_code = rw (← parity_is) (code_c.parity_made (tabulate 65 O) hd_below)
 
-  T-length : length T ≡ 16
-  T-length = tabulate-length 16 _
+  T_length : length T ≡ 16
+  T_length = tabulate_length 16 _
 
   module _ (j : ℕ) (hj : j < 16) where
     abbrev X : ℕ
     X = iter (by j) 16 (horner (by j) O 65)
 
-    X-is : X ≡ horner (by j) (at P) 16
-    X-is =
+    X_is : X ≡ horner (by j) (at P) 16
+    X_is =
         same_of X (horner (by j) (at P) 16)
-        (sym (append-value j (tabulate 65 O) P P-length
-        ∙ ap (λ (x : ℕ). xor (iter (by j) 16 x) (horner (by j) (at P) 16)) (ap (horner (by j) (at (tabulate 65 O))) (tabulate-length 65 O) ∙ horner-same (by j) _ O 65 hd-at))
-        ∙ (code_is 8 285 0 16 (tabulate 65 O ++ P) hd-code).zeros j hj)
+        (sym (append_value j (tabulate 65 O) P P_length
+        ∙ ap (λ (x : ℕ). xor (iter (by j) 16 x) (horner (by j) (at P) 16)) (ap (horner (by j) (at (tabulate 65 O))) (tabulate_length 65 O) ∙ horner_same (by j) _ O 65 hd_at))
+        ∙ (code_is 8 285 0 16 (tabulate 65 O ++ P) hd_code).zeros j hj)
 
-    T-value : horner (by j) (at T) 16 ≡ horner (by j) O 81
-    T-value =
-        horner-same (by j) (at T) (λ c. xor (at P c) (O (65 + c))) 16 (λ c l. tabulate-at 16 _ c 0 l)
-        ∙ horner-sum (by j) (by-sum j) (at P) (λ c. O (65 + c)) 16
-        ∙ ap (λ (x : ℕ). xor x (horner (by j) (λ c. O (65 + c)) 16)) (sym X-is)
-        ∙ sym (horner-parts (by j) (by-sum j) O 65 16)
+    T_value : horner (by j) (at T) 16 ≡ horner (by j) O 81
+    T_value =
+        horner_same (by j) (at T) (λ c. xor (at P c) (O (65 + c))) 16 (λ c l. tabulate_at 16 _ c 0 l)
+        ∙ horner_sum (by j) (by_sum j) (at P) (λ c. O (65 + c)) 16
+        ∙ ap (λ (x : ℕ). xor x (horner (by j) (λ c. O (65 + c)) 16)) (sym X_is)
+        ∙ sym (horner_parts (by j) (by_sum j) O 65 16)
 
-    word-zero : valueAtRoot 8 285 0 (dd ++ T) j ≡ 0
-    word-zero =
+    word_zero : value_at_root 8 285 0 (dd ++ T) j ≡ 0
+    word_zero =
         let f = by j in
-        let data-value : horner f (at dd) 255 ≡ iter f 16 (horner f (at dd) 239) =
-        horner-parts f (by-sum j) (at dd) 239 16 ∙ ap (xor (iter f 16 (horner f (at dd) 239))) (none j (λ i. at dd (239 + i)) 16 (λ i l. dd-past (239 + i) (omega arith))) ∙ xor_zero_r _ in
-        append-value j dd T T-length
-        ∙ ap₂ xor (ap (λ (n : ℕ). iter f 16 (horner f (at dd) n)) (tabulate-length {A = ℕ} 239 (λ t. d (16 * t + k))) ∙ sym data-value ∙ fold-value j hj) T-value
+        let data_value : horner f (at dd) 255 ≡ iter f 16 (horner f (at dd) 239) =
+        horner_parts f (by_sum j) (at dd) 239 16 ∙ ap (xor (iter f 16 (horner f (at dd) 239))) (none j (λ i. at dd (239 + i)) 16 (λ i l. dd_past (239 + i) (omega arith))) ∙ xor_zero_r _ in
+        append_value j dd T T_length
+        ∙ ap₂ xor (ap (λ (n : ℕ). iter f 16 (horner f (at dd) n)) (tabulate_length {A = ℕ} 239 (λ t. d (16 * t + k))) ∙ sym data_value ∙ fold_value j hj) T_value
         ∙ xor_self (horner f O 81)
 
-  P-lt : (i : ℕ) → at P i < 256
-  P-lt i = rw P-append ((code_is 8 285 0 16 (tabulate 65 O ++ P) hd-code).symbols (length (tabulate 65 O) + i))
+  P_lt : (i : ℕ) → at P i < 256
+  P_lt i = rw P_append ((code_is 8 285 0 16 (tabulate 65 O ++ P) hd_code).symbols (length (tabulate 65 O) + i))
     where
-      P-append : at P i ≡ at (tabulate 65 O ++ P) (length (tabulate 65 O) + i)
-      P-append = sym (get_or-append-add (tabulate 65 O) P i 0)
+      P_append : at P i ≡ at (tabulate 65 O ++ P) (length (tabulate 65 O) + i)
+      P_append = sym (get_or-append-add (tabulate 65 O) P i 0)
 
-  T-below : all_below 256 T ≡ true
-  T-below =
-      below_all 256 T (λ i l. let m : i < 16 = rw T-length at l in rw (tabulate-at 16 (λ c. xor (at P c) (O (65 + c))) i 0 m) (xor_lt 8 _ _ (P-lt i) (out-lt (65 + i) (omega arith))))
+  T_below : all_below 256 T ≡ true
+  T_below =
+      below_all 256 T (λ i l. let m : i < 16 = rw T_length at l in rw (tabulate_at 16 (λ c. xor (at P c) (O (65 + c))) i 0 m) (xor_lt 8 _ _ (P_lt i) (out_lt (65 + i) (omega arith))))
 
-  dd-below : all_below 256 dd ≡ true
-  dd-below = below_all 256 dd (λ i l. tabulate-lt 256 239 _ (lit< tt) (λ t. small (16 * t + k)) i)
+  dd_below : all_below 256 dd ≡ true
+  dd_below = below_all 256 dd (λ i l. tabulate_lt 256 239 _ (lit< tt) (λ t. small (16 * t + k)) i)
 
-  word-code : isCodeWord 8 285 0 16 (dd ++ T) ≡ true
-  unfolding isCodeWord
-  word-code = rw (below-append 256 dd T dd-below T-below) (every_true 16 _ (λ j l. eq-eqb (valueAtRoot 8 285 0 (dd ++ T) j) 0 (word-zero j l)))
+  word_code : is_code_word 8 285 0 16 (dd ++ T) ≡ true
+  unfolding is_code_word
+  word_code = rw (below_append 256 dd T dd_below T_below) (every_true 16 _ (λ j l. eq-eqb (value_at_root 8 285 0 (dd ++ T) j) 0 (word_zero j l)))
 
-  pub lane-folded : T ≡ divided timesC 16 (at (generatorOf 8 285 0 16)) (λ t. d (16 * t + k)) 239
-  lane-folded = code-c.parity-only dd T (omega (arith, tabulate-length {A = ℕ} 239 (λ t. d (16 * t + k)))) T-length word-code ∙ parity-lane d k
+  pub lane_folded : T ≡ divided times_c 16 (at (generator_of 8 285 0 16)) (λ t. d (16 * t + k)) 239
+  lane_folded = code_c.parity_only dd T (omega (arith, tabulate_length {A = ℕ} 239 (λ t. d (16 * t + k)))) T_length word_code ∙ parity_lane d k
 
 -- ---- the loops
 
-pub quotient-start : (d : ℕ → ℕ) (q : List ℕ) → q ≡ tabulate 5376 (λ i. 0) → QuotientTo d 0 q
-quotient-start d q e =
+pub quotient_start : (d : ℕ → ℕ) (q : List ℕ) → q ≡ tabulate 5376 (λ i. 0) → QuotientTo d 0 q
+quotient_start d q e =
     let zero : (i : ℕ) → at q i ≡ 0 = λ i. ap (λ (q : List ℕ). at q i) e ∙ zeros i in
     record { front = λ i l. zero i; made = λ i l. absurd (omega arith); behind = λ i l. zero i; bytes = λ i. omega (arith, zero i) }
   where
     zeros : (i : ℕ) → at (tabulate 5376 (λ i. 0)) i ≡ 0
-    zeros i = let h : at (tabulate 5376 (λ i. 0)) i < 1 = tabulate-lt 1 5376 (λ i. 0) (lit< tt) (λ i. lit< tt) i in omega arith
+    zeros i = let h : at (tabulate 5376 (λ i. 0)) i < 1 = tabulate_lt 1 5376 (λ i. 0) (lit< tt) (λ i. lit< tt) i in omega arith
 
-pub quotient-next : (row q : List ℕ) (from i t v : ℕ) → QuotientTo (λ k. at row (from + k)) i q → i < 2784 → length q ≡ 5376 → at row (from + i) < 256 → t ≡ taps q i → v ≡ xor (at row (from + i)) t →
+pub quotient_next : (row q : List ℕ) (from i t v : ℕ) → QuotientTo (λ k. at row (from + k)) i q → i < 2784 → length q ≡ 5376 → at row (from + i) < 256 → t ≡ taps q i → v ≡ xor (at row (from + i)) t →
     QuotientTo (λ k. at row (from + k)) (i + 1) (set q (1296 + i) v)
-quotient-next row q from i t v h l long small et ev =
+quotient_next row q from i t v h l long small et ev =
     record {
       front = λ m b. other m (λ e. omega arith) ∙ h.front m b;
       made = λ m b. go m b (ℕ_discrete m i);
@@ -324,31 +324,31 @@ quotient-next row q from i t v h l long small et ev =
     same = get_or-set_same q (1296 + i) v 0 (omega arith)
 
     before : (m : ℕ) → m ≤ i → taps (set q (1296 + i) v) m ≡ taps q m
-    before m b = taps-same (set q (1296 + i) v) q m (λ j k. other j (λ e. omega arith))
+    before m b = taps_same (set q (1296 + i) v) q m (λ j k. other j (λ e. omega arith))
 
     go : (m : ℕ) → m < i + 1 → Dec (m ≡ i) → at (set q (1296 + i) v) (1296 + m) ≡ xor (at row (from + m)) (taps (set q (1296 + i) v) m)
     go m b (yes e) = rw e (same ∙ ev ∙ ap (xor (at row (from + i))) (et ∙ sym (before i (omega arith))))
     go m b (no ne) = other (1296 + m) (λ e. ne (omega arith)) ∙ h.made m (omega (arith, ne)) ∙ ap (xor (at row (from + m))) (sym (before m (omega arith)))
 
     size : (m : ℕ) → Dec (m ≡ 1296 + i) → at (set q (1296 + i) v) m < 256
-    size m (yes e) = rw (e, same, ev, et) (xor_lt 8 _ _ small (taps-lt q i h.bytes))
+    size m (yes e) = rw (e, same, ev, et) (xor_lt 8 _ _ small (taps_lt q i h.bytes))
     size m (no ne) = rw (other m ne) (h.bytes m)
 
-pub quotient-end : (row q : List ℕ) (from i : ℕ) → QuotientTo (λ k. at row (from + k)) i q → i ≤ 2784 → 2784 ≤ i → QuotientTo (λ k. at row (from + k)) 2784 q
-quotient-end row q from i h l g = let e : i ≡ 2784 = omega arith in rw e at h
+pub quotient_end : (row q : List ℕ) (from i : ℕ) → QuotientTo (λ k. at row (from + k)) i q → i ≤ 2784 → 2784 ≤ i → QuotientTo (λ k. at row (from + k)) 2784 q
+quotient_end row q from i h l g = let e : i ≡ 2784 = omega arith in rw e at h
 
-pub add-parity-next : (l row : List ℕ) (from k v : ℕ) (o : List ℕ) → OverTo l 0 256 (λ k. xor (at l k) (at row (from + k))) k o → k < 256 → length l ≡ 272 → v ≡ xor (at o k) (at row (from + k)) →
+pub add_parity_next : (l row : List ℕ) (from k v : ℕ) (o : List ℕ) → OverTo l 0 256 (λ k. xor (at l k) (at row (from + k))) k o → k < 256 → length l ≡ 272 → v ≡ xor (at o k) (at row (from + k)) →
     OverTo l 0 256 (λ k. xor (at l k) (at row (from + k))) (k + 1) (set o (0 + k) v)
-add-parity-next l row from k v o h lt long ev = over-next l 0 256 (λ k. xor (at l k) (at row (from + k))) k v o h lt (omega arith) (ev ∙ ap (λ (x : ℕ). xor x (at row (from + k))) (h.behind k (omega arith)))
+add_parity_next l row from k v o h lt long ev = over_next l 0 256 (λ k. xor (at l k) (at row (from + k))) k v o h lt (omega arith) (ev ∙ ap (λ (x : ℕ). xor x (at row (from + k))) (h.behind k (omega arith)))
 
-pub add-next : (l out : List ℕ) (k v : ℕ) (o : List ℕ) → OverTo l 0 256 (λ k. xor (at l k) (at out (1040 + k))) k o → k < 256 → length l ≡ 272 → v ≡ xor (at o k) (at out (1040 + k)) →
+pub add_next : (l out : List ℕ) (k v : ℕ) (o : List ℕ) → OverTo l 0 256 (λ k. xor (at l k) (at out (1040 + k))) k o → k < 256 → length l ≡ 272 → v ≡ xor (at o k) (at out (1040 + k)) →
     OverTo l 0 256 (λ k. xor (at l k) (at out (1040 + k))) (k + 1) (set o (0 + k) v)
-add-next l out k v o h lt long ev = over-next l 0 256 (λ k. xor (at l k) (at out (1040 + k))) k v o h lt (omega arith) (ev ∙ ap (λ (x : ℕ). xor x (at out (1040 + k))) (h.behind k (omega arith)))
+add_next l out k v o h lt long ev = over_next l 0 256 (λ k. xor (at l k) (at out (1040 + k))) k v o h lt (omega arith) (ev ∙ ap (λ (x : ℕ). xor x (at out (1040 + k))) (h.behind k (omega arith)))
 
 -- what the two stores leave
-pub left-folded : (row q z a out : List ℕ) (from : ℕ) → length z ≡ 1296 → a ≡ over z 0 1040 (λ i. xor (at row (from + 2784 + i)) (taps q (2784 + i))) → out ≡ over a 1040 256 (λ i. taps q (3824 + i)) →
+pub left_folded : (row q z a out : List ℕ) (from : ℕ) → length z ≡ 1296 → a ≡ over z 0 1040 (λ i. xor (at row (from + 2784 + i)) (taps q (2784 + i))) → out ≡ over a 1040 256 (λ i. taps q (3824 + i)) →
     Folded (λ k. at row (from + k)) q out
-left-folded row q z a out from long ea eo =
+left_folded row q z a out from long ea eo =
     record { first = λ i l. start i l; last = λ i l m. rest i l m }
   where
     f : ℕ → ℕ
@@ -357,76 +357,76 @@ left-folded row q z a out from long ea eo =
     g : ℕ → ℕ
     g i = taps q (3824 + i)
 
-    a-long : length a ≡ 1296
-    a-long = ap length ea ∙ over-length z 0 1040 (λ i. xor (at row (from + 2784 + i)) (taps q (2784 + i))) ∙ long
+    a_long : length a ≡ 1296
+    a_long = ap length ea ∙ over_length z 0 1040 (λ i. xor (at row (from + 2784 + i)) (taps q (2784 + i))) ∙ long
 
     start : (i : ℕ) → i < 1040 → at out i ≡ xor (at row (from + (2784 + i))) (taps q (2784 + i))
     start i l =
         let e : from + 2784 + i ≡ from + (2784 + i) = omega arith in
         let z0 : i ≡ 0 + i = omega arith in
-        ap (λ (o : List ℕ). at o i) eo ∙ over-front a 1040 256 (λ i. taps q (3824 + i)) i l ∙ ap (λ (o : List ℕ). at o i) ea ∙ ap (at (over z 0 1040 (λ i. xor (at row (from + 2784 + i)) (taps q (2784 + i))))) z0
-        ∙ over-in z 0 1040 (λ i. xor (at row (from + 2784 + i)) (taps q (2784 + i))) i l (omega arith) ∙ ap (λ (n : ℕ). xor (at row n) (taps q (2784 + i))) e
+        ap (λ (o : List ℕ). at o i) eo ∙ over_front a 1040 256 (λ i. taps q (3824 + i)) i l ∙ ap (λ (o : List ℕ). at o i) ea ∙ ap (at (over z 0 1040 (λ i. xor (at row (from + 2784 + i)) (taps q (2784 + i))))) z0
+        ∙ over_in z 0 1040 (λ i. xor (at row (from + 2784 + i)) (taps q (2784 + i))) i l (omega arith) ∙ ap (λ (n : ℕ). xor (at row n) (taps q (2784 + i))) e
 
     rest : (i : ℕ) → 1040 ≤ i → i < 1296 → at out i ≡ taps q (2784 + i)
     rest i l m =
         let e : i ≡ 1040 + (i - 1040) = omega arith in
         let n : 3824 + (i - 1040) ≡ 2784 + i = omega arith in
-        ap (λ (o : List ℕ). at o i) eo ∙ ap (at (over a 1040 256 (λ i. taps q (3824 + i)))) e ∙ over-in a 1040 256 (λ i. taps q (3824 + i)) (i - 1040) (omega arith) (omega (arith, a-long)) ∙ ap (taps q) n
+        ap (λ (o : List ℕ). at o i) eo ∙ ap (at (over a 1040 256 (λ i. taps q (3824 + i)))) e ∙ over_in a 1040 256 (λ i. taps q (3824 + i)) (i - 1040) (omega arith) (omega (arith, a_long)) ∙ ap (taps q) n
 
 -- ---- all lanes
 
 module _ (row q z a out r o : List ℕ) (from : ℕ) (Q : QuotientTo (λ k. at row (from + k)) 2784 q) (long : length z ≡ 1296)
     (ea : a ≡ over z 0 1040 (λ i. xor (at row (from + 2784 + i)) (taps q (2784 + i)))) (eo : out ≡ over a 1040 256 (λ i. taps q (3824 + i)))
-    (er : r ≡ rowDivided out 0 65) (e : o ≡ over r 0 256 (λ i. xor (at r i) (at out (1040 + i)))) (small : (i : ℕ) → at row i < 256) where
+    (er : r ≡ row_divided out 0 65) (e : o ≡ over r 0 256 (λ i. xor (at r i) (at out (1040 + i)))) (small : (i : ℕ) → at row i < 256) where
   d : ℕ → ℕ
   d i = at row (from + i)
 
-  r-at : (c k : ℕ) → c < 17 → k < 16 → at r (16 * c + k) ≡ at (divided timesC 16 (at (generatorOf 8 285 0 16)) (λ t. at out (16 * t + k)) 65) c
-  unfolding rowDivided
-  r-at c k hc hk =
-      ap (λ (l : List ℕ). at l (16 * c + k)) er ∙ registers-at (λ i. at out (0 + i)) 65 c k hc hk
-      ∙ ap (λ (l : List ℕ). at l c) (divided-same timesC 16 (at (generatorOf 8 285 0 16)) (λ t. at out (0 + (16 * t + k))) (λ t. at out (16 * t + k)) 65 (λ t l. ap (at out) (omega arith)))
+  r_at : (c k : ℕ) → c < 17 → k < 16 → at r (16 * c + k) ≡ at (divided times_c 16 (at (generator_of 8 285 0 16)) (λ t. at out (16 * t + k)) 65) c
+  unfolding row_divided
+  r_at c k hc hk =
+      ap (λ (l : List ℕ). at l (16 * c + k)) er ∙ registers_at (λ i. at out (0 + i)) 65 c k hc hk
+      ∙ ap (λ (l : List ℕ). at l c) (divided_same times_c 16 (at (generator_of 8 285 0 16)) (λ t. at out (0 + (16 * t + k))) (λ t. at out (16 * t + k)) 65 (λ t l. ap (at out) (omega arith)))
 
-  r-length : length r ≡ 272
-  unfolding rowDivided
-  r-length = ap length er ∙ registers-length (λ i. at out (0 + i)) 65
+  r_length : length r ≡ 272
+  unfolding row_divided
+  r_length = ap length er ∙ registers_length (λ i. at out (0 + i)) 65
 
-  o-length : length o ≡ 272
-  o-length = ap length e ∙ over-length r 0 256 (λ i. xor (at r i) (at out (1040 + i))) ∙ r-length
+  o_length : length o ≡ 272
+  o_length = ap length e ∙ over_length r 0 256 (λ i. xor (at r i) (at out (1040 + i))) ∙ r_length
 
-  in-parity : (c k : ℕ) → c < 16 → k < 16 → at o (16 * c + k) ≡ at (lane (λ i. at row (from + i)) 239 k) c
-  in-parity c k hc hk =
+  in_parity : (c k : ℕ) → c < 16 → k < 16 → at o (16 * c + k) ≡ at (lane (λ i. at row (from + i)) 239 k) c
+  in_parity c k hc hk =
       let zero : 16 * c + k ≡ 0 + (16 * c + k) = omega arith in
       let up : 1040 + (16 * c + k) ≡ 16 * (65 + c) + k = omega arith in
-      let F = left-folded row q z a out from long ea eo in
+      let F = left_folded row q z a out from long ea eo in
       ap (λ (l : List ℕ). at l (16 * c + k)) e ∙ ap (at (over r 0 256 (λ i. xor (at r i) (at out (1040 + i))))) zero
-      ∙ over-in r 0 256 (λ i. xor (at r i) (at out (1040 + i))) (16 * c + k) (omega arith) (omega (arith, r-length))
-      ∙ ap₂ xor (r-at c k (omega arith) hk) (ap (at out) up)
-      ∙ sym (tabulate-at 16 (λ c. xor (at (divided timesC 16 (at (generatorOf 8 285 0 16)) (λ t. at out (16 * t + k)) 65) c) (at out (16 * (65 + c) + k))) c 0 hc)
-      ∙ ap (λ (l : List ℕ). at l c) (lane-folded (λ i. at row (from + i)) q out Q F (λ i. small (from + i)) k hk)
+      ∙ over_in r 0 256 (λ i. xor (at r i) (at out (1040 + i))) (16 * c + k) (omega arith) (omega (arith, r_length))
+      ∙ ap₂ xor (r_at c k (omega arith) hk) (ap (at out) up)
+      ∙ sym (tabulate_at 16 (λ c. xor (at (divided times_c 16 (at (generator_of 8 285 0 16)) (λ t. at out (16 * t + k)) 65) c) (at out (16 * (65 + c) + k))) c 0 hc)
+      ∙ ap (λ (l : List ℕ). at l c) (lane_folded (λ i. at row (from + i)) q out Q F (λ i. small (from + i)) k hk)
 
-  past-parity : (k : ℕ) → k < 16 → at o (16 * 16 + k) ≡ 0
-  past-parity k hk =
-      ap (λ (l : List ℕ). at l (16 * 16 + k)) e ∙ over-behind r 0 256 (λ i. xor (at r i) (at out (1040 + i))) (16 * 16 + k) (omega arith) ∙ r-at 16 k (omega arith) hk ∙ lane_past (at out) 65 k
+  past_parity : (k : ℕ) → k < 16 → at o (16 * 16 + k) ≡ 0
+  past_parity k hk =
+      ap (λ (l : List ℕ). at l (16 * 16 + k)) e ∙ over_behind r 0 256 (λ i. xor (at r i) (at out (1040 + i))) (16 * 16 + k) (omega arith) ∙ r_at 16 k (omega arith) hk ∙ lane_past (at out) 65 k
 
   at_all : (c k : ℕ) → c < 17 → k < 16 → at o (16 * c + k) ≡ at (registers (λ i. at row (from + i)) 239) (16 * c + k)
   at_all c k hc hk = go (dec_lt c 16)
     where
       go : Dec (c < 16) → at o (16 * c + k) ≡ at (registers (λ i. at row (from + i)) 239) (16 * c + k)
-      go (yes h) = in-parity c k h hk ∙ sym (registers-at (λ i. at row (from + i)) 239 c k hc hk)
+      go (yes h) = in_parity c k h hk ∙ sym (registers_at (λ i. at row (from + i)) 239 c k hc hk)
       go (no h) =
           let s : c ≡ 16 = omega arith in
-          rw s (past-parity k hk ∙ sym (registers-at (λ i. at row (from + i)) 239 16 k (omega arith) hk ∙ lane_past (λ i. at row (from + i)) 239 k))
+          rw s (past_parity k hk ∙ sym (registers_at (λ i. at row (from + i)) 239 16 k (omega arith) hk ∙ lane_past (λ i. at row (from + i)) 239 k))
 
-  pub row-folded : o ≡ rowDivided row from 239
-  unfolding rowDivided
-  row-folded =
-      ext_get_or 0 o (registers (λ i. at row (from + i)) 239) (o-length ∙ sym (registers-length (λ i. at row (from + i)) 239))
+  pub row_folded : o ≡ row_divided row from 239
+  unfolding row_divided
+  row_folded =
+      ext_get_or 0 o (registers (λ i. at row (from + i)) 239) (o_length ∙ sym (registers_length (λ i. at row (from + i)) 239))
       (λ i l.
-      let m : i < 272 = omega (arith, o-length) in
+      let m : i < 272 = omega (arith, o_length) in
       let s : i ≡ 16 * (i / 16) + i % 16 = omega arith in
       ap (at o) s ∙ at_all (i / 16) (i % 16) (omega arith) (omega arith) ∙ ap (at (registers (λ i. at row (from + i)) 239)) (sym s))
 
-pub remainders-are : (row r o : List ℕ) (from : ℕ) → r ≡ rowDivided row from 239 → o ≡ over r 0 256 (λ i. xor (at r i) (at row (from + 3824 + i))) → o ≡ rowRemainders row from
-unfolding rowRemainders
-remainders-are row r o from er eo = rw (eo, er)
+pub remainders_are : (row r o : List ℕ) (from : ℕ) → r ≡ row_divided row from 239 → o ≡ over r 0 256 (λ i. xor (at r i) (at row (from + 3824 + i))) → o ≡ row_remainders row from
+unfolding row_remainders
+remainders_are row r o from er eo = rw (eo, er)

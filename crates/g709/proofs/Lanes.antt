@@ -7,109 +7,109 @@ use native.Mathlib.Nat.{not-suc-le-zero}
 use native.Mathlib.Omega.{arith}
 use lib.ListN.{length, set, replicate, length-replicate, get_or-eq_default}
 use Rattle.fields.specs.Lists.{tabulate}
-use Rattle.fields.specs.Elements.{xor, timesC}
-use Rattle.fields.proofs.Lists.{tabulate-at, tabulate-is, tabulate-length, tabulate-same}
+use Rattle.fields.specs.Elements.{xor, times_c}
+use Rattle.fields.proofs.Lists.{tabulate_at, tabulate_is, tabulate_length, tabulate_same}
 use Rattle.fields.specs.Places.{at}
-use Rattle.words.specs.ReedSolomon.{generatorOf, shiftedIn, divided}
-use Rattle.fields.proofs.Places.Filling.{zeros-at, Filled, filled-end}
-use Rattle.words.proofs.Codes.Division.{divided-length}
-use Rattle.g709.specs.Steps.Registers.{registers, rowDivided, leading, cellStored, cellsStored}
-use Rattle.g709.proofs.ByteCode.{generator-c}
-use Rattle.g709.proofs.Overlays.{over-length, over-in, over-front, over-behind, OverTo, over-next, over-end}
+use Rattle.words.specs.ReedSolomon.{generator_of, shifted_in, divided}
+use Rattle.fields.proofs.Places.Filling.{zeros_at, Filled, filled_end}
+use Rattle.words.proofs.Codes.Division.{divided_length}
+use Rattle.g709.specs.Steps.Registers.{registers, row_divided, leading, cell_stored, cells_stored}
+use Rattle.g709.proofs.ByteCode.{generator_c}
+use Rattle.g709.proofs.Overlays.{over_length, over_in, over_front, over_behind, OverTo, over_next, over_end}
 
 -- ---- the leading coefficients
 
 pub leading_end : (r c f : List ℕ) (from k : ℕ) → Filled 16 (λ k. xor (at r k) (at c (from + k))) k f → 16 ≤ k → f ≡ leading r c from
 unfolding leading
-leading_end r c f from k h le = filled-end h le
+leading_end r c f from k h le = filled_end h le
 
 -- ---- a cell of the sixteen registers
 
-abbrev pub newCell : List ℕ → List ℕ → ℕ → ℕ → ℕ → ℕ
-newCell r f n y j = xor (at r (n + 16 + j)) (timesC (at f j) y)
+abbrev pub new_cell : List ℕ → List ℕ → ℕ → ℕ → ℕ → ℕ
+new_cell r f n y j = xor (at r (n + 16 + j)) (times_c (at f j) y)
 
-pub cell-next : (l f : List ℕ) (n y j p v : ℕ) (o : List ℕ) → OverTo l n 16 (newCell l f n y) j o → j < 16 → n + 16 ≤ length l → p ≡ timesC (at f j) y → v ≡ xor (at o (n + 16 + j)) p →
-    OverTo l n 16 (newCell l f n y) (j + 1) (set o (n + j) v)
-cell-next l f n y j p v o h lt room ep ev = over-next l n 16 (newCell l f n y) j v o h lt (omega arith) (ev ∙ ap₂ xor (h.behind (n + 16 + j) (omega arith)) ep)
+pub cell_next : (l f : List ℕ) (n y j p v : ℕ) (o : List ℕ) → OverTo l n 16 (new_cell l f n y) j o → j < 16 → n + 16 ≤ length l → p ≡ times_c (at f j) y → v ≡ xor (at o (n + 16 + j)) p →
+    OverTo l n 16 (new_cell l f n y) (j + 1) (set o (n + j) v)
+cell_next l f n y j p v o h lt room ep ev = over_next l n 16 (new_cell l f n y) j v o h lt (omega arith) (ev ∙ ap₂ xor (h.behind (n + 16 + j) (omega arith)) ep)
 
-pub cell-end : (l f : List ℕ) (n k y j : ℕ) (o : List ℕ) → n ≡ 16 * k → OverTo l n 16 (newCell l f n y) j o → 16 ≤ j → o ≡ cellStored l f k y
-unfolding cellStored
-cell-end l f n k y j o e h le = over-end l n 16 (newCell l f n y) j o h le ∙ rw e
+pub cell_end : (l f : List ℕ) (n k y j : ℕ) (o : List ℕ) → n ≡ 16 * k → OverTo l n 16 (new_cell l f n y) j o → 16 ≤ j → o ≡ cell_stored l f k y
+unfolding cell_stored
+cell_end l f n k y j o e h le = over_end l n 16 (new_cell l f n y) j o h le ∙ rw e
 
-pub four-cells : (r f a b c d : List ℕ) (k y0 y1 y2 y3 : ℕ) → a ≡ cellStored r f k y0 → b ≡ cellStored a f (k + 1) y1 → c ≡ cellStored b f (k + 2) y2 → d ≡ cellStored c f (k + 3) y3 →
-    d ≡ cellStored (cellStored (cellStored (cellStored r f k y0) f (k + 1) y1) f (k + 2) y2) f (k + 3) y3
-four-cells r f a b c d k y0 y1 y2 y3 ea eb ec ed = rw (ed, ec, eb, ea)
+pub four_cells : (r f a b c d : List ℕ) (k y0 y1 y2 y3 : ℕ) → a ≡ cell_stored r f k y0 → b ≡ cell_stored a f (k + 1) y1 → c ≡ cell_stored b f (k + 2) y2 → d ≡ cell_stored c f (k + 3) y3 →
+    d ≡ cell_stored (cell_stored (cell_stored (cell_stored r f k y0) f (k + 1) y1) f (k + 2) y2) f (k + 3) y3
+four_cells r f a b c d k y0 y1 y2 y3 ea eb ec ed = rw (ed, ec, eb, ea)
 
 -- ---- all cells
 
 module _ (r f : List ℕ) (long : length r ≡ 272) where
-  pub cells-length : (n : ℕ) → length (cellsStored r f n) ≡ 272
-  unfolding cellsStored cellStored
-  cells-length zero = long
-  cells-length (suc n) = over-length (cellsStored r f n) (16 * n) 16 _ ∙ cells-length n
+  pub cells_length : (n : ℕ) → length (cells_stored r f n) ≡ 272
+  unfolding cells_stored cell_stored
+  cells_length zero = long
+  cells_length (suc n) = over_length (cells_stored r f n) (16 * n) 16 _ ∙ cells_length n
 
-  cells-behind : (n i : ℕ) → 16 * n ≤ i → at (cellsStored r f n) i ≡ at r i
-  unfolding cellsStored cellStored
-  cells-behind zero i h = refl
-  cells-behind (suc n) i h = over-behind (cellsStored r f n) (16 * n) 16 _ i (omega arith) ∙ cells-behind n i (omega arith)
+  cells_behind : (n i : ℕ) → 16 * n ≤ i → at (cells_stored r f n) i ≡ at r i
+  unfolding cells_stored cell_stored
+  cells_behind zero i h = refl
+  cells_behind (suc n) i h = over_behind (cells_stored r f n) (16 * n) 16 _ i (omega arith) ∙ cells_behind n i (omega arith)
 
-  cells_at : (n c j : ℕ) → n ≤ 16 → c < n → j < 16 → at (cellsStored r f n) (16 * c + j) ≡ xor (at r (16 * c + 16 + j)) (timesC (at f j) (at (generatorOf 8 285 0 16) (suc c)))
-  unfolding cellsStored cellStored
+  cells_at : (n c j : ℕ) → n ≤ 16 → c < n → j < 16 → at (cells_stored r f n) (16 * c + j) ≡ xor (at r (16 * c + 16 + j)) (times_c (at f j) (at (generator_of 8 285 0 16) (suc c)))
+  unfolding cells_stored cell_stored
   cells_at zero c j hn hc hj = absurd (not-suc-le-zero hc)
   cells_at (suc n) c j hn hc hj = go (λ l. cells_at n c j (omega arith) l hj) (dec_lt c n)
     where
-      go : (c < n → at (cellsStored r f n) (16 * c + j) ≡ xor (at r (16 * c + 16 + j)) (timesC (at f j) (at (generatorOf 8 285 0 16) (suc c)))) → Dec (c < n) → at (cellStored (cellsStored r f n) f n (at (generatorOf 8 285 0 16) (suc n))) (16 * c + j) ≡ xor (at r (16 * c + 16 + j)) (timesC (at f j) (at (generatorOf 8 285 0 16) (suc c)))
-      go rest (yes l) = over-front (cellsStored r f n) (16 * n) 16 _ (16 * c + j) (omega arith) ∙ rest l
+      go : (c < n → at (cells_stored r f n) (16 * c + j) ≡ xor (at r (16 * c + 16 + j)) (times_c (at f j) (at (generator_of 8 285 0 16) (suc c)))) → Dec (c < n) → at (cell_stored (cells_stored r f n) f n (at (generator_of 8 285 0 16) (suc n))) (16 * c + j) ≡ xor (at r (16 * c + 16 + j)) (times_c (at f j) (at (generator_of 8 285 0 16) (suc c)))
+      go rest (yes l) = over_front (cells_stored r f n) (16 * n) 16 _ (16 * c + j) (omega arith) ∙ rest l
       go rest (no l) =
           let e : c ≡ n = omega arith in
           rw e
-          (over-in (cellsStored r f n) (16 * n) 16 _ j hj (omega (arith, cells-length n))
-          ∙ ap (λ (x : ℕ). xor x (timesC (at f j) (at (generatorOf 8 285 0 16) (suc n)))) (cells-behind n (16 * n + 16 + j) (omega arith)))
+          (over_in (cells_stored r f n) (16 * n) 16 _ j hj (omega (arith, cells_length n))
+          ∙ ap (λ (x : ℕ). xor x (times_c (at f j) (at (generator_of 8 285 0 16) (suc n)))) (cells_behind n (16 * n + 16 + j) (omega arith)))
 
 -- the sixteen coefficients, written out
-pub all-cells : (r f g : List ℕ) (a b c d : List ℕ) → f ≡ g →
-    a ≡ cellStored (cellStored (cellStored (cellStored r f 0 59) f (0 + 1) 13) f (0 + 2) 104) f (0 + 3) 189 →
-    b ≡ cellStored (cellStored (cellStored (cellStored a f 4 68) f (4 + 1) 209) f (4 + 2) 30) f (4 + 3) 8 →
-    c ≡ cellStored (cellStored (cellStored (cellStored b f 8 163) f (8 + 1) 65) f (8 + 2) 41) f (8 + 3) 229 →
-    d ≡ cellStored (cellStored (cellStored (cellStored c f 12 98) f (12 + 1) 50) f (12 + 2) 36) f (12 + 3) 59 → d ≡ cellsStored r g 16
-unfolding cellsStored
-all-cells r f g a b c d e ea eb ec ed = rw (ed, ec, eb, ea, generator-c, e)
+pub all_cells : (r f g : List ℕ) (a b c d : List ℕ) → f ≡ g →
+    a ≡ cell_stored (cell_stored (cell_stored (cell_stored r f 0 59) f (0 + 1) 13) f (0 + 2) 104) f (0 + 3) 189 →
+    b ≡ cell_stored (cell_stored (cell_stored (cell_stored a f 4 68) f (4 + 1) 209) f (4 + 2) 30) f (4 + 3) 8 →
+    c ≡ cell_stored (cell_stored (cell_stored (cell_stored b f 8 163) f (8 + 1) 65) f (8 + 2) 41) f (8 + 3) 229 →
+    d ≡ cell_stored (cell_stored (cell_stored (cell_stored c f 12 98) f (12 + 1) 50) f (12 + 2) 36) f (12 + 3) 59 → d ≡ cells_stored r g 16
+unfolding cells_stored
+all_cells r f g a b c d e ea eb ec ed = rw (ed, ec, eb, ea, generator_c, e)
 
 -- ---- the registers
 
 abbrev pub lane : (ℕ → ℕ) → ℕ → ℕ → List ℕ
-lane d s j = divided timesC 16 (at (generatorOf 8 285 0 16)) (λ t. d (16 * t + j)) s
+lane d s j = divided times_c 16 (at (generator_of 8 285 0 16)) (λ t. d (16 * t + j)) s
 
-pub registers-length : (d : ℕ → ℕ) (s : ℕ) → length (registers d s) ≡ 272
+pub registers_length : (d : ℕ → ℕ) (s : ℕ) → length (registers d s) ≡ 272
 unfolding registers
-registers-length d s = tabulate-length 272 _
+registers_length d s = tabulate_length 272 _
 
-pub registers-at : (d : ℕ → ℕ) (s c j : ℕ) → c < 17 → j < 16 → at (registers d s) (16 * c + j) ≡ at (lane d s j) c
+pub registers_at : (d : ℕ → ℕ) (s c j : ℕ) → c < 17 → j < 16 → at (registers d s) (16 * c + j) ≡ at (lane d s j) c
 unfolding registers
-registers-at d s c j hc hj =
+registers_at d s c j hc hj =
     let q : (16 * c + j) / 16 ≡ c = omega arith in
     let m : (16 * c + j) % 16 ≡ j = omega arith in
-    tabulate-at 272 _ (16 * c + j) 0 (omega arith) ∙ rw (q, m)
+    tabulate_at 272 _ (16 * c + j) 0 (omega arith) ∙ rw (q, m)
 
-pub registers-none : (d : ℕ → ℕ) → tabulate 272 (λ i. 0) ≡ registers d 0
+pub registers_none : (d : ℕ → ℕ) → tabulate 272 (λ i. 0) ≡ registers d 0
 unfolding registers divided
-registers-none d = tabulate-same 272 (λ i. 0) _ (λ i l. go i l (dec_lt (i / 16) 16))
+registers_none d = tabulate_same 272 (λ i. 0) _ (λ i l. go i l (dec_lt (i / 16) 16))
   where
     go : (i : ℕ) → i < 272 → Dec (i / 16 < 16) → 0 ≡ at (tabulate 16 (λ i. 0)) (i / 16)
-    go i l (yes h) = sym (tabulate-at 16 (λ i. 0) (i / 16) 0 h)
-    go i l (no h) = sym (get_or-eq_default (tabulate 16 (λ i. 0)) 0 {n = i / 16} (omega (arith, tabulate-length {A = ℕ} 16 (λ i. 0))))
+    go i l (yes h) = sym (tabulate_at 16 (λ i. 0) (i / 16) 0 h)
+    go i l (no h) = sym (get_or-eq_default (tabulate 16 (λ i. 0)) 0 {n = i / 16} (omega (arith, tabulate_length {A = ℕ} 16 (λ i. 0))))
 
 -- one register's step, at a cell that it has and past its end
-lane-next : (d : ℕ → ℕ) (s j c : ℕ) → c < 16 → at (lane d (suc s) j) c ≡ xor (at (lane d s j) (suc c)) (timesC (xor (at (lane d s j) 0) (d (16 * s + j))) (at (generatorOf 8 285 0 16) (suc c)))
-unfolding divided shiftedIn
-lane-next d s j c h = tabulate-at 16 _ c 0 h
+lane_next : (d : ℕ → ℕ) (s j c : ℕ) → c < 16 → at (lane d (suc s) j) c ≡ xor (at (lane d s j) (suc c)) (times_c (xor (at (lane d s j) 0) (d (16 * s + j))) (at (generator_of 8 285 0 16) (suc c)))
+unfolding divided shifted_in
+lane_next d s j c h = tabulate_at 16 _ c 0 h
 
 pub lane_past : (d : ℕ → ℕ) (s j : ℕ) → at (lane d s j) 16 ≡ 0
-lane_past d s j = get_or-eq_default (lane d s j) 0 {n = 16} (omega (arith, divided-length timesC 16 (at (generatorOf 8 285 0 16)) (λ t. d (16 * t + j)) s))
+lane_past d s j = get_or-eq_default (lane d s j) 0 {n = 16} (omega (arith, divided_length times_c 16 (at (generator_of 8 285 0 16)) (λ t. d (16 * t + j)) s))
 
 leading_at : (r c : List ℕ) (from k : ℕ) → k < 16 → at (leading r c from) k ≡ xor (at r k) (at c (from + k))
 unfolding leading
-leading_at r c from k h = tabulate-at 16 _ k 0 h
+leading_at r c from k h = tabulate_at 16 _ k 0 h
 
 module _ (d : ℕ → ℕ) (s : ℕ) (row : List ℕ) (from : ℕ) (column : (k : ℕ) → k < 16 → at row (from + k) ≡ d (16 * s + k)) where
   abbrev R : List ℕ
@@ -119,47 +119,47 @@ module _ (d : ℕ → ℕ) (s : ℕ) (row : List ℕ) (from : ℕ) (column : (k 
   F = leading R row from
 
   long : length R ≡ 272
-  long = registers-length d s
+  long = registers_length d s
 
-  new : (c j : ℕ) → j < 16 → c < 17 → at (cellsStored R F 16) (16 * c + j) ≡ at (lane d (suc s) j) c
+  new : (c j : ℕ) → j < 16 → c < 17 → at (cells_stored R F 16) (16 * c + j) ≡ at (lane d (suc s) j) c
   new c j hj hc = go (dec_lt c 16)
     where
-      go : Dec (c < 16) → at (cellsStored R F 16) (16 * c + j) ≡ at (lane d (suc s) j) c
+      go : Dec (c < 16) → at (cells_stored R F 16) (16 * c + j) ≡ at (lane d (suc s) j) c
       go (yes h) =
           let up : 16 * c + 16 + j ≡ 16 * suc c + j = omega arith in
           let zero : j ≡ 16 * 0 + j = omega arith in
           cells_at R F long 16 c j (omega arith) h hj
-          ∙ ap₂ (λ (x y : ℕ). xor x (timesC y (at (generatorOf 8 285 0 16) (suc c)))) (ap (at R) up ∙ registers-at d s (suc c) j (omega arith) hj)
-          (leading_at R row from j hj ∙ ap₂ xor (ap (at R) zero ∙ registers-at d s 0 j (omega arith) hj) (column j hj))
-          ∙ sym (lane-next d s j c h)
+          ∙ ap₂ (λ (x y : ℕ). xor x (times_c y (at (generator_of 8 285 0 16) (suc c)))) (ap (at R) up ∙ registers_at d s (suc c) j (omega arith) hj)
+          (leading_at R row from j hj ∙ ap₂ xor (ap (at R) zero ∙ registers_at d s 0 j (omega arith) hj) (column j hj))
+          ∙ sym (lane_next d s j c h)
       go (no h) =
           let e : c ≡ 16 = omega arith in
-          rw e (cells-behind R F long 16 (16 * 16 + j) (omega arith) ∙ registers-at d s 16 j (omega arith) hj ∙ lane_past d s j ∙ sym (lane_past d (suc s) j))
+          rw e (cells_behind R F long 16 (16 * 16 + j) (omega arith) ∙ registers_at d s 16 j (omega arith) hj ∙ lane_past d s j ∙ sym (lane_past d (suc s) j))
 
-  pub registers-step : cellsStored R F 16 ≡ registers d (suc s)
+  pub registers_step : cells_stored R F 16 ≡ registers d (suc s)
   unfolding registers
-  registers-step =
-      tabulate-is 272 _ (cellsStored R F 16) 0 (cells-length R F long 16)
-      (λ i l. let e : i ≡ 16 * (i / 16) + i % 16 = omega arith in ap (at (cellsStored R F 16)) e ∙ new (i / 16) (i % 16) (omega arith) (omega arith))
+  registers_step =
+      tabulate_is 272 _ (cells_stored R F 16) 0 (cells_length R F long 16)
+      (λ i l. let e : i ≡ 16 * (i / 16) + i % 16 = omega arith in ap (at (cells_stored R F 16)) e ∙ new (i / 16) (i % 16) (omega arith) (omega arith))
 
 -- lists of zeros
-pub zeros-table : (n : ℕ) → replicate {A = ℕ} n 0 ≡ tabulate n (λ i. 0)
-zeros-table n = tabulate-is n (λ i. 0) (replicate n 0) 0 (length-replicate n 0) (λ i l. zeros-at n i)
+pub zeros_table : (n : ℕ) → replicate {A = ℕ} n 0 ≡ tabulate n (λ i. 0)
+zeros_table n = tabulate_is n (λ i. 0) (replicate n 0) 0 (length-replicate n 0) (λ i l. zeros_at n i)
 
-pub zeros-length : (n : ℕ) → length (replicate {A = ℕ} n 0) ≡ n
-zeros-length n = length-replicate n 0
+pub zeros_length : (n : ℕ) → length (replicate {A = ℕ} n 0) ≡ n
+zeros_length n = length-replicate n 0
 
 -- the loop over the columns
-pub divide-start : (row r : List ℕ) (from : ℕ) → r ≡ tabulate 272 (λ i. 0) → r ≡ rowDivided row from 0
-unfolding rowDivided
-divide-start row r from e = e ∙ registers-none (λ i. at row (from + i))
+pub divide_start : (row r : List ℕ) (from : ℕ) → r ≡ tabulate 272 (λ i. 0) → r ≡ row_divided row from 0
+unfolding row_divided
+divide_start row r from e = e ∙ registers_none (λ i. at row (from + i))
 
-pub divide-next : (row : List ℕ) (from s : ℕ) (r o : List ℕ) → r ≡ rowDivided row from s → o ≡ cellsStored r (leading r row (from + 16 * s)) 16 → o ≡ rowDivided row from (s + 1)
-unfolding rowDivided
-divide-next row from s r o er eo =
+pub divide_next : (row : List ℕ) (from s : ℕ) (r o : List ℕ) → r ≡ row_divided row from s → o ≡ cells_stored r (leading r row (from + 16 * s)) 16 → o ≡ row_divided row from (s + 1)
+unfolding row_divided
+divide_next row from s r o er eo =
     let d : ℕ → ℕ = λ i. at row (from + i) in
     let n : suc s ≡ s + 1 = omega arith in
-    eo ∙ rw er (registers-step d s row (from + 16 * s) (λ k h. let e : from + 16 * s + k ≡ from + (16 * s + k) = omega arith in ap (at row) e)) ∙ ap (registers d) n
+    eo ∙ rw er (registers_step d s row (from + 16 * s) (λ k h. let e : from + 16 * s + k ≡ from + (16 * s + k) = omega arith in ap (at row) e)) ∙ ap (registers d) n
 
-pub divide-end : (row r : List ℕ) (from s n : ℕ) → r ≡ rowDivided row from s → s ≤ n → n ≤ s → r ≡ rowDivided row from n
-divide-end row r from s n e l g = let n : s ≡ n = omega arith in e ∙ ap (rowDivided row from) n
+pub divide_end : (row r : List ℕ) (from s n : ℕ) → r ≡ row_divided row from s → s ≤ n → n ≤ s → r ≡ row_divided row from n
+divide_end row r from s n e l g = let n : s ≡ n = omega arith in e ∙ ap (row_divided row from) n

@@ -10,52 +10,52 @@ use borrow.Author.Tests.{le-ltb, lt-ltb}
 use lib.Dec.{ltb}
 use lib.ListN.{length, set, length-set, get_or-eq_default}
 use lib.Seq.{get_or-set_same, get_or-set_other}
-use Rattle.fields.proofs.Lists.{tabulate-at, tabulate-is, tabulate-length}
+use Rattle.fields.proofs.Lists.{tabulate_at, tabulate_is, tabulate_length}
 use Rattle.fields.specs.Places.{at}
 use Rattle.g709.specs.Steps.Registers.{over}
 
 module _ (l : List ℕ) (b n : ℕ) (f : ℕ → ℕ) where
-  pub over-length : length (over l b n f) ≡ length l
+  pub over_length : length (over l b n f) ≡ length l
   unfolding over
-  over-length = tabulate-length (length l) _
+  over_length = tabulate_length (length l) _
 
   -- a place of the part, one before it, and one after it
-  pub over-in : (i : ℕ) → i < n → b + i < length l → at (over l b n f) (b + i) ≡ f i
+  pub over_in : (i : ℕ) → i < n → b + i < length l → at (over l b n f) (b + i) ≡ f i
   unfolding over
-  over-in i h k =
+  over_in i h k =
       let e : b + i - b ≡ i = omega arith in
-      tabulate-at (length l) _ (b + i) 0 k ∙ rw (le-ltb (b + i) b (omega arith), e, lt-ltb i n h)
+      tabulate_at (length l) _ (b + i) 0 k ∙ rw (le-ltb (b + i) b (omega arith), e, lt-ltb i n h)
 
   past : (i : ℕ) → length l ≤ i → at (over l b n f) i ≡ at l i
-  past i h = get_or-eq_default (over l b n f) 0 {n = i} (omega (arith, over-length)) ∙ sym (get_or-eq_default l 0 {n = i} h)
+  past i h = get_or-eq_default (over l b n f) 0 {n = i} (omega (arith, over_length)) ∙ sym (get_or-eq_default l 0 {n = i} h)
 
-  front-in : (i : ℕ) → i < b → i < length l → at (over l b n f) i ≡ at l i
+  front_in : (i : ℕ) → i < b → i < length l → at (over l b n f) i ≡ at l i
   unfolding over
-  front-in i h k = tabulate-at (length l) _ i 0 k ∙ rw (lt-ltb i b h)
+  front_in i h k = tabulate_at (length l) _ i 0 k ∙ rw (lt-ltb i b h)
 
-  behind-in : (i : ℕ) → b + n ≤ i → i < length l → at (over l b n f) i ≡ at l i
+  behind_in : (i : ℕ) → b + n ≤ i → i < length l → at (over l b n f) i ≡ at l i
   unfolding over
-  behind-in i h k = tabulate-at (length l) _ i 0 k ∙ rw (le-ltb i b (omega arith), le-ltb (i - b) n (omega arith))
+  behind_in i h k = tabulate_at (length l) _ i 0 k ∙ rw (le-ltb i b (omega arith), le-ltb (i - b) n (omega arith))
 
-  pub over-front : (i : ℕ) → i < b → at (over l b n f) i ≡ at l i
-  over-front i h = go (dec_lt i (length l))
+  pub over_front : (i : ℕ) → i < b → at (over l b n f) i ≡ at l i
+  over_front i h = go (dec_lt i (length l))
     where
       go : Dec (i < length l) → at (over l b n f) i ≡ at l i
-      go (yes k) = front-in i h k
+      go (yes k) = front_in i h k
       go (no k) = past i (omega arith)
 
-  pub over-behind : (i : ℕ) → b + n ≤ i → at (over l b n f) i ≡ at l i
-  over-behind i h = go (dec_lt i (length l))
+  pub over_behind : (i : ℕ) → b + n ≤ i → at (over l b n f) i ≡ at l i
+  over_behind i h = go (dec_lt i (length l))
     where
       go : Dec (i < length l) → at (over l b n f) i ≡ at l i
-      go (yes k) = behind-in i h k
+      go (yes k) = behind_in i h k
       go (no k) = past i (omega arith)
 
   -- a list that has all that is the list
-  pub over-is : (o : List ℕ) → length o ≡ length l → ((i : ℕ) → i < n → at o (b + i) ≡ f i) → ((i : ℕ) → i < b → at o i ≡ at l i) → ((i : ℕ) → b + n ≤ i → at o i ≡ at l i) →
+  pub over_is : (o : List ℕ) → length o ≡ length l → ((i : ℕ) → i < n → at o (b + i) ≡ f i) → ((i : ℕ) → i < b → at o i ≡ at l i) → ((i : ℕ) → b + n ≤ i → at o i ≡ at l i) →
       o ≡ over l b n f
   unfolding over
-  over-is o long inn front behind = tabulate-is (length l) _ o 0 long (λ i k. go i k (dec_lt i b) (dec_lt i (b + n)))
+  over_is o long inn front behind = tabulate_is (length l) _ o 0 long (λ i k. go i k (dec_lt i b) (dec_lt i (b + n)))
     where
       go : (i : ℕ) → i < length l → Dec (i < b) → Dec (i < b + n) → at o i ≡ cond (ltb i b) (at l i) (cond (ltb (i - b) n) (f (i - b)) (at l i))
       go i k (yes h) y = rw (lt-ltb i b h) (front i h)
@@ -72,11 +72,11 @@ pub record OverTo (l : List ℕ) (b n : ℕ) (f : ℕ → ℕ) (k : ℕ) (o : Li
   pub front : (i : ℕ) → i < b → at o i ≡ at l i
   pub behind : (i : ℕ) → b + k ≤ i → at o i ≡ at l i
 
-pub over-start : (l : List ℕ) (b n : ℕ) (f : ℕ → ℕ) → OverTo l b n f 0 l
-over-start l b n f = record { long = refl; within = zero-le; done = λ i h. absurd (not-suc-le-zero h); front = λ i h. refl; behind = λ i h. refl }
+pub over_start : (l : List ℕ) (b n : ℕ) (f : ℕ → ℕ) → OverTo l b n f 0 l
+over_start l b n f = record { long = refl; within = zero-le; done = λ i h. absurd (not-suc-le-zero h); front = λ i h. refl; behind = λ i h. refl }
 
-pub over-next : (l : List ℕ) (b n : ℕ) (f : ℕ → ℕ) (k v : ℕ) (o : List ℕ) → OverTo l b n f k o → k < n → b + k < length l → v ≡ f k → OverTo l b n f (k + 1) (set o (b + k) v)
-over-next l b n f k v o h lt room e =
+pub over_next : (l : List ℕ) (b n : ℕ) (f : ℕ → ℕ) (k v : ℕ) (o : List ℕ) → OverTo l b n f k o → k < n → b + k < length l → v ≡ f k → OverTo l b n f (k + 1) (set o (b + k) v)
+over_next l b n f k v o h lt room e =
     record {
       long = length-set o (b + k) v ∙ h.long;
       within = omega arith;
@@ -89,5 +89,5 @@ over-next l b n f k v o h lt room e =
     go i g (yes q) = rw q (get_or-set_same o (b + k) v 0 (omega (arith, h.long)) ∙ e)
     go i g (no q) = get_or-set_other o (b + k) (b + i) v 0 (λ z. q (omega arith)) ∙ h.done i (omega (arith, q))
 
-pub over-end : (l : List ℕ) (b n : ℕ) (f : ℕ → ℕ) (k : ℕ) (o : List ℕ) → OverTo l b n f k o → n ≤ k → o ≡ over l b n f
-over-end l b n f k o h le = over-is l b n f o h.long (λ i g. h.done i (omega arith)) h.front (λ i g. h.behind i (omega (arith, h.within)))
+pub over_end : (l : List ℕ) (b n : ℕ) (f : ℕ → ℕ) (k : ℕ) (o : List ℕ) → OverTo l b n f k o → n ≤ k → o ≡ over l b n f
+over_end l b n f k o h le = over_is l b n f o h.long (λ i g. h.done i (omega arith)) h.front (λ i g. h.behind i (omega (arith, h.within)))

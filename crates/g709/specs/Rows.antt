@@ -4,52 +4,52 @@ use Rattle.std.specs.Prelude.{Bool, ◌&&◌, List, [], ◌++◌, ℕ, ◌+◌, 
 use Rattle.std.proofs.Math.Option.{Option, map}
 use Rattle.fields.specs.Lists.{tabulate}
 use Rattle.fields.specs.Places.{at, all_below, apart}
-use Rattle.words.specs.ReedSolomon.{isCodeWord, parityOf}
-use Rattle.words.specs.Nearest.{nearest, everyOf}
+use Rattle.words.specs.ReedSolomon.{is_code_word, parity_of}
+use Rattle.words.specs.Nearest.{nearest, every_of}
 
 -- n rows take 3,824 bytes of payload each, and have 4,080
-unfoldable pub isPayloadOf : ℕ → List ℕ → Bool
-isPayloadOf n p = eqb (length p) (3824 * n) && all_below 256 p
+unfoldable pub is_payload_of : ℕ → List ℕ → Bool
+is_payload_of n p = eqb (length p) (3824 * n) && all_below 256 p
 
-unfoldable pub isBlockOf : ℕ → List ℕ → Bool
-isBlockOf n b = eqb (length b) (4080 * n) && all_below 256 b
+unfoldable pub is_block_of : ℕ → List ℕ → Bool
+is_block_of n b = eqb (length b) (4080 * n) && all_below 256 b
 
 -- the code of the words: Reed-Solomon over field C with the roots a^0 to a^15, and so 16 parity bytes ("check bytes") after 239 data bytes. Bit i of a byte is
 -- the coefficient of z^i, as in every element
-abbrev pub isByteWord : List ℕ → Bool
-isByteWord = isCodeWord 8 285 0 16
+abbrev pub is_byte_word : List ℕ → Bool
+is_byte_word = is_code_word 8 285 0 16
 
-abbrev pub byteParity : List ℕ → List ℕ
-byteParity = parityOf 8 285 0 16
+abbrev pub byte_parity : List ℕ → List ℕ
+byte_parity = parity_of 8 285 0 16
 
 -- row r begins with the payload bytes from 3,824 r on: data byte s of word 16 r + k is payload byte 3,824 r + 16 s + k
-unfoldable pub byteData : List ℕ → ℕ → List ℕ
-byteData payload w = tabulate 239 (λ s. at payload (3824 * (w / 16) + 16 * s + w % 16))
+unfoldable pub byte_data : List ℕ → ℕ → List ℕ
+byte_data payload w = tabulate 239 (λ s. at payload (3824 * (w / 16) + 16 * s + w % 16))
 
-unfoldable pub byteWord : List ℕ → ℕ → List ℕ
-byteWord payload w = byteData payload w ++ byteParity (byteData payload w)
+unfoldable pub byte_word : List ℕ → ℕ → List ℕ
+byte_word payload w = byte_data payload w ++ byte_parity (byte_data payload w)
 
 -- the n rows of 16 n words: byte j of row r is byte j div 16 of word 16 r + j mod 16. So bytes 0 to 3,823 of a row are data, the others parity
-unfoldable pub blockOfWords : ℕ → List (List ℕ) → List ℕ
-blockOfWords n words = tabulate (4080 * n) (λ i. at (get_or words (16 * (i / 4080) + i % 16) []) (i % 4080 / 16))
+unfoldable pub block_of_words : ℕ → List (List ℕ) → List ℕ
+block_of_words n words = tabulate (4080 * n) (λ i. at (get_or words (16 * (i / 4080) + i % 16) []) (i % 4080 / 16))
 
 -- the block of a payload, and the payload in a block
 unfoldable pub block_of : ℕ → List ℕ → List ℕ
-block_of n payload = blockOfWords n (tabulate (16 * n) (byteWord payload))
+block_of n payload = block_of_words n (tabulate (16 * n) (byte_word payload))
 
-unfoldable pub payloadOfRows : ℕ → List ℕ → List ℕ
-payloadOfRows n block = tabulate (3824 * n) (λ i. at block (4080 * (i / 3824) + i % 3824))
+unfoldable pub payload_of_rows : ℕ → List ℕ → List ℕ
+payload_of_rows n block = tabulate (3824 * n) (λ i. at block (4080 * (i / 3824) + i % 3824))
 
--- a block that differs nowhere from the block of the payload in it. No other is written for any payload (`written-only`)
+-- a block that differs nowhere from the block of the payload in it. No other is written for any payload (`written_only`)
 unfoldable pub is_written : ℕ → List ℕ → Bool
-is_written n block = eqb (apart (block_of n (payloadOfRows n block)) block) 0
+is_written n block = eqb (apart (block_of n (payload_of_rows n block)) block) 0
 
 -- word w of a received block; the code word within eight bytes of it; and the block of these, or none, if some word has none ("beyond reach")
-unfoldable pub receivedBytes : List ℕ → ℕ → List ℕ
-receivedBytes block w = tabulate 255 (λ s. at block (4080 * (w / 16) + 16 * s + w % 16))
+unfoldable pub received_bytes : List ℕ → ℕ → List ℕ
+received_bytes block w = tabulate 255 (λ s. at block (4080 * (w / 16) + 16 * s + w % 16))
 
-unfoldable pub bytesRestored : List ℕ → ℕ → Option (List ℕ)
-bytesRestored block w = nearest isByteWord 256 8 (receivedBytes block w)
+unfoldable pub bytes_restored : List ℕ → ℕ → Option (List ℕ)
+bytes_restored block w = nearest is_byte_word 256 8 (received_bytes block w)
 
-unfoldable pub restoredBlock : ℕ → List ℕ → Option (List ℕ)
-restoredBlock n block = map (blockOfWords n) (everyOf (tabulate (16 * n) (bytesRestored block)))
+unfoldable pub restored_block : ℕ → List ℕ → Option (List ℕ)
+restored_block n block = map (block_of_words n) (every_of (tabulate (16 * n) (bytes_restored block)))

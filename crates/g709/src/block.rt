@@ -1,9 +1,9 @@
 // Blocks of rows: a row is written, or tested, by the division of its data.
 ghost use Rattle.std.specs.Prelude.{◌≡◌, ◌&&◌, ◌+◌, ◌*◌, ◌≤◌, ◌<◌, length};
 ghost use Rattle.fields.specs.Places.{at};
-ghost use Rattle.g709.specs.Rows.{block_of, payloadOfRows, is_written};
-ghost use Rattle.g709.specs.Answers.{blockEncoded, blockChecked, blockExtracted, blockCorrected};
-ghost use Rattle.g709.specs.Steps.Registers.{over, rowWritten, rowAgrees};
+ghost use Rattle.g709.specs.Rows.{block_of, payload_of_rows, is_written};
+ghost use Rattle.g709.specs.Answers.{block_encoded, block_checked, block_extracted, block_corrected};
+ghost use Rattle.g709.specs.Steps.Registers.{over, row_written, row_agrees};
 
 use crate::{columns, corrector, division};
 use words::Correction;
@@ -32,7 +32,7 @@ fn copy(bytes: &[u8], from: usize, out: &mut [u8], to: usize, n: usize)
 // Writes row r of the payload.
 fn write_row(payload: &[u8], r: usize, out: &mut [u8])
     requires { (r < 4) × (3824 * r + 3824 ≤ length payload.now) × (4080 * r + 4080 ≤ length out.old) }
-    ensures { out.new ≡ rowWritten payload.now r out.old }
+    ensures { out.new ≡ row_written payload.now r out.old }
 {
     let mut registers = columns::empty();
     division::divide(payload, DATA * r, &mut registers);
@@ -54,7 +54,7 @@ fn write_rows(payload: &[u8], n: usize, out: &mut [u8])
 // Writes the block of n rows and returns 0; `long` or 3.
 pub(crate) fn encode(payload: &[u8], n: usize, long: u8, out: &mut [u8]) -> u8
     requires { (n ≤ 4) × (0 < long) }
-    ensures { (result, out.new) ≡ blockEncoded n long payload.now out.old }
+    ensures { (result, out.new) ≡ block_encoded n long payload.now out.old }
 {
     if payload.len() != DATA * n {
         return long;
@@ -69,7 +69,7 @@ pub(crate) fn encode(payload: &[u8], n: usize, long: u8, out: &mut [u8]) -> u8
 // Row r ends with the parity of its data.
 fn row_agrees(block: &[u8], r: usize) -> bool
     requires { (r < 4) × (4080 * r + 4080 ≤ length block.now) }
-    ensures { result ≡ rowAgrees block.now r }
+    ensures { result ≡ row_agrees block.now r }
 {
     let mut registers = columns::empty();
     division::divide(block, ROW * r, &mut registers);
@@ -98,7 +98,7 @@ fn is_written(block: &[u8], n: usize) -> bool
 // Returns 0 for a block that is written for its payload; `long` or 4.
 pub(crate) fn check(block: &[u8], n: usize, long: u8) -> u8
     requires { n ≤ 4 }
-    ensures { result ≡ blockChecked n long block.now }
+    ensures { result ≡ block_checked n long block.now }
 {
     if block.len() != ROW * n {
         return long;
@@ -109,7 +109,7 @@ pub(crate) fn check(block: &[u8], n: usize, long: u8) -> u8
 // Writes the data of the n rows.
 fn write_payload(block: &[u8], n: usize, out: &mut [u8])
     requires { (n ≤ 4) × (length block.now ≡ 4080 * n) × (length out.old ≡ 3824 * n) }
-    ensures { out.new ≡ payloadOfRows n block.now }
+    ensures { out.new ≡ payload_of_rows n block.now }
 {
     let mut r: usize = 0;
     while r < n {
@@ -121,7 +121,7 @@ fn write_payload(block: &[u8], n: usize, out: &mut [u8])
 // Writes the payload of a block that is written for it and returns 0; `long`, 3 or 4.
 pub(crate) fn extract(block: &[u8], n: usize, long: u8, out: &mut [u8]) -> u8
     requires { (n ≤ 4) × (0 < long) }
-    ensures { (result, out.new) ≡ blockExtracted n long block.now out.old }
+    ensures { (result, out.new) ≡ block_extracted n long block.now out.old }
 {
     if block.len() != ROW * n {
         return long;
@@ -146,7 +146,7 @@ fn space() -> [u8; FRAME]
 // Writes the restored block; `long`, 3 or 5. The copy is corrected, and written only if all of its words could be.
 pub(crate) fn correct(block: &[u8], n: usize, long: u8, out: &mut [u8]) -> Correction
     requires { (n ≤ 4) × (0 < long) }
-    ensures { (result, out.new) ≡ blockCorrected n long block.now out.old }
+    ensures { (result, out.new) ≡ block_corrected n long block.now out.old }
 {
     if block.len() != ROW * n {
         return Correction::Refused { number: long };

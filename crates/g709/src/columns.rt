@@ -2,7 +2,7 @@
 // words, so that it becomes operations on vectors of sixteen bytes.
 ghost use Rattle.std.specs.Prelude.{◌≡◌, ◌&&◌, ◌+◌, ◌%◌, ◌≤◌, ◌<◌, eqb, length};
 ghost use Rattle.fields.specs.Lists.{tabulate};
-ghost use Rattle.fields.specs.Elements.{xor, scale, doubled, timesC};
+ghost use Rattle.fields.specs.Elements.{xor, scale, doubled, times_c};
 ghost use Rattle.g709.specs.Steps.Registers.{agree};
 ghost use Rattle.g709.specs.Steps.Restoring.{lane_of};
 
@@ -32,7 +32,7 @@ fn part(x: u8, y: u8) -> u8
 }
 
 pub(crate) fn product(x: u8, y: u8) -> u8
-    ensures { result ≡ timesC x y }
+    ensures { result ≡ times_c x y }
 {
     let mut a = x;
     let mut b = y;

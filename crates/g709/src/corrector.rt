@@ -1,13 +1,13 @@
 // Correction of the words of a block, in a copy of it. A word's values at the roots are those of its remainder; they are the syndromes from which the decoder finds the
 // errors.
 ghost use Rattle.std.specs.Prelude.{◌≡◌, true, ◌+◌, ◌*◌, ◌≤◌, ◌<◌, length};
-ghost use Rattle.fields.specs.Elements.{powersC, exponentsC};
-ghost use Rattle.words.specs.Answers.{changedOf};
-ghost use Rattle.decoding.specs.Steps.Decoder.{Decoded, withError};
-ghost use Rattle.g709.specs.Rows.{receivedBytes};
+ghost use Rattle.fields.specs.Elements.{powers_c, exponents_c};
+ghost use Rattle.words.specs.Answers.{changed_of};
+ghost use Rattle.decoding.specs.Steps.Decoder.{Decoded, with_error};
+ghost use Rattle.g709.specs.Rows.{received_bytes};
 ghost use Rattle.g709.specs.Steps.ColumnSyndromes.{RowSyndromes};
 ghost use Rattle.g709.specs.Steps.Locating.{ValuesIf, LocatedIf};
-ghost use Rattle.g709.specs.Steps.Restoring.{lane_of, ByteValues, valuesAdded, WordErrors, wordCorrected, Counted, alone, Remains, WordDone, Restoring};
+ghost use Rattle.g709.specs.Steps.Restoring.{lane_of, ByteValues, values_added, WordErrors, word_corrected, Counted, alone, Remains, WordDone, Restoring};
 
 use crate::columns::{CELLS, WORDS};
 use crate::root_columns::VALUES;
@@ -24,7 +24,7 @@ const ROW: usize = 4080;
 // Adds v to the byte at place i; a place past the end changes nothing.
 fn add(out: &mut [u8], i: usize, v: u16)
     requires { v < 256 }
-    ensures { out.new ≡ withError out.old i v }
+    ensures { out.new ≡ with_error out.old i v }
 {
     if i < out.len() {
         out[i] = columns::plus(out[i], columns::narrow(v));
@@ -43,7 +43,7 @@ fn standing(from: usize, place: u16) -> usize
 fn add_values(e: Errors, from: usize, out: &mut [u8])
     requires from_bound { (from < 16320) × (e.places.count ≤ 8) }
     requires byte_values { ByteValues e.values e.places.count }
-    ensures { out.new ≡ valuesAdded out.old from e.places.at e.values e.places.count }
+    ensures { out.new ≡ values_added out.old from e.places.at e.values e.places.count }
 {
     let places = e.places;
     let mut k: usize = 0;
@@ -56,8 +56,8 @@ fn add_values(e: Errors, from: usize, out: &mut [u8])
 // Corrects word k of row r in the block, e being the errors found in it.
 fn correct_word(e: Errors, r: usize, k: usize, out: &mut [u8]) -> Correction
     requires r_bound { (r < 4) × (k < 16) × (4080 * r + 4080 ≤ length out.old) }
-    requires word_errors { WordErrors (receivedBytes out.old (16 * r + k)) e }
-    ensures { ((result, out.new) ≡ wordCorrected out.old (16 * r + k)) × (changedOf result ≤ 8) }
+    requires word_errors { WordErrors (received_bytes out.old (16 * r + k)) e }
+    ensures { ((result, out.new) ≡ word_corrected out.old (16 * r + k)) × (changed_of result ≤ 8) }
 {
     let left = e.left;
     if !symbols::all_below(&left, 1) {
@@ -78,7 +78,7 @@ pub struct RowProgress {
 
 // The progress after a word.
 fn with_word(p: RowProgress, c: Correction) -> RowProgress
-    requires { (p.reached ≡ true) × (p.changed ≤ 512) × (changedOf c ≤ 8) }
+    requires { (p.reached ≡ true) × (p.changed ≤ 512) × (changed_of c ≤ 8) }
     ensures { Counted p.changed c result.reached result.changed }
 {
     match c {
@@ -102,7 +102,7 @@ fn errors(
     t: [u16; SYNDROMES],
     k: usize,
 ) -> Errors
-    requires exp_value { (exp.now ≡ powersC) × (log.now ≡ exponentsC) × (k < 16) }
+    requires exp_value { (exp.now ≡ powers_c) × (log.now ≡ exponents_c) × (k < 16) }
     requires located_if { LocatedIf located values.now k t }
     ensures { Decoded exp.now log.now t 255 result.places.at result.values result.places.count result.left }
 {
@@ -124,9 +124,9 @@ fn next_word(
     out: &mut [u8],
     p: RowProgress,
 ) -> RowProgress
-    requires exp_value { (exp.now ≡ powersC) × (log.now ≡ exponentsC) }
+    requires exp_value { (exp.now ≡ powers_c) × (log.now ≡ exponents_c) }
     requires r_bound { (r < 4) × (k < 16) × (4080 * r + 4080 ≤ length out.old) × (p.changed ≤ 512) }
-    requires remains { Remains p.reached (lane_of s.now k) (receivedBytes out.old (16 * r + k)) }
+    requires remains { Remains p.reached (lane_of s.now k) (received_bytes out.old (16 * r + k)) }
     requires values_if { ValuesIf located s.now values.now }
     ensures word_done { WordDone out.old (16 * r + k) p.reached p.changed out.new result.reached result.changed }
     ensures changed_bound { result.changed ≤ p.changed + 8 }
@@ -163,7 +163,7 @@ fn first_word(
     out: &mut [u8],
     before: RowProgress,
 ) -> RowProgress
-    requires exp_value { (exp.now ≡ powersC) × (log.now ≡ exponentsC) }
+    requires exp_value { (exp.now ≡ powers_c) × (log.now ≡ exponents_c) }
     requires r_bound { (r < 4) × (4080 * r + 4080 ≤ length block.now) }
     requires row_syndromes { RowSyndromes block.now r s.now }
     requires restoring { Restoring block.now (16 * r) out.old before.reached before.changed }
@@ -185,7 +185,7 @@ fn correct_words(
     out: &mut [u8],
     before: RowProgress,
 ) -> RowProgress
-    requires exp_value { (exp.now ≡ powersC) × (log.now ≡ exponentsC) }
+    requires exp_value { (exp.now ≡ powers_c) × (log.now ≡ exponents_c) }
     requires r_bound { (r < 4) × (4080 * r + 4080 ≤ length block.now) }
     requires row_syndromes { RowSyndromes block.now r s.now }
     requires restoring { Restoring block.now (16 * r) out.old before.reached before.changed }
@@ -211,7 +211,7 @@ fn correct_row(
     out: &mut [u8],
     before: RowProgress,
 ) -> RowProgress
-    requires exp_value { (exp.now ≡ powersC) × (log.now ≡ exponentsC) }
+    requires exp_value { (exp.now ≡ powers_c) × (log.now ≡ exponents_c) }
     requires r_bound { (r < 4) × (4080 * r + 4080 ≤ length block.now) }
     requires restoring { Restoring block.now (16 * r) out.old before.reached before.changed }
     ensures { Restoring block.now (16 * r + 16) out.new result.reached result.changed }

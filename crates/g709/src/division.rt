@@ -4,7 +4,7 @@ ghost use Rattle.std.specs.Prelude.{◌≡◌, ◌+◌, ◌*◌, ◌≤◌, ◌<
 ghost use Rattle.fields.specs.Lists.{tabulate};
 ghost use Rattle.fields.specs.Elements.{xor};
 ghost use Rattle.fields.specs.Places.{at};
-ghost use Rattle.g709.specs.Steps.Registers.{over, rowDivided, rowRemainders, leading, cellStored, cellsStored};
+ghost use Rattle.g709.specs.Steps.Registers.{over, row_divided, row_remainders, leading, cell_stored, cells_stored};
 ghost use Rattle.g709.specs.Steps.Folding.{taps, QuotientTo};
 
 use crate::columns::{CELLS, WORDS, plus, product};
@@ -25,7 +25,7 @@ fn leading(r: &[u8; CELLS], row: &[u8], from: usize) -> [u8; WORDS]
 // Stores cell k of the registers; y is the generator's coefficient.
 fn store(r: &mut [u8; CELLS], f: &[u8; WORDS], k: usize, y: u8)
     requires { (k < 16) × (length r.old ≡ 272) }
-    ensures { (r.new ≡ cellStored r.old f.now k y) × (length r.new ≡ 272) }
+    ensures { (r.new ≡ cell_stored r.old f.now k y) × (length r.new ≡ 272) }
 {
     let n = WORDS * k;
     let mut j: usize = 0;
@@ -37,7 +37,7 @@ fn store(r: &mut [u8; CELLS], f: &[u8; WORDS], k: usize, y: u8)
 
 fn four(r: &mut [u8; CELLS], f: &[u8; WORDS], k: usize, y0: u8, y1: u8, y2: u8, y3: u8)
     requires { (k < 13) × (length r.old ≡ 272) }
-    ensures { (r.new ≡ cellStored (cellStored (cellStored (cellStored r.old f.now k y0) f.now (k + 1) y1) f.now (k + 2) y2) f.now (k + 3) y3) × (length r.new ≡ 272) }
+    ensures { (r.new ≡ cell_stored (cell_stored (cell_stored (cell_stored r.old f.now k y0) f.now (k + 1) y1) f.now (k + 2) y2) f.now (k + 3) y3) × (length r.new ≡ 272) }
 {
     store(r, f, k, y0);
     store(r, f, k + 1, y1);
@@ -48,7 +48,7 @@ fn four(r: &mut [u8; CELLS], f: &[u8; WORDS], k: usize, y0: u8, y1: u8, y2: u8, 
 // One column more.
 fn step(r: &mut [u8; CELLS], row: &[u8], from: usize)
     requires { (from + 16 ≤ length row.now) × (length r.old ≡ 272) }
-    ensures { (r.new ≡ cellsStored r.old (leading r.old row.now from) 16) × (length r.new ≡ 272) }
+    ensures { (r.new ≡ cells_stored r.old (leading r.old row.now from) 16) × (length r.new ≡ 272) }
 {
     let f = leading(r, row, from);
     four(r, &f, 0, 59, 13, 104, 189);
@@ -60,7 +60,7 @@ fn step(r: &mut [u8; CELLS], row: &[u8], from: usize)
 // The registers after n columns from a place on.
 fn steps(row: &[u8], from: usize, n: usize, r: &mut [u8; CELLS])
     requires { (from + 16 * n ≤ length row.now) × (r.old ≡ tabulate 272 (λ i. 0)) × (length r.old ≡ 272) }
-    ensures { (r.new ≡ rowDivided row.now from n) × (length r.new ≡ 272) }
+    ensures { (r.new ≡ row_divided row.now from n) × (length r.new ≡ 272) }
 {
     let mut s: usize = 0;
     while s < n {
@@ -164,7 +164,7 @@ fn add(out: &[u8; LEFT], r: &mut [u8; CELLS])
 // The registers after the 239 columns of data from a place on: the parity bytes.
 pub(crate) fn divide(row: &[u8], from: usize, r: &mut [u8; CELLS])
     requires { (from + 3824 ≤ length row.now) × (r.old ≡ tabulate 272 (λ i. 0)) × (length r.old ≡ 272) }
-    ensures { (r.new ≡ rowDivided row.now from 239) × (length r.new ≡ 272) }
+    ensures { (r.new ≡ row_divided row.now from 239) × (length r.new ≡ 272) }
 {
     let mut q = space();
     quotient(row, from, &mut q);
@@ -189,7 +189,7 @@ fn add_parity(row: &[u8], from: usize, r: &mut [u8; CELLS])
 // The remainders of the sixteen words of the row from a place on. A word's values at the roots are those of its remainder.
 pub(crate) fn remainders(row: &[u8], from: usize, r: &mut [u8; CELLS])
     requires { (from + 4080 ≤ length row.now) × (r.old ≡ tabulate 272 (λ i. 0)) × (length r.old ≡ 272) }
-    ensures { (r.new ≡ rowRemainders row.now from) × (length r.new ≡ 272) }
+    ensures { (r.new ≡ row_remainders row.now from) × (length r.new ≡ 272) }
 {
     divide(row, from, r);
     add_parity(row, from + 3824, r);

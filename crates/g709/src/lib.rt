@@ -10,7 +10,7 @@
 // Every input is answered: an entry returns 0, or the number of the refusal; a refusal leaves the output buffer as it was. Frames: 1 or 2 (length), 3 (size of the output
 // buffer), then 4 (no frame) or 5 (uncorrectable). Single rows: 8 (length), 3, then 4 or 5.
 ghost use Rattle.std.specs.Prelude.{◌≡◌};
-ghost use Rattle.g709.specs.Answers.{rowEncoded, rowChecked, rowExtracted, rowCorrected, rowsEncoded, rowsChecked, rowsExtracted, rowsCorrected};
+ghost use Rattle.g709.specs.Answers.{row_encoded, row_checked, row_extracted, row_corrected, rows_encoded, rows_checked, rows_extracted, rows_corrected};
 
 use words::Correction;
 
@@ -25,56 +25,56 @@ mod syndromes;
 
 // Writes the frame of the payload and returns 0; 1 or 3.
 pub fn encode(payload: &[u8], out: &mut [u8]) -> u8
-    ensures { (result, out.new) ≡ rowsEncoded payload.now out.old }
+    ensures { (result, out.new) ≡ rows_encoded payload.now out.old }
 {
     block::encode(payload, 4, 1, out)
 }
 
 // 0 for a frame; 2 or 4.
 pub fn check(block: &[u8]) -> u8
-    ensures { result ≡ rowsChecked block.now }
+    ensures { result ≡ rows_checked block.now }
 {
     block::check(block, 4, 2)
 }
 
 // Writes the payload of a frame and returns 0; 2, 3 or 4.
 pub fn extract(block: &[u8], out: &mut [u8]) -> u8
-    ensures { (result, out.new) ≡ rowsExtracted block.now out.old }
+    ensures { (result, out.new) ≡ rows_extracted block.now out.old }
 {
     block::extract(block, 4, 2, out)
 }
 
 // Writes the frame whose words are within eight bytes of those received; 2, 3 or 5.
 pub fn correct(block: &[u8], out: &mut [u8]) -> Correction
-    ensures { (result, out.new) ≡ rowsCorrected block.now out.old }
+    ensures { (result, out.new) ≡ rows_corrected block.now out.old }
 {
     block::correct(block, 4, 2, out)
 }
 
 // Writes the row of the data and returns 0; 8 or 3.
 pub fn encode_row(payload: &[u8], out: &mut [u8]) -> u8
-    ensures { (result, out.new) ≡ rowEncoded payload.now out.old }
+    ensures { (result, out.new) ≡ row_encoded payload.now out.old }
 {
     block::encode(payload, 1, 8, out)
 }
 
 // 0 for a row; 8 or 4.
 pub fn check_row(row: &[u8]) -> u8
-    ensures { result ≡ rowChecked row.now }
+    ensures { result ≡ row_checked row.now }
 {
     block::check(row, 1, 8)
 }
 
 // Writes the data of a row and returns 0; 8, 3 or 4.
 pub fn extract_row(row: &[u8], out: &mut [u8]) -> u8
-    ensures { (result, out.new) ≡ rowExtracted row.now out.old }
+    ensures { (result, out.new) ≡ row_extracted row.now out.old }
 {
     block::extract(row, 1, 8, out)
 }
 
 // Writes the row whose words are within eight bytes of those received; 8, 3 or 5.
 pub fn correct_row(row: &[u8], out: &mut [u8]) -> Correction
-    ensures { (result, out.new) ≡ rowCorrected row.now out.old }
+    ensures { (result, out.new) ≡ row_corrected row.now out.old }
 {
     block::correct(row, 1, 8, out)
 }

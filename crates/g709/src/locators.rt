@@ -1,10 +1,10 @@
 // The locator polynomials of the sixteen words of a row, side by side, so that their roots are found by columns. This pays where many words have several
 // wrong bytes.
 ghost use Rattle.std.specs.Prelude.{◌≡◌, cond, ℕ, ◌+◌, ◌*◌, ◌≤◌, ◌<◌, eqb, length};
-ghost use Rattle.fields.specs.Elements.{powersC, exponentsC};
+ghost use Rattle.fields.specs.Elements.{powers_c, exponents_c};
 ghost use Rattle.fields.specs.Places.{at};
 ghost use Rattle.decoding.specs.Steps.RootSearch.{kept};
-ghost use Rattle.g709.specs.Steps.Locating.{polynomialStored, LocatorsTo, LocatorSet, LocatorValues, ValuesIf, PlacesTo};
+ghost use Rattle.g709.specs.Steps.Locating.{polynomial_stored, LocatorsTo, LocatorSet, LocatorValues, ValuesIf, PlacesTo};
 
 use crate::columns::{CELLS, WORDS};
 use crate::root_columns::{TERMS, VALUES};
@@ -22,7 +22,7 @@ const CROWD: usize = 6;
 fn set_polynomial(terms: &mut [u8; TERMS], k: usize, polynomial: [u16; COEFFICIENTS])
     requires k_bound { (k < 16) × (length terms.old ≡ 144) }
     requires by_index { (d : ℕ) → at polynomial d < 256 }
-    ensures { (terms.new ≡ polynomialStored terms.old k polynomial) × (length terms.new ≡ 144) }
+    ensures { (terms.new ≡ polynomial_stored terms.old k polynomial) × (length terms.new ≡ 144) }
 {
     let mut d: usize = 0;
     while d < COEFFICIENTS {
@@ -33,7 +33,7 @@ fn set_polynomial(terms: &mut [u8; TERMS], k: usize, polynomial: [u16; COEFFICIE
 
 // Stores the locator polynomial of word k.
 fn set_locator(exp: &[u16], log: &[u16], s: &[u8; CELLS], k: usize, terms: &mut [u8; TERMS])
-    requires exp_value { (exp.now ≡ powersC) × (log.now ≡ exponentsC) }
+    requires exp_value { (exp.now ≡ powers_c) × (log.now ≡ exponents_c) }
     requires k_bound { (k < 16) × (length terms.old ≡ 144) }
     ensures { LocatorSet s.now k terms.old terms.new }
 {
@@ -44,7 +44,7 @@ fn set_locator(exp: &[u16], log: &[u16], s: &[u8; CELLS], k: usize, terms: &mut 
 
 // Stores the locator polynomials of the sixteen words.
 fn set_locators(exp: &[u16], log: &[u16], s: &[u8; CELLS], terms: &mut [u8; TERMS])
-    requires exp_value { (exp.now ≡ powersC) × (log.now ≡ exponentsC) }
+    requires exp_value { (exp.now ≡ powers_c) × (log.now ≡ exponents_c) }
     requires terms_len { length terms.old ≡ 144 }
     ensures { LocatorsTo s.now 16 terms.new × (length terms.new ≡ 144) }
 {
@@ -70,7 +70,7 @@ pub(crate) fn no_values() -> [u8; VALUES]
 
 // Stores the values of the locator polynomials at all powers of a.
 fn evaluate(exp: &[u16], log: &[u16], s: &[u8; CELLS], values: &mut [u8; VALUES])
-    requires exp_value { (exp.now ≡ powersC) × (log.now ≡ exponentsC) }
+    requires exp_value { (exp.now ≡ powers_c) × (log.now ≡ exponents_c) }
     requires values_len { length values.old ≡ 4080 }
     ensures { LocatorValues s.now values.new × (length values.new ≡ 4080) }
 {
@@ -139,7 +139,7 @@ pub(crate) fn locate(
     wanted: bool,
     values: &mut [u8; VALUES],
 ) -> bool
-    requires exp_value { (exp.now ≡ powersC) × (log.now ≡ exponentsC) }
+    requires exp_value { (exp.now ≡ powers_c) × (log.now ≡ exponents_c) }
     requires values_len { length values.old ≡ 4080 }
     ensures { ValuesIf result s.now values.new }
 {

@@ -2,8 +2,8 @@
 // is multiplied by a^d, a constant that is written out; the sum of the nine columns is the column of values.
 ghost use Rattle.std.specs.Prelude.{◌≡◌, ◌+◌, ◌*◌, ◌<◌, length};
 ghost use Rattle.g709.specs.Steps.Registers.{over};
-ghost use Rattle.g709.specs.Steps.RootColumns.{columnValues};
-ghost use Rattle.g709.specs.Steps.Evaluating.{ColumnBytes, columnScaled, columnsScaled, column_sum};
+ghost use Rattle.g709.specs.Steps.RootColumns.{column_values};
+ghost use Rattle.g709.specs.Steps.Evaluating.{ColumnBytes, column_scaled, columns_scaled, column_sum};
 
 use crate::columns::{WORDS, product};
 
@@ -16,7 +16,7 @@ pub(crate) const VALUES: usize = 4080;
 // Multiplies column d by y.
 fn scale(terms: &mut [u8; TERMS], d: usize, y: u8)
     requires { (d < 9) × (length terms.old ≡ 144) }
-    ensures { (terms.new ≡ columnScaled terms.old d y) × (length terms.new ≡ 144) }
+    ensures { (terms.new ≡ column_scaled terms.old d y) × (length terms.new ≡ 144) }
 {
     let n = WORDS * d;
     let mut j: usize = 0;
@@ -28,7 +28,7 @@ fn scale(terms: &mut [u8; TERMS], d: usize, y: u8)
 
 fn four(terms: &mut [u8; TERMS], d: usize, y0: u8, y1: u8, y2: u8, y3: u8)
     requires { (d < 6) × (length terms.old ≡ 144) }
-    ensures { (terms.new ≡ columnScaled (columnScaled (columnScaled (columnScaled terms.old d y0) (d + 1) y1) (d + 2) y2) (d + 3) y3) × (length terms.new ≡ 144) }
+    ensures { (terms.new ≡ column_scaled (column_scaled (column_scaled (column_scaled terms.old d y0) (d + 1) y1) (d + 2) y2) (d + 3) y3) × (length terms.new ≡ 144) }
 {
     scale(terms, d, y0);
     scale(terms, d + 1, y1);
@@ -39,7 +39,7 @@ fn four(terms: &mut [u8; TERMS], d: usize, y0: u8, y1: u8, y2: u8, y3: u8)
 // To the next power: a^8, a^7, .. a. The last column stays as it is.
 fn advance(terms: &mut [u8; TERMS])
     requires { length terms.old ≡ 144 }
-    ensures { (terms.new ≡ columnsScaled terms.old 8) × (length terms.new ≡ 144) }
+    ensures { (terms.new ≡ columns_scaled terms.old 8) × (length terms.new ≡ 144) }
 {
     four(terms, 0, 29, 128, 64, 32);
     four(terms, 4, 16, 8, 4, 2);
@@ -84,7 +84,7 @@ fn known(terms: &[u8]) -> u8
 // Stores the values of the sixteen polynomials at all powers of a. The coefficients are used up.
 pub(crate) fn evaluate(terms: &mut [u8; TERMS], values: &mut [u8; VALUES])
     requires { (length terms.old ≡ 144) × (length values.old ≡ 4080) }
-    ensures values_after { (values.new ≡ columnValues terms.old) × (length values.new ≡ 4080) }
+    ensures values_after { (values.new ≡ column_values terms.old) × (length values.new ≡ 4080) }
     ensures terms_len { length terms.new ≡ 144 }
 {
     known(terms);

@@ -2,14 +2,14 @@
 // as the remainders stand. Products are by constants that are written out.
 ghost use Rattle.std.specs.Prelude.{◌≡◌, ◌+◌, ◌<◌, length};
 ghost use Rattle.fields.specs.Lists.{tabulate};
-ghost use Rattle.g709.specs.Steps.ColumnSyndromes.{valueStored, valuesStored, SyndromesTo};
+ghost use Rattle.g709.specs.Steps.ColumnSyndromes.{value_stored, values_stored, SyndromesTo};
 
 use crate::columns::{CELLS, WORDS, agree, plus, product};
 
 // Value j, of which the first i columns are done, is multiplied by y, the power a^j, and column i is added.
 fn next_value(s: &mut [u8; CELLS], rest: &[u8; CELLS], i: usize, j: usize, y: u8)
     requires { (i < 16) × (j < 16) × (length s.old ≡ 272) }
-    ensures { (s.new ≡ valueStored s.old rest.now i j y) × (length s.new ≡ 272) }
+    ensures { (s.new ≡ value_stored s.old rest.now i j y) × (length s.new ≡ 272) }
 {
     let m = WORDS * i;
     let n = WORDS * j;
@@ -22,7 +22,7 @@ fn next_value(s: &mut [u8; CELLS], rest: &[u8; CELLS], i: usize, j: usize, y: u8
 
 fn four(s: &mut [u8; CELLS], rest: &[u8; CELLS], i: usize, j: usize, y0: u8, y1: u8, y2: u8, y3: u8)
     requires { (i < 16) × (j < 13) × (length s.old ≡ 272) }
-    ensures { (s.new ≡ valueStored (valueStored (valueStored (valueStored s.old rest.now i j y0) rest.now i (j + 1) y1) rest.now i (j + 2) y2) rest.now i (j + 3) y3) × (length s.new ≡ 272) }
+    ensures { (s.new ≡ value_stored (value_stored (value_stored (value_stored s.old rest.now i j y0) rest.now i (j + 1) y1) rest.now i (j + 2) y2) rest.now i (j + 3) y3) × (length s.new ≡ 272) }
 {
     next_value(s, rest, i, j, y0);
     next_value(s, rest, i, j + 1, y1);
@@ -33,7 +33,7 @@ fn four(s: &mut [u8; CELLS], rest: &[u8; CELLS], i: usize, j: usize, y0: u8, y1:
 // One column more.
 fn next_values(s: &mut [u8; CELLS], rest: &[u8; CELLS], i: usize)
     requires { (i < 16) × (length s.old ≡ 272) }
-    ensures { (s.new ≡ valuesStored s.old rest.now i 16) × (length s.new ≡ 272) }
+    ensures { (s.new ≡ values_stored s.old rest.now i 16) × (length s.new ≡ 272) }
 {
     four(s, rest, i, 0, 1, 2, 4, 8);
     four(s, rest, i, 4, 16, 32, 64, 128);

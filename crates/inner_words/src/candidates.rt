@@ -2,9 +2,9 @@
 // its places inverted is a code word, and at most eight places are inverted. So nothing is asked of the candidates themselves.
 ghost use Rattle.std.specs.Prelude.{◌≡◌, ℕ, ◌<◌, length};
 ghost use Rattle.words.specs.Bits.{bit_of, bit_at};
-ghost use Rattle.inner_words.specs.Steps.Passes.{wrongWords, WordNearer, EachWord};
+ghost use Rattle.inner_words.specs.Steps.Passes.{wrong_words, WordNearer, EachWord};
 ghost use Rattle.inner_words.specs.Steps.InnerResidues.{WordResidues};
-ghost use Rattle.inner_words.specs.Steps.Candidates.{Flipped, Raised, tooMany, AsBlock, failing, ones};
+ghost use Rattle.inner_words.specs.Steps.Candidates.{Flipped, Raised, too_many, AsBlock, failing, ones};
 
 use crate::{Interleaved, places, residues};
 use lanes::candidates;
@@ -68,7 +68,7 @@ fn counted(s: Above, x: u64) -> Above
 fn write_flips(flips: &[u64], out: &mut [u8]) -> u64
     requires { (length flips.now ≡ 2040) × (length out.old ≡ 16320) }
     ensures block { AsBlock flips.now out.new }
-    ensures many { result ≡ tooMany flips.now }
+    ensures many { result ≡ too_many flips.now }
 {
     let mut s = Above {
         r0: 0,
@@ -106,9 +106,9 @@ fn failing(residues: &[u64], flips: &[u64]) -> u64
 // Takes the candidates in the block, where they hold; what is left as it was and is no code word is the answer, bit k, the highest first, for word k.
 fn take(residues: &[u64], wrong: u64, flips: &[u64], block: &mut [u8]) -> u64
     requires residues_len { (length residues.now ≡ 88) × (length flips.now ≡ 2040) × (length block.old ≡ 16320) }
-    requires wrong_value { wrong ≡ wrongWords (bit_at block.old) }
+    requires wrong_value { wrong ≡ wrong_words (bit_at block.old) }
     requires by_index { (k : ℕ) → k < 64 → bit_of 64 wrong k ≡ 1 → WordResidues residues.now k block.old }
-    ensures { (result ≡ wrongWords (bit_at block.new)) × EachWord WordNearer block.old block.new }
+    ensures { (result ≡ wrong_words (bit_at block.new)) × EachWord WordNearer block.old block.new }
 {
     let left = wrong & failing(residues, flips);
     flip_places(flips, wrong ^ left, block);
@@ -141,9 +141,9 @@ fn blank() -> [u64; Inner::PLACES]
 // Where many inner words of the block are wrong, candidates are found by the residues of the wrong ones, and taken where they hold; the wrong words that are
 // left are the answer.
 pub(crate) fn correct(residues: &[u64; Inner::PARITY], wrong: u64, block: &mut [u8]) -> u64
-    requires block_len { (length block.old ≡ 16320) × (wrong ≡ wrongWords (bit_at block.old)) }
+    requires block_len { (length block.old ≡ 16320) × (wrong ≡ wrong_words (bit_at block.old)) }
     requires by_index { (k : ℕ) → k < 64 → bit_of 64 wrong k ≡ 1 → WordResidues residues.now k block.old }
-    ensures { (result ≡ wrongWords (bit_at block.new)) × EachWord WordNearer block.old block.new }
+    ensures { (result ≡ wrong_words (bit_at block.new)) × EachWord WordNearer block.old block.new }
 {
     if ones(wrong) <= FEW {
         return wrong;

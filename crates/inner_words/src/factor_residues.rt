@@ -2,7 +2,7 @@
 // tests/generated/residues.py writes this file: the eight texts differ in the factor's coefficients alone, which the compiler has to know.
 ghost use Rattle.std.specs.Prelude.{◌≡◌, ◌+◌, ◌*◌, ◌≤◌, ◌<◌, length};
 ghost use Rattle.lanes.specs.Steps.Sliced.{cells};
-ghost use Rattle.inner_words.specs.Steps.InnerResidues.{loaded_at, advanced, residueOf};
+ghost use Rattle.inner_words.specs.Steps.InnerResidues.{loaded_at, advanced, residue_of};
 
 use crate::places::{first_five, load};
 use lanes::{DEGREE, Lanes};
@@ -32,7 +32,7 @@ fn step_0(bytes: &[u8], p: usize, s: Lanes) -> Lanes
 // The residues modulo factor 0 of the first 5 + 11 * blocks places. After eleven places each coefficient is back where it stood, so that none has to move.
 pub(crate) fn residue_0(bytes: &[u8], blocks: usize) -> Lanes
     requires { (blocks ≤ 185) × (40 + 88 * blocks ≤ length bytes.now) }
-    ensures { cells result ≡ residueOf 0 bytes.now (5 + 11 * blocks) }
+    ensures { cells result ≡ residue_of 0 bytes.now (5 + 11 * blocks) }
 {
     let mut s = first_five(bytes);
     let mut i: usize = 0;
@@ -79,7 +79,7 @@ fn step_1(bytes: &[u8], p: usize, s: Lanes) -> Lanes
 // The residues modulo factor 1 of the first 5 + 11 * blocks places. After eleven places each coefficient is back where it stood, so that none has to move.
 pub(crate) fn residue_1(bytes: &[u8], blocks: usize) -> Lanes
     requires { (blocks ≤ 185) × (40 + 88 * blocks ≤ length bytes.now) }
-    ensures { cells result ≡ residueOf 1 bytes.now (5 + 11 * blocks) }
+    ensures { cells result ≡ residue_of 1 bytes.now (5 + 11 * blocks) }
 {
     let mut s = first_five(bytes);
     let mut i: usize = 0;
@@ -126,7 +126,7 @@ fn step_2(bytes: &[u8], p: usize, s: Lanes) -> Lanes
 // The residues modulo factor 2 of the first 5 + 11 * blocks places. After eleven places each coefficient is back where it stood, so that none has to move.
 pub(crate) fn residue_2(bytes: &[u8], blocks: usize) -> Lanes
     requires { (blocks ≤ 185) × (40 + 88 * blocks ≤ length bytes.now) }
-    ensures { cells result ≡ residueOf 2 bytes.now (5 + 11 * blocks) }
+    ensures { cells result ≡ residue_of 2 bytes.now (5 + 11 * blocks) }
 {
     let mut s = first_five(bytes);
     let mut i: usize = 0;
@@ -173,7 +173,7 @@ fn step_3(bytes: &[u8], p: usize, s: Lanes) -> Lanes
 // The residues modulo factor 3 of the first 5 + 11 * blocks places. After eleven places each coefficient is back where it stood, so that none has to move.
 pub(crate) fn residue_3(bytes: &[u8], blocks: usize) -> Lanes
     requires { (blocks ≤ 185) × (40 + 88 * blocks ≤ length bytes.now) }
-    ensures { cells result ≡ residueOf 3 bytes.now (5 + 11 * blocks) }
+    ensures { cells result ≡ residue_of 3 bytes.now (5 + 11 * blocks) }
 {
     let mut s = first_five(bytes);
     let mut i: usize = 0;
@@ -220,7 +220,7 @@ fn step_4(bytes: &[u8], p: usize, s: Lanes) -> Lanes
 // The residues modulo factor 4 of the first 5 + 11 * blocks places. After eleven places each coefficient is back where it stood, so that none has to move.
 pub(crate) fn residue_4(bytes: &[u8], blocks: usize) -> Lanes
     requires { (blocks ≤ 185) × (40 + 88 * blocks ≤ length bytes.now) }
-    ensures { cells result ≡ residueOf 4 bytes.now (5 + 11 * blocks) }
+    ensures { cells result ≡ residue_of 4 bytes.now (5 + 11 * blocks) }
 {
     let mut s = first_five(bytes);
     let mut i: usize = 0;
@@ -267,7 +267,7 @@ fn step_5(bytes: &[u8], p: usize, s: Lanes) -> Lanes
 // The residues modulo factor 5 of the first 5 + 11 * blocks places. After eleven places each coefficient is back where it stood, so that none has to move.
 pub(crate) fn residue_5(bytes: &[u8], blocks: usize) -> Lanes
     requires { (blocks ≤ 185) × (40 + 88 * blocks ≤ length bytes.now) }
-    ensures { cells result ≡ residueOf 5 bytes.now (5 + 11 * blocks) }
+    ensures { cells result ≡ residue_of 5 bytes.now (5 + 11 * blocks) }
 {
     let mut s = first_five(bytes);
     let mut i: usize = 0;
@@ -314,7 +314,7 @@ fn step_6(bytes: &[u8], p: usize, s: Lanes) -> Lanes
 // The residues modulo factor 6 of the first 5 + 11 * blocks places. After eleven places each coefficient is back where it stood, so that none has to move.
 pub(crate) fn residue_6(bytes: &[u8], blocks: usize) -> Lanes
     requires { (blocks ≤ 185) × (40 + 88 * blocks ≤ length bytes.now) }
-    ensures { cells result ≡ residueOf 6 bytes.now (5 + 11 * blocks) }
+    ensures { cells result ≡ residue_of 6 bytes.now (5 + 11 * blocks) }
 {
     let mut s = first_five(bytes);
     let mut i: usize = 0;
@@ -361,7 +361,7 @@ fn step_7(bytes: &[u8], p: usize, s: Lanes) -> Lanes
 // The residues modulo factor 7 of the first 5 + 11 * blocks places. After eleven places each coefficient is back where it stood, so that none has to move.
 pub(crate) fn residue_7(bytes: &[u8], blocks: usize) -> Lanes
     requires { (blocks ≤ 185) × (40 + 88 * blocks ≤ length bytes.now) }
-    ensures { cells result ≡ residueOf 7 bytes.now (5 + 11 * blocks) }
+    ensures { cells result ≡ residue_of 7 bytes.now (5 + 11 * blocks) }
 {
     let mut s = first_five(bytes);
     let mut i: usize = 0;

@@ -5,9 +5,9 @@
 ghost use Rattle.std.specs.Prelude.{◌≡◌, length};
 ghost use Rattle.fields.specs.Steps.Buffers.{Placed};
 ghost use Rattle.words.specs.Bits.{bit_at, bytes_of};
-ghost use Rattle.words.specs.InnerWords.{withParity};
-ghost use Rattle.inner_words.specs.Steps.BitSliced.{parityPlaces, parityBytes};
-ghost use Rattle.inner_words.specs.Steps.Passes.{InnerPassed, innerCodes};
+ghost use Rattle.words.specs.InnerWords.{with_parity};
+ghost use Rattle.inner_words.specs.Steps.BitSliced.{parity_places, parity_bytes};
+ghost use Rattle.inner_words.specs.Steps.Passes.{InnerPassed, inner_codes};
 
 use words::Inner;
 
@@ -44,7 +44,7 @@ const PARITY_BYTES: usize = Interleaved::BYTES - Interleaved::DATA_BYTES;
 // What the parity places are to be, from the data places.
 fn parity_places(bytes: &[u8]) -> [u64; Inner::PARITY]
     requires { length bytes.now ≡ 16320 }
-    ensures { result ≡ parityPlaces bytes.now }
+    ensures { result ≡ parity_places bytes.now }
 {
     let residues = residues::residues(bytes, residues::DATA_BLOCKS);
     parity::from_residues(&residues)
@@ -53,7 +53,7 @@ fn parity_places(bytes: &[u8]) -> [u64; Inner::PARITY]
 // Writes the parity places.
 fn store(cells: &[u64], out: &mut [u8])
     requires { (length cells.now ≡ 88) × (length out.old ≡ 16320) }
-    ensures { Placed 15616 (parityBytes cells.now) out.old out.new }
+    ensures { Placed 15616 (parity_bytes cells.now) out.old out.new }
 {
     let mut m: usize = 0;
     while m < PARITY_BYTES {
@@ -68,7 +68,7 @@ fn store(cells: &[u64], out: &mut [u8])
 // Writes the parity bits of the inner words after the data bytes of the frame.
 pub fn encode(out: &mut [u8])
     requires { length out.old ≡ 16320 }
-    ensures { out.new ≡ bytes_of 16320 (withParity (bit_at out.old)) }
+    ensures { out.new ≡ bytes_of 16320 (with_parity (bit_at out.old)) }
 {
     let cells = parity_places(out);
     store(&cells, out);
@@ -77,7 +77,7 @@ pub fn encode(out: &mut [u8])
 // Each inner word of the block is a code word.
 pub fn are_code_words(block: &[u8]) -> bool
     requires { length block.now ≡ 16320 }
-    ensures { result ≡ innerCodes (bit_at block.now) }
+    ensures { result ≡ inner_codes (bit_at block.now) }
 {
     residues::wrong_words(block) == 0
 }

@@ -1,12 +1,12 @@
 // Inner words that are no code words, corrected one after the other by their residues.
 ghost use Rattle.std.specs.Prelude.{◌≡◌, cond, ℕ, ◌<◌, length};
-ghost use Rattle.fields.specs.Elements.{powersB, exponentsB};
+ghost use Rattle.fields.specs.Elements.{powers_b, exponents_b};
 ghost use Rattle.decoding.specs.Steps.PowerTables.{PowerTables};
 ghost use Rattle.words.specs.Bits.{bit_of, bit_at};
-ghost use Rattle.words.specs.InnerCode.{isInner};
-ghost use Rattle.words.specs.InnerWords.{innerWord};
+ghost use Rattle.words.specs.InnerCode.{is_inner};
+ghost use Rattle.words.specs.InnerWords.{inner_word};
 ghost use Rattle.inner_words.specs.Steps.InnerResidues.{WordResidues};
-ghost use Rattle.inner_words.specs.Steps.Passes.{wrongWords, WordRestored, OneWord, EachWord};
+ghost use Rattle.inner_words.specs.Steps.Passes.{wrong_words, WordRestored, OneWord, EachWord};
 
 use crate::Interleaved;
 use crate::odd_syndromes::odd_syndromes;
@@ -21,7 +21,7 @@ fn correct_word(
     k: usize,
     block: &mut [u8],
 ) -> u64
-    requires exp_value { (exp.now ≡ powersB) × (log.now ≡ exponentsB) × PowerTables exp.now tables.old }
+    requires exp_value { (exp.now ≡ powers_b) × (log.now ≡ exponents_b) × PowerTables exp.now tables.old }
     requires residues_len { (length residues.now ≡ 88) × (length block.old ≡ 16320) × (k < 64) × WordResidues residues.now k block.old }
     ensures put { OneWord WordRestored k block.old block.new result }
     ensures tables { PowerTables exp.now tables.new }
@@ -44,9 +44,9 @@ fn correct_wrong(
     k: usize,
     block: &mut [u8],
 ) -> u64
-    requires exp_value { (exp.now ≡ powersB) × (log.now ≡ exponentsB) × PowerTables exp.now tables.old }
+    requires exp_value { (exp.now ≡ powers_b) × (log.now ≡ exponents_b) × PowerTables exp.now tables.old }
     requires residues_len { (length residues.now ≡ 88) × (length block.old ≡ 16320) × (k < 64) }
-    requires k_value { bit_of 64 wrong k ≡ cond (isInner (innerWord (bit_at block.old) k)) 0 1 }
+    requires k_value { bit_of 64 wrong k ≡ cond (is_inner (inner_word (bit_at block.old) k)) 0 1 }
     requires word_residues { bit_of 64 wrong k ≡ 1 → WordResidues residues.now k block.old }
     ensures put { OneWord WordRestored k block.old block.new result }
     ensures tables { PowerTables exp.now tables.new }
@@ -73,10 +73,10 @@ pub(crate) fn correct_each(
     wrong: u64,
     block: &mut [u8],
 ) -> u64
-    requires exp_value { (exp.now ≡ powersB) × (log.now ≡ exponentsB) }
-    requires residues_len { (length residues.now ≡ 88) × (length block.old ≡ 16320) × (wrong ≡ wrongWords (bit_at block.old)) }
+    requires exp_value { (exp.now ≡ powers_b) × (log.now ≡ exponents_b) }
+    requires residues_len { (length residues.now ≡ 88) × (length block.old ≡ 16320) × (wrong ≡ wrong_words (bit_at block.old)) }
     requires by_index { (k : ℕ) → k < 64 → bit_of 64 wrong k ≡ 1 → WordResidues residues.now k block.old }
-    ensures { (result ≡ wrongWords (bit_at block.new)) × EachWord WordRestored block.old block.new }
+    ensures { (result ≡ wrong_words (bit_at block.new)) × EachWord WordRestored block.old block.new }
 {
     if wrong == 0 {
         return 0;

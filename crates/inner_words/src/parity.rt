@@ -2,7 +2,7 @@
 // each four numbers are made first, so that four bits cost one read.
 ghost use Rattle.std.specs.Prelude.{◌≡◌, [], ◌∷◌, ◌<◌, ◌/◌, ◌%◌, length};
 ghost use Rattle.fields.specs.Lists.{tabulate};
-ghost use Rattle.inner_words.specs.Steps.ParityMatrix.{parityMatrix, fourSum, fourSums, paritySum, paritySums};
+ghost use Rattle.inner_words.specs.Steps.ParityMatrix.{parity_matrix, four_sum, four_sums, parity_sum, parity_sums};
 
 use crate::parity_matrix;
 use crate::residues::put;
@@ -17,14 +17,14 @@ const SUMS: usize = 16;
 const PICK_BYTES: usize = Inner::PARITY / 8;
 
 fn matrix() -> [u8; Inner::PARITY * PICK_BYTES]
-    ensures { result ≡ parityMatrix }
+    ensures { result ≡ parity_matrix }
 {
     parity_matrix::PARITY_MATRIX
 }
 
 // The sum of no number, of the last, of the last but one, and so on: the bits of the place in the list say which.
 fn sums_of(a: u64, b: u64, c: u64, d: u64) -> [u64; SUMS]
-    ensures { result ≡ tabulate 16 (fourSum (a ∷ b ∷ c ∷ d ∷ []) 0) }
+    ensures { result ≡ tabulate 16 (four_sum (a ∷ b ∷ c ∷ d ∷ []) 0) }
 {
     [
         0,
@@ -49,7 +49,7 @@ fn sums_of(a: u64, b: u64, c: u64, d: u64) -> [u64; SUMS]
 // The sums of each four numbers.
 fn four_sums(numbers: &[u64]) -> [u64; FOURS * SUMS]
     requires { length numbers.now ≡ 88 }
-    ensures { result ≡ fourSums numbers.now }
+    ensures { result ≡ four_sums numbers.now }
 {
     let mut out = [0u64; FOURS * SUMS];
     let mut g: usize = 0;
@@ -78,7 +78,7 @@ fn last_four(byte: u8) -> usize
 // Parity place q: the sum of the numbers that its bits pick.
 fn parity_sum(sums: &[u64], matrix: &[u8], q: usize) -> u64
     requires { (length sums.now ≡ 352) × (length matrix.now ≡ 968) × (q < 88) }
-    ensures { result ≡ paritySum sums.now matrix.now q }
+    ensures { result ≡ parity_sum sums.now matrix.now q }
 {
     let mut x: u64 = 0;
     let mut m: usize = 0;
@@ -95,7 +95,7 @@ fn parity_sum(sums: &[u64], matrix: &[u8], q: usize) -> u64
 // The parity places, from the residues of the data places.
 pub(crate) fn from_residues(residues: &[u64]) -> [u64; Inner::PARITY]
     requires { length residues.now ≡ 88 }
-    ensures { result ≡ paritySums residues.now }
+    ensures { result ≡ parity_sums residues.now }
 {
     let sums = four_sums(residues);
     let matrix = matrix();

@@ -3,8 +3,8 @@ ghost use Rattle.std.specs.Prelude.{◌≡◌, ◌+◌, ◌*◌, ◌≤◌, ◌<
 ghost use Rattle.fields.specs.Lists.{tabulate};
 ghost use Rattle.fields.specs.Steps.Buffers.{Placed};
 ghost use Rattle.lanes.specs.Steps.Sliced.{cells};
-ghost use Rattle.inner_words.specs.Steps.BitSliced.{placeAt, byteOf64};
-ghost use Rattle.inner_words.specs.Steps.InnerResidues.{loaded_at, differenceFrom, begun};
+ghost use Rattle.inner_words.specs.Steps.BitSliced.{place_at, byte_of64};
+ghost use Rattle.inner_words.specs.Steps.InnerResidues.{loaded_at, difference_from, begun};
 
 use crate::Interleaved;
 use lanes::{Lanes, counters};
@@ -12,7 +12,7 @@ use lanes::{Lanes, counters};
 // Place p of every inner word: bit k, the highest first, is that of word k.
 pub(crate) fn place(bytes: &[u8], p: usize) -> u64
     requires { (p < 2040) × (8 * p + 8 ≤ length bytes.now) }
-    ensures { result ≡ placeAt bytes.now p }
+    ensures { result ≡ place_at bytes.now p }
 {
     let i = Interleaved::PLACE_BYTES * p;
     ((bytes[i] as u64) << 56)
@@ -64,7 +64,7 @@ pub(crate) fn first_five(bytes: &[u8]) -> Lanes
 // Byte j of a number, the highest first.
 pub(crate) fn byte(x: u64, j: usize) -> u8
     requires { j < 8 }
-    ensures { result ≡ byteOf64 x j }
+    ensures { result ≡ byte_of64 x j }
 {
     ((x >> (56 - 8 * j)) & 255) as u8
 }
@@ -72,7 +72,7 @@ pub(crate) fn byte(x: u64, j: usize) -> u8
 // Writes place p of every inner word.
 pub(crate) fn put_place(block: &mut [u8], p: usize, x: u64)
     requires { (length block.old ≡ 16320) × (p < 2040) }
-    ensures { Placed (8 * p) (tabulate 8 (byteOf64 x)) block.old block.new }
+    ensures { Placed (8 * p) (tabulate 8 (byte_of64 x)) block.old block.new }
 {
     let mut j: usize = 0;
     while j < Interleaved::PLACE_BYTES {
@@ -84,7 +84,7 @@ pub(crate) fn put_place(block: &mut [u8], p: usize, x: u64)
 // Writes where two blocks differ, for eight places from place p on, the first of eight bytes the lowest.
 pub fn differences(block: &[u8], frame: &[u8], p: usize, out: &mut [u64])
     requires { (length block.now ≡ 16320) × (length frame.now ≡ 16320) × (p + 8 ≤ 2040) × (length out.old ≡ 8) }
-    ensures { out.new ≡ tabulate 8 (differenceFrom block.now frame.now p) }
+    ensures { out.new ≡ tabulate 8 (difference_from block.now frame.now p) }
 {
     let mut q: usize = 0;
     while q < counters::STEP {

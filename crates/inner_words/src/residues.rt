@@ -3,10 +3,10 @@
 ghost use Rattle.std.specs.Prelude.{◌≡◌, ◌+◌, ◌*◌, ◌≤◌, ◌<◌, length};
 ghost use Rattle.fields.specs.Places.{at};
 ghost use Rattle.fields.specs.Steps.Buffers.{Placed};
-ghost use Rattle.lanes.specs.Steps.Sliced.{orTo, cells};
+ghost use Rattle.lanes.specs.Steps.Sliced.{or_to, cells};
 ghost use Rattle.words.specs.Bits.{bit_at};
-ghost use Rattle.inner_words.specs.Steps.Passes.{wrongWords};
-ghost use Rattle.inner_words.specs.Steps.InnerResidues.{swapped, allSwapped, residueOf, residuesOf, sum_at};
+ghost use Rattle.inner_words.specs.Steps.Passes.{wrong_words};
+ghost use Rattle.inner_words.specs.Steps.InnerResidues.{swapped, all_swapped, residue_of, residues_of, sum_at};
 
 use crate::factor_residues;
 use crate::places::byte;
@@ -33,7 +33,7 @@ fn swapped(x: u64) -> u64
 // The residues modulo factor j, in the order of `places::load`.
 fn residue(j: usize, bytes: &[u8], blocks: usize) -> Lanes
     requires { (j < 8) × (blocks ≤ 185) × (40 + 88 * blocks ≤ length bytes.now) }
-    ensures { cells result ≡ residueOf j bytes.now (5 + 11 * blocks) }
+    ensures { cells result ≡ residue_of j bytes.now (5 + 11 * blocks) }
 {
     match j {
         0 => return factor_residues::residue_0(bytes, blocks),
@@ -70,7 +70,7 @@ pub(crate) fn put(numbers: &[u64], i: usize, out: &mut [u64])
 // Turns the bytes of each number round.
 fn turn(cells: &mut [u64])
     requires { length cells.old ≡ 88 }
-    ensures { cells.new ≡ allSwapped cells.old }
+    ensures { cells.new ≡ all_swapped cells.old }
 {
     let mut c: usize = 0;
     while c < Inner::PARITY {
@@ -82,7 +82,7 @@ fn turn(cells: &mut [u64])
 // The residues of the first 5 + 11 * blocks places modulo all eight factors, one after the other.
 pub(crate) fn residues(bytes: &[u8], blocks: usize) -> [u64; Inner::PARITY]
     requires { (blocks ≤ 185) × (40 + 88 * blocks ≤ length bytes.now) }
-    ensures { result ≡ residuesOf bytes.now (5 + 11 * blocks) }
+    ensures { result ≡ residues_of bytes.now (5 + 11 * blocks) }
 {
     let mut out = [0u64; Inner::PARITY];
     let mut j: usize = 0;
@@ -98,7 +98,7 @@ pub(crate) fn residues(bytes: &[u8], blocks: usize) -> [u64; Inner::PARITY]
 // The bits that are 1 in some of the residues of inner words of 2,040 places: those of the words that are no code words.
 pub(crate) fn wrong(residues: &[u64]) -> u64
     requires { length residues.now ≡ 88 }
-    ensures { result ≡ orTo 88 (at residues.now) }
+    ensures { result ≡ or_to 88 (at residues.now) }
 {
     let mut x: u64 = 0;
     let mut i: usize = 0;
@@ -112,7 +112,7 @@ pub(crate) fn wrong(residues: &[u64]) -> u64
 // The bits that are 1 in some sum of two residues.
 pub(crate) fn wrong_sums(residues: &[u64], added: &[u64]) -> u64
     requires { (length residues.now ≡ 88) × (length added.now ≡ 88) }
-    ensures { result ≡ orTo 88 (sum_at residues.now added.now) }
+    ensures { result ≡ or_to 88 (sum_at residues.now added.now) }
 {
     let mut x: u64 = 0;
     let mut i: usize = 0;
@@ -126,7 +126,7 @@ pub(crate) fn wrong_sums(residues: &[u64], added: &[u64]) -> u64
 // The inner words of the block that are no code words: bit k, the highest first, is 1 for word k.
 pub(crate) fn wrong_words(block: &[u8]) -> u64
     requires { length block.now ≡ 16320 }
-    ensures { result ≡ wrongWords (bit_at block.now) }
+    ensures { result ≡ wrong_words (bit_at block.now) }
 {
     let residues = residues(block, WORD_BLOCKS);
     wrong(&residues)

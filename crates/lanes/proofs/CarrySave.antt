@@ -18,136 +18,136 @@ use mir.Val.{Fits}
 use Rattle.fields.specs.Elements.{xor}
 use Rattle.fields.specs.Lists.{tabulate}
 use Rattle.fields.specs.Places.{at, every, sum_to}
-use Rattle.fields.proofs.Lists.{tabulate-at, tabulate-is, tabulate-length, tabulate-same}
+use Rattle.fields.proofs.Lists.{tabulate_at, tabulate_is, tabulate_length, tabulate_same}
 use Rattle.fields.proofs.Ways.{past}
-use Rattle.fields.proofs.Places.Counting.{sum-most, sum_same, sum-zero}
-use Rattle.fields.proofs.Places.Differences.{sum-plus}
-use Rattle.fields.proofs.Places.Filling.{FilledOver, over-next, filled-end}
-use Rattle.fields.proofs.Places.Tests.{every-at}
+use Rattle.fields.proofs.Places.Counting.{sum_most, sum_same, sum_zero}
+use Rattle.fields.proofs.Places.Differences.{sum_plus}
+use Rattle.fields.proofs.Places.Filling.{FilledOver, over_next, filled_end}
+use Rattle.fields.proofs.Places.Tests.{every_at}
 use Rattle.lanes.specs.declared.counters.Planes.{Planes}
-use Rattle.lanes.specs.Steps.Sliced.{laneBit, turned}
-use Rattle.lanes.specs.Steps.Counters.{ones_in, lowest, EightMore, Carried, planeAdded, weighed, planeCounts, carriedCounts}
-use Rattle.lanes.proofs.Lanewise.{bit-lt, bit-none, bit-sum, bit_masked, bit-some}
+use Rattle.lanes.specs.Steps.Sliced.{lane_bit, turned}
+use Rattle.lanes.specs.Steps.Counters.{ones_in, lowest, EightMore, Carried, plane_added, weighed, plane_counts, carried_counts}
+use Rattle.lanes.proofs.Lanewise.{bit_lt, bit_none, bit_sum, bit_masked, bit_some}
 
 -- ---- a full adder
 
 -- the sum of three bits: a test that is computed
-bits-tested : every 2 (λ a. every 2 (λ b. every 2 (λ c. eqb (a + b + c) (xor (xor a b) c + 2 * max (min a b) (min c (xor a b)))))) ≡ true
+bits_tested : every 2 (λ a. every 2 (λ b. every 2 (λ c. eqb (a + b + c) (xor (xor a b) c + 2 * max (min a b) (min c (xor a b)))))) ≡ true
 unfolding every xor
-bits-tested = refl
+bits_tested = refl
 
-three-bits : (a b c : ℕ) → a < 2 → b < 2 → c < 2 → a + b + c ≡ xor (xor a b) c + 2 * max (min a b) (min c (xor a b))
-three-bits a b c ha hb hc = eqb-true _ _ (every-at 2 _ (every-at 2 _ (every-at 2 _ bits-tested a ha) b hb) c hc)
+three_bits : (a b c : ℕ) → a < 2 → b < 2 → c < 2 → a + b + c ≡ xor (xor a b) c + 2 * max (min a b) (min c (xor a b))
+three_bits a b c ha hb hc = eqb-true _ _ (every_at 2 _ (every_at 2 _ (every_at 2 _ bits_tested a ha) b hb) c hc)
 
-pub adder-is : (k a b c : ℕ) →
-    laneBit k a + laneBit k b + laneBit k c ≡ laneBit k (xor (xor a b) c) + 2 * laneBit k (bit_or (bit_and a b) (bit_and c (xor a b)))
-adder-is k a b c =
-    rw (bit-some k, bit_masked k a b, bit_masked k c (xor a b), bit-sum k (xor a b) c, bit-sum k a b)
-    (three-bits (laneBit k a) (laneBit k b) (laneBit k c) (bit-lt k a) (bit-lt k b) (bit-lt k c))
+pub adder_is : (k a b c : ℕ) →
+    lane_bit k a + lane_bit k b + lane_bit k c ≡ lane_bit k (xor (xor a b) c) + 2 * lane_bit k (bit_or (bit_and a b) (bit_and c (xor a b)))
+adder_is k a b c =
+    rw (bit_some k, bit_masked k a b, bit_masked k c (xor a b), bit_sum k (xor a b) c, bit_sum k a b)
+    (three_bits (lane_bit k a) (lane_bit k b) (lane_bit k c) (bit_lt k a) (bit_lt k b) (bit_lt k c))
 
 -- ---- numbers with a 1
 
 module _ (k : ℕ) where
-  ones-most : (f : ℕ → ℕ) (n : ℕ) → ones_in k f n ≤ n
+  ones_most : (f : ℕ → ℕ) (n : ℕ) → ones_in k f n ≤ n
   unfolding ones_in
-  ones-most f n =
-      rw zero-add at (sum-most 0 n (λ i. laneBit k (f i)) (λ i h. absurd (not-suc-le-zero h)) (λ i. omega (arith, bit-lt k (f i))))
+  ones_most f n =
+      rw zero-add at (sum_most 0 n (λ i. lane_bit k (f i)) (λ i h. absurd (not-suc-le-zero h)) (λ i. omega (arith, bit_lt k (f i))))
 
-  pub ones-same : (f g : ℕ → ℕ) (n : ℕ) → ((i : ℕ) → i < n → f i ≡ g i) → ones_in k f n ≡ ones_in k g n
+  pub ones_same : (f g : ℕ → ℕ) (n : ℕ) → ((i : ℕ) → i < n → f i ≡ g i) → ones_in k f n ≡ ones_in k g n
   unfolding ones_in
-  ones-same f g n h = sum_same n _ _ (λ i l. ap (laneBit k) (h i l))
+  ones_same f g n h = sum_same n _ _ (λ i l. ap (lane_bit k) (h i l))
 
-  ones-plus : (f : ℕ → ℕ) (m n : ℕ) → ones_in k f (m + n) ≡ ones_in k f m + ones_in k (λ q. f (m + q)) n
+  ones_plus : (f : ℕ → ℕ) (m n : ℕ) → ones_in k f (m + n) ≡ ones_in k f m + ones_in k (λ q. f (m + q)) n
   unfolding ones_in
-  ones-plus f m n = sum-plus m n (λ i. laneBit k (f i))
+  ones_plus f m n = sum_plus m n (λ i. lane_bit k (f i))
 
-  ones-next : (f : ℕ → ℕ) (n : ℕ) → ones_in k f (n + 1) ≡ ones_in k f n + laneBit k (f n)
+  ones_next : (f : ℕ → ℕ) (n : ℕ) → ones_in k f (n + 1) ≡ ones_in k f n + lane_bit k (f n)
   unfolding ones_in sum_to
-  ones-next f n = rw add-one
+  ones_next f n = rw add-one
 
   -- the first m of n numbers, where the others are 0
-  pub ones-first : (f : ℕ → ℕ) (m n : ℕ) → ((i : ℕ) → m ≤ i → f i ≡ 0) → m ≤ n → ones_in k f n ≡ ones_in k f m
+  pub ones_first : (f : ℕ → ℕ) (m n : ℕ) → ((i : ℕ) → m ≤ i → f i ≡ 0) → m ≤ n → ones_in k f n ≡ ones_in k f m
   unfolding ones_in
-  ones-first f m n z h =
+  ones_first f m n z h =
       let e : n ≡ m + (n - m) = omega arith in
-      let rest = sum-zero (n - m) (λ q. laneBit k (f (m + q))) (λ q l. ap (laneBit k) (z (m + q) (omega arith)) ∙ bit-none k) in
-      ap (ones_in k f) e ∙ omega (arith, ones-plus f m (n - m), rest)
+      let rest = sum_zero (n - m) (λ q. lane_bit k (f (m + q))) (λ q l. ap (lane_bit k) (z (m + q) (omega arith)) ∙ bit_none k) in
+      ap (ones_in k f) e ∙ omega (arith, ones_plus f m (n - m), rest)
 
 -- ---- steps of eight numbers
 
-pub eight-added : {xs : ℕ → ℕ} {i : ℕ} {s r : Planes} →
-    ((k : ℕ) → lowest k s + laneBit k (xs i) + laneBit k (xs (i + 1)) + laneBit k (xs (i + 2)) + laneBit k (xs (i + 3)) + laneBit k (xs (i + 4))
-    + laneBit k (xs (i + 5)) + laneBit k (xs (i + 6)) + laneBit k (xs (i + 7)) ≡ lowest k r + 8 * laneBit k r.carry) → EightMore xs i s r
+pub eight_added : {xs : ℕ → ℕ} {i : ℕ} {s r : Planes} →
+    ((k : ℕ) → lowest k s + lane_bit k (xs i) + lane_bit k (xs (i + 1)) + lane_bit k (xs (i + 2)) + lane_bit k (xs (i + 3)) + lane_bit k (xs (i + 4))
+    + lane_bit k (xs (i + 5)) + lane_bit k (xs (i + 6)) + lane_bit k (xs (i + 7)) ≡ lowest k r + 8 * lane_bit k r.carry) → EightMore xs i s r
 unfolding ones_in sum_to
-eight-added {xs} {i} e = record { each = λ k. let first : i + 0 ≡ i = omega arith in omega (arith, ap (λ (j : ℕ). laneBit k (xs j)) first, e k) }
+eight_added {xs} {i} e = record { each = λ k. let first : i + 0 ≡ i = omega arith in omega (arith, ap (λ (j : ℕ). lane_bit k (xs j)) first, e k) }
 
-pub carried-start : {xs : ℕ → ℕ} {carries : List ℕ} → ((i : ℕ) → at carries i ≡ 0) →
+pub carried_start : {xs : ℕ → ℕ} {carries : List ℕ} → ((i : ℕ) → at carries i ≡ 0) →
     Carried xs 0 (record { ones = 0; twos = 0; fours = 0; carry = 0 }) carries
 unfolding ones_in sum_to
-carried-start z = record { each = λ k. omega (arith, bit-none k); none = λ i h. z i }
+carried_start z = record { each = λ k. omega (arith, bit_none k); none = λ i h. z i }
 
-pub carried-next : {xs : ℕ → ℕ} {i n m : ℕ} {s r : Planes} {carries : List ℕ} → Carried xs i s carries → i < n → n ≤ m → length carries ≡ m →
+pub carried_next : {xs : ℕ → ℕ} {i n m : ℕ} {s r : Planes} {carries : List ℕ} → Carried xs i s carries → i < n → n ≤ m → length carries ≡ m →
     EightMore xs (8 * i) s r → Carried xs (i + 1) r (set carries i r.carry)
-carried-next {xs} {i} {n} {m} {s} {r} {carries} so_far h few long e =
+carried_next {xs} {i} {n} {m} {s} {r} {carries} so_far h few long e =
     let l : i < length carries = omega arith in
     record {
       each = λ k.
           let more : 8 * (i + 1) ≡ 8 * i + 8 = omega arith in
-          let same = ones-same k (at (set carries i r.carry)) (at carries) i (λ j b. get_or-set_other carries i j r.carry 0 (λ q. omega arith)) in
-          let last : laneBit k (at (set carries i r.carry) i) ≡ laneBit k r.carry = ap (laneBit k) (get_or-set_same carries i r.carry 0 l) in
+          let same = ones_same k (at (set carries i r.carry)) (at carries) i (λ j b. get_or-set_other carries i j r.carry 0 (λ q. omega arith)) in
+          let last : lane_bit k (at (set carries i r.carry) i) ≡ lane_bit k r.carry = ap (lane_bit k) (get_or-set_same carries i r.carry 0 l) in
           ap (ones_in k xs) more
-          ∙ omega (arith, ones-plus k xs (8 * i) 8, so_far.each k, e.each k, ones-next k (at (set carries i r.carry)) i, same, last);
+          ∙ omega (arith, ones_plus k xs (8 * i) 8, so_far.each k, e.each k, ones_next k (at (set carries i r.carry)) i, same, last);
       none = λ j h. get_or-set_other carries i j r.carry 0 (λ q. omega arith) ∙ so_far.none j (omega arith);
     }
 
-pub carried-end : {xs : ℕ → ℕ} {i n : ℕ} {s : Planes} {carries : List ℕ} → Carried xs i s carries → i ≤ n → n ≤ i → Carried xs n s carries
-carried-end {xs} {i} {n} so_far h l = let e : i ≡ n = omega arith in rw e at so_far
+pub carried_end : {xs : ℕ → ℕ} {i n : ℕ} {s : Planes} {carries : List ℕ} → Carried xs i s carries → i ≤ n → n ≤ i → Carried xs n s carries
+carried_end {xs} {i} {n} so_far h l = let e : i ≡ n = omega arith in rw e at so_far
 
 -- ---- planes, added to the counts one by one
 
 -- count k, with a plane added
-unfoldable pub addedAt : List ℕ → ℕ → ℕ → ℕ → ℕ
-addedAt counts x weight k = at counts k + laneBit (turned k) x * weight
+unfoldable pub added_at : List ℕ → ℕ → ℕ → ℕ → ℕ
+added_at counts x weight k = at counts k + lane_bit (turned k) x * weight
 
-pub plane-none : (counts : List ℕ) (x weight : ℕ) → length counts ≡ 64 → x ≡ 0 → counts ≡ planeAdded counts x weight
-unfolding planeAdded
-plane-none counts x weight long e = tabulate-is 64 _ counts 0 long (λ k l. rw (e, bit-none (turned k)) (omega arith))
+pub plane_none : (counts : List ℕ) (x weight : ℕ) → length counts ≡ 64 → x ≡ 0 → counts ≡ plane_added counts x weight
+unfolding plane_added
+plane_none counts x weight long e = tabulate_is 64 _ counts 0 long (λ k l. rw (e, bit_none (turned k)) (omega arith))
 
-bit-times : (b w : ℕ) → b < 2 → b * w ≤ w
-bit-times zero w h = omega arith
-bit-times (suc zero) w h = omega arith
-bit-times (suc (suc b)) w h = absurd (omega arith)
+bit_times : (b w : ℕ) → b < 2 → b * w ≤ w
+bit_times zero w h = omega arith
+bit_times (suc zero) w h = omega arith
+bit_times (suc (suc b)) w h = absurd (omega arith)
 
-pub one-fits : (y : ℕ) → Fits w16 (bit_and y 1)
-one-fits y = record { fits = omega (arith, and_mask y 1) }
+pub one_fits : (y : ℕ) → Fits w16 (bit_and y 1)
+one_fits y = record { fits = omega (arith, and_mask y 1) }
 
 module _ (y weight : ℕ) (light : weight ≤ 2048) where
-  weighed-few : bit_and y 1 * weight ≤ weight
-  weighed-few = bit-times (bit_and y 1) weight (omega (arith, and_mask y 1))
+  weighed_few : bit_and y 1 * weight ≤ weight
+  weighed_few = bit_times (bit_and y 1) weight (omega (arith, and_mask y 1))
 
-  pub weighed-fits : Fits w16 (bit_and y 1 * weight)
-  weighed-fits = record { fits = omega (arith, weighed-few) }
+  pub weighed_fits : Fits w16 (bit_and y 1 * weight)
+  weighed_fits = record { fits = omega (arith, weighed_few) }
 
-module _ (before counts : List ℕ) (x weight k : ℕ) (so_far : FilledOver 64 (addedAt before x weight) before k counts) where
-  pub plane-fits : (y : ℕ) → weight ≤ 2048 → ((i : ℕ) → at before i < weight) → Fits w16 (get_or counts k 0 + bit_and y 1 * weight)
-  plane-fits y light few = record { fits = omega (arith, weighed-few y weight light, so_far.ahead k (le_refl k), few k) }
+module _ (before counts : List ℕ) (x weight k : ℕ) (so_far : FilledOver 64 (added_at before x weight) before k counts) where
+  pub plane_fits : (y : ℕ) → weight ≤ 2048 → ((i : ℕ) → at before i < weight) → Fits w16 (get_or counts k 0 + bit_and y 1 * weight)
+  plane_fits y light few = record { fits = omega (arith, weighed_few y weight light, so_far.ahead k (le_refl k), few k) }
 
-  pub plane-next : k < 64 →
-      FilledOver 64 (addedAt before x weight) before (k + 1) (set counts k (get_or counts k 0 + bit_and (x / 2 ^ (8 * (k / 8) + 7 - k % 8)) 1 * weight))
-  unfolding addedAt laneBit turned
-  plane-next h =
+  pub plane_next : k < 64 →
+      FilledOver 64 (added_at before x weight) before (k + 1) (set counts k (get_or counts k 0 + bit_and (x / 2 ^ (8 * (k / 8) + 7 - k % 8)) 1 * weight))
+  unfolding added_at lane_bit turned
+  plane_next h =
       let e : 8 * (k / 8) + 7 - k % 8 ≡ 63 - (8 * (7 - k / 8) + k % 8) = omega arith in
       let bit = and_mask (x / 2 ^ (8 * (k / 8) + 7 - k % 8)) 1 ∙ ap (λ (j : ℕ). x / 2 ^ j % 2) e in
-      over-next so_far h (ap₂ (λ (n b : ℕ). n + b * weight) (so_far.ahead k (le_refl k)) bit)
+      over_next so_far h (ap₂ (λ (n b : ℕ). n + b * weight) (so_far.ahead k (le_refl k)) bit)
 
-  pub plane-end : 64 ≤ k → counts ≡ planeAdded before x weight
-  unfolding addedAt planeAdded
-  plane-end h = filled-end so_far.filled h
+  pub plane_end : 64 ≤ k → counts ≡ plane_added before x weight
+  unfolding added_at plane_added
+  plane_end h = filled_end so_far.filled h
 
-weighed-lt : (k : ℕ) (f : ℕ → ℕ) (n : ℕ) → weighed k f n < 2 ^ n
+weighed_lt : (k : ℕ) (f : ℕ → ℕ) (n : ℕ) → weighed k f n < 2 ^ n
 unfolding weighed
-weighed-lt k f zero = pow_pos 0
-weighed-lt k f (suc n) = omega (arith, weighed-lt k f n, bit-times (laneBit k (f n)) (2 ^ n) (bit-lt k (f n)), pow-suc 2 n)
+weighed_lt k f zero = pow_pos 0
+weighed_lt k f (suc n) = omega (arith, weighed_lt k f n, bit_times (lane_bit k (f n)) (2 ^ n) (bit_lt k (f n)), pow-suc 2 n)
 
 -- the invariant: the first i planes are added
 pub record Weighing (planes : List ℕ) (i weight : ℕ) (counts : List ℕ) : Type 0 where
@@ -156,54 +156,54 @@ pub record Weighing (planes : List ℕ) (i weight : ℕ) (counts : List ℕ) : T
   pub long : length counts ≡ 64
   pub value : counts ≡ tabulate 64 (λ k. weighed (turned k) (at planes) i)
 
-pub weighing-start : {planes : List ℕ} → Weighing planes 0 1 (replicate 64 0)
+pub weighing_start : {planes : List ℕ} → Weighing planes 0 1 (replicate 64 0)
 unfolding weighed tabulate
-weighing-start = record { within = zero-le; weight_is = refl; long = refl; value = refl }
+weighing_start = record { within = zero-le; weight_is = refl; long = refl; value = refl }
 
 module _ (planes counts : List ℕ) (i weight : ℕ) (so_far : Weighing planes i weight counts) where
   count_at : (k : ℕ) → k < 64 → at counts k ≡ weighed (turned k) (at planes) i
-  count_at k l = ap (λ (c : List ℕ). at c k) so_far.value ∙ tabulate-at 64 (λ k. weighed (turned k) (at planes) i) k 0 l
+  count_at k l = ap (λ (c : List ℕ). at c k) so_far.value ∙ tabulate_at 64 (λ k. weighed (turned k) (at planes) i) k 0 l
 
-  pub weighing-few : (k : ℕ) → at counts k < weight
-  weighing-few k = go (dec_lt k 64)
+  pub weighing_few : (k : ℕ) → at counts k < weight
+  weighing_few k = go (dec_lt k 64)
     where
       go : Dec (k < 64) → at counts k < weight
-      go (yes l) = omega (arith, count_at k l, weighed-lt (turned k) (at planes) i, so_far.weight_is)
+      go (yes l) = omega (arith, count_at k l, weighed_lt (turned k) (at planes) i, so_far.weight_is)
       go (no g) = omega (arith, past counts k (omega (arith, so_far.long)), so_far.weight_is, pow_pos i)
 
   module _ (l : i < 12) where
-    pub weighing-light : weight ≤ 2048
-    weighing-light = let few : 2 ^ i ≤ 2 ^ 11 = pow_mono {j = 11} (omega arith) in omega (arith, so_far.weight_is)
+    pub weighing_light : weight ≤ 2048
+    weighing_light = let few : 2 ^ i ≤ 2 ^ 11 = pow_mono {j = 11} (omega arith) in omega (arith, so_far.weight_is)
 
-    pub weighing-double : Fits w16 (2 * weight)
-    weighing-double = record { fits = omega (arith, weighing-light) }
+    pub weighing_double : Fits w16 (2 * weight)
+    weighing_double = record { fits = omega (arith, weighing_light) }
 
-    pub weighing-next : (next : List ℕ) → next ≡ planeAdded counts (at planes i) weight → Weighing planes (i + 1) (2 * weight) next
-    unfolding weighed planeAdded
-    weighing-next next e =
+    pub weighing_next : (next : List ℕ) → next ≡ plane_added counts (at planes i) weight → Weighing planes (i + 1) (2 * weight) next
+    unfolding weighed plane_added
+    weighing_next next e =
         record {
           within = omega arith;
           weight_is = rw add-one (omega (arith, so_far.weight_is, pow-suc 2 i));
-          long = ap length e ∙ tabulate-length 64 _;
-          value = e ∙ rw add-one (tabulate-same 64 _ _ (λ k h.
-              ap₂ (λ (n w : ℕ). n + laneBit (turned k) (at planes i) * w) (count_at k h) so_far.weight_is));
+          long = ap length e ∙ tabulate_length 64 _;
+          value = e ∙ rw add-one (tabulate_same 64 _ _ (λ k h.
+              ap₂ (λ (n w : ℕ). n + lane_bit (turned k) (at planes i) * w) (count_at k h) so_far.weight_is));
         }
 
-  pub weighing-end : 12 ≤ i → counts ≡ planeCounts planes
-  unfolding planeCounts
-  weighing-end h = let e : i ≡ 12 = omega (arith, so_far.within) in rw e at so_far.value
+  pub weighing_end : 12 ≤ i → counts ≡ plane_counts planes
+  unfolding plane_counts
+  weighing_end h = let e : i ≡ 12 = omega (arith, so_far.within) in rw e at so_far.value
 
 -- ---- carries of carries
 
 -- of n times eight carries of weight 8, of those of weight 64 that they give, and of the four of weight 512, which give none
 module _ (low a b c : Planes) (eights sixty-fours last none : List ℕ) (n : ℕ) where
-  pub all-counted : n ≤ 32 → Carried (at eights) n a sixty-fours → Carried (at sixty-fours) 4 b last → Carried (at last) 1 c none → (counts : List ℕ) →
-      counts ≡ planeCounts (low.ones ∷ low.twos ∷ low.fours ∷ a.ones ∷ a.twos ∷ a.fours
+  pub all_counted_lem : n ≤ 32 → Carried (at eights) n a sixty-fours → Carried (at sixty-fours) 4 b last → Carried (at last) 1 c none → (counts : List ℕ) →
+      counts ≡ plane_counts (low.ones ∷ low.twos ∷ low.fours ∷ a.ones ∷ a.twos ∷ a.fours
       ∷ b.ones ∷ b.twos ∷ b.fours ∷ c.ones ∷ c.twos ∷ c.fours ∷ []) →
-      counts ≡ carriedCounts low eights n
-  unfolding weighed planeCounts carriedCounts
-  all-counted h ca cb cc counts e = e ∙ tabulate-same 64 _ _ (λ k l.
+      counts ≡ carried_counts low eights n
+  unfolding weighed plane_counts carried_counts
+  all_counted_lem h ca cb cc counts e = e ∙ tabulate_same 64 _ _ (λ k l.
       let j = turned k in
-      let more = ones-first j (at sixty-fours) n 32 ca.none h in
-      let four = ones-first j (at last) 4 8 cb.none (omega arith) in
-      omega (arith, ca.each j, more, cb.each j, four, ones-most j (at last) 4, cc.each j))
+      let more = ones_first j (at sixty-fours) n 32 ca.none h in
+      let four = ones_first j (at last) 4 8 cb.none (omega arith) in
+      omega (arith, ca.each j, more, cb.each j, four, ones_most j (at last) 4, cc.each j))

@@ -4,19 +4,19 @@ use Prim.Native.Nat.{ℕ, ◌+◌, ◌≤◌, ◌<◌}
 use native.Mathlib.Numerals.{add-one}
 use native.Mathlib.Omega.{arith}
 use lib.Bits.{bit_or}
-use Rattle.lanes.specs.Steps.Sliced.{turned, orTo}
+use Rattle.lanes.specs.Steps.Sliced.{turned, or_to}
 
 module _ (f : ℕ → ℕ) where
-  pub some-none : 0 ≡ orTo 0 f
-  unfolding orTo
-  some-none = refl
+  pub some_none : 0 ≡ or_to 0 f
+  unfolding or_to
+  some_none = refl
 
-  module _ (i : ℕ) {x : ℕ} (so_far : x ≡ orTo i f) where
-    pub some_next : {y : ℕ} → y ≡ f i → bit_or x y ≡ orTo (i + 1) f
-    unfolding orTo
+  module _ (i : ℕ) {x : ℕ} (so_far : x ≡ or_to i f) where
+    pub some_next : {y : ℕ} → y ≡ f i → bit_or x y ≡ or_to (i + 1) f
+    unfolding or_to
     some_next ey = rw (add-one, so_far, ey)
 
-    pub some_end : (n : ℕ) → i ≤ n → n ≤ i → x ≡ orTo n f
+    pub some_end : (n : ℕ) → i ≤ n → n ≤ i → x ≡ or_to n f
     some_end n l h = let e : i ≡ n = omega arith in rw e at so_far
 
 -- ---- bytes turned round
@@ -25,6 +25,6 @@ pub turned_lt : (k : ℕ) → k < 64 → turned k < 64
 unfolding turned
 turned_lt k h = omega arith
 
-pub turned-twice : (k : ℕ) → k < 64 → turned (turned k) ≡ k
+pub turned_twice : (k : ℕ) → k < 64 → turned (turned k) ≡ k
 unfolding turned
-turned-twice k h = omega arith
+turned_twice k h = omega arith

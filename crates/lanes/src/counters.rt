@@ -5,8 +5,8 @@
 // The numbers are as they are loaded, the first of eight bytes the lowest: no byte has to move.
 ghost use Rattle.std.specs.Prelude.{◌≡◌, ℕ, ◌+◌, ◌*◌, ◌≤◌, ◌<◌, length};
 ghost use Rattle.fields.specs.Places.{at};
-ghost use Rattle.lanes.specs.Steps.Sliced.{laneBit};
-ghost use Rattle.lanes.specs.Steps.Counters.{EightMore, Carried, planeAdded, planeCounts, carriedCounts};
+ghost use Rattle.lanes.specs.Steps.Sliced.{lane_bit};
+ghost use Rattle.lanes.specs.Steps.Counters.{EightMore, Carried, plane_added, plane_counts, carried_counts};
 
 // Inner words, and so the bits of a number.
 const WORDS: usize = 64;
@@ -30,7 +30,7 @@ struct Added {
 }
 
 fn full_adder(a: u64, b: u64, c: u64) -> Added
-    ensures { (k : ℕ) → laneBit k a + laneBit k b + laneBit k c ≡ laneBit k result.sum + 2 * laneBit k result.carry }
+    ensures { (k : ℕ) → lane_bit k a + lane_bit k b + lane_bit k c ≡ lane_bit k result.sum + 2 * lane_bit k result.carry }
 {
     Added {
         sum: a ^ b ^ c,
@@ -90,7 +90,7 @@ fn count(xs: &[u64], n: usize, carries: &mut [u64]) -> Planes
 // Adds a plane to the counts, which are put in the order of the inner words. Most planes are 0.
 fn add_plane(counts: &mut [u16], x: u64, weight: u16)
     requires { (length counts.old ≡ 64) × (weight ≤ 2048) × ((k : ℕ) → at counts.old k < weight) }
-    ensures { counts.new ≡ planeAdded counts.old x weight }
+    ensures { counts.new ≡ plane_added counts.old x weight }
 {
     if x == 0 {
         return;
@@ -104,7 +104,7 @@ fn add_plane(counts: &mut [u16], x: u64, weight: u16)
 
 // The counts that the planes of all weights are.
 fn numbers(planes: &[u64; PLANES]) -> [u16; WORDS]
-    ensures { result ≡ planeCounts planes.now }
+    ensures { result ≡ plane_counts planes.now }
 {
     let mut counts = [0u16; WORDS];
     let mut weight: u16 = 1;
@@ -120,7 +120,7 @@ fn numbers(planes: &[u64; PLANES]) -> [u16; WORDS]
 // The counts of all numbers: from the planes of weight 1, 2 and 4, and n times eight carries of weight 8.
 pub fn counts(low: Planes, eights: &[u64; EIGHTS], n: usize) -> [u16; WORDS]
     requires { n ≤ 32 }
-    ensures { result ≡ carriedCounts low eights.now n }
+    ensures { result ≡ carried_counts low eights.now n }
 {
     let mut sixty_fours = [0u64; SIXTY_FOURS];
     let a = count(eights, n, &mut sixty_fours);

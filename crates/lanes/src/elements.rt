@@ -1,8 +1,8 @@
 // Elements of field B of all 64 inner words at once, and banks of sixteen: an operation on the numbers is, for each inner word k, the field's operation on its
 // elements.
 ghost use Rattle.std.specs.Prelude.{◌≡◌, cond, ℕ, ◌+◌, ◌≤◌, ◌<◌, min, eqb, length};
-ghost use Rattle.fields.specs.Elements.{xor, scale, doubled, timesB};
-ghost use Rattle.lanes.specs.Steps.Sliced.{laneBit, element};
+ghost use Rattle.fields.specs.Elements.{xor, scale, doubled, times_b};
+ghost use Rattle.lanes.specs.Steps.Sliced.{lane_bit, element};
 
 use crate::{DEGREE, Lanes};
 
@@ -49,7 +49,7 @@ pub(crate) fn sum(x: Lanes, y: Lanes) -> Lanes
 
 // x in the inner words of the mask, 0 in the others.
 fn masked(x: Lanes, mask: u64) -> Lanes
-    ensures { (k : ℕ) → element k result ≡ scale (laneBit k mask) (element k x) }
+    ensures { (k : ℕ) → element k result ≡ scale (lane_bit k mask) (element k x) }
 {
     Lanes {
         r0: x.r0 & mask,
@@ -68,7 +68,7 @@ fn masked(x: Lanes, mask: u64) -> Lanes
 
 // The inner words in which x is not zero.
 pub(crate) fn nonzero(x: Lanes) -> u64
-    ensures { (k : ℕ) → laneBit k result ≡ min (element k x) 1 }
+    ensures { (k : ℕ) → lane_bit k result ≡ min (element k x) 1 }
 {
     x.r0 | x.r1 | x.r2 | x.r3 | x.r4 | x.r5 | x.r6 | x.r7 | x.r8 | x.r9 | x.r10
 }
@@ -105,14 +105,14 @@ pub(crate) fn times_power(x: Lanes, n: usize) -> Lanes {
 
 // The product of x and y with one bit of y more than p has.
 fn product_step(p: Lanes, x: Lanes, y: u64) -> Lanes
-    ensures { (k : ℕ) → element k result ≡ xor (doubled 11 2053 (element k p)) (scale (laneBit k y) (element k x)) }
+    ensures { (k : ℕ) → element k result ≡ xor (doubled 11 2053 (element k p)) (scale (lane_bit k y) (element k x)) }
 {
     sum(doubled(p), masked(x, y))
 }
 
 // The product of two elements, by the bits of the second, the highest first.
 fn product(x: Lanes, y: Lanes) -> Lanes
-    ensures { (k : ℕ) → element k result ≡ timesB (element k x) (element k y) }
+    ensures { (k : ℕ) → element k result ≡ times_b (element k x) (element k y) }
 {
     let p9 = product_step(masked(x, y.r10), x, y.r9);
     let p8 = product_step(p9, x, y.r8);
@@ -128,7 +128,7 @@ fn product(x: Lanes, y: Lanes) -> Lanes
 
 // The product with a coefficient x, which often is zero in every inner word: then nothing is multiplied.
 pub(crate) fn sparse_product(x: Lanes, y: Lanes) -> Lanes
-    ensures { (k : ℕ) → element k result ≡ timesB (element k x) (element k y) }
+    ensures { (k : ℕ) → element k result ≡ times_b (element k x) (element k y) }
 {
     if nonzero(x) == 0 {
         return x;
@@ -138,7 +138,7 @@ pub(crate) fn sparse_product(x: Lanes, y: Lanes) -> Lanes
 
 // The square, which is additive: z^12, z^14, .. z^20 are z^3 + z, z^5 + z^3, z^7 + z^5, z^9 + z^7, z^9 + z^2 + 1.
 pub(crate) fn square(x: Lanes) -> Lanes
-    ensures { (k : ℕ) → element k result ≡ timesB (element k x) (element k x) }
+    ensures { (k : ℕ) → element k result ≡ times_b (element k x) (element k x) }
 {
     Lanes {
         r0: x.r0 ^ x.r10,
@@ -157,7 +157,7 @@ pub(crate) fn square(x: Lanes) -> Lanes
 
 // x in the inner words of the mask, y in the others.
 pub(crate) fn chosen(mask: u64, x: Lanes, y: Lanes) -> Lanes
-    ensures { (k : ℕ) → element k result ≡ cond (eqb (laneBit k mask) 1) (element k x) (element k y) }
+    ensures { (k : ℕ) → element k result ≡ cond (eqb (lane_bit k mask) 1) (element k x) (element k y) }
 {
     sum(y, masked(sum(x, y), mask))
 }

@@ -8,11 +8,11 @@ use native.Mathlib.Nat.{le_refl, not-suc-le-zero}
 use native.Mathlib.Omega.{arith}
 use borrow.Author.Count.{below_more}
 use lib.Seq.{ext_get_or}
-use Rattle.logging.specs.WorstList.{Counts, worstWords}
+use Rattle.logging.specs.WorstList.{Counts, worst_words}
 use Rattle.logging.specs.Laws.{Before, place_of, Worst}
 use Rattle.logging.proofs.Order.{irreflexive, transitive}
 use Rattle.logging.proofs.WorstOfAll.{same_or_not}
-use Rattle.logging.proofs.Ranking.{worst-list}
+use Rattle.logging.proofs.Ranking.{worst_list}
 
 -- whether k is among the first n places
 abbrev Among : List ℕ → ℕ → ℕ → Type 0
@@ -21,17 +21,17 @@ Among list k n = (j : ℕ) × (j < n) × (place_of list j ≡ k)
 abbrev Absent : List ℕ → ℕ → ℕ → Type 0
 Absent list k n = (j : ℕ) → j < n → place_of list j ≡ k → ⊥
 
-among-or-not : (list : List ℕ) (k n : ℕ) → Among list k n ⊎ Absent list k n
-among-or-not list k zero = inr (λ j h. absurd (not-suc-le-zero h))
-among-or-not list k (suc n) =
+among_or_not : (list : List ℕ) (k n : ℕ) → Among list k n ⊎ Absent list k n
+among_or_not list k zero = inr (λ j h. absurd (not-suc-le-zero h))
+among_or_not list k (suc n) =
     ⊎_elim (λ p. inl (p.0, omega (arith, p.1), p.2))
-    (λ absent. ⊎_elim (λ e. inl (n, omega arith, e)) (λ differ. inr (λ j l. below_more _ n absent differ j (omega arith))) (same_or_not (place_of list n) k)) (among-or-not list k n)
+    (λ absent. ⊎_elim (λ e. inl (n, omega arith, e)) (λ differ. inr (λ j l. below_more _ n absent differ j (omega arith))) (same_or_not (place_of list n) k)) (among_or_not list k n)
 
 -- two such lists that agree before place i: if the first names an inner word there, the other names that one or one that stands before it
 module _ (counts : Counts) where
-  no-later : (l m : List ℕ) → Worst counts l → Worst counts m → (i : ℕ) → i < 8 → ((j : ℕ) → j < i → place_of l j ≡ place_of m j) → place_of l i < 64 →
+  no_later : (l m : List ℕ) → Worst counts l → Worst counts m → (i : ℕ) → i < 8 → ((j : ℕ) → j < i → place_of l j ≡ place_of m j) → place_of l i < 64 →
       (place_of m i < 64) × ((place_of l i ≡ place_of m i → ⊥) → Before counts (place_of m i) (place_of l i))
-  no-later l m wl wm i h agree small = ⊎_elim among absent (among-or-not m (place_of l i) 8)
+  no_later l m wl wm i h agree small = ⊎_elim among absent (among_or_not m (place_of l i) 8)
     where
       Answer : Type 0
       Answer = (place_of m i < 64) × ((place_of l i ≡ place_of m i → ⊥) → Before counts (place_of m i) (place_of l i))
@@ -56,8 +56,8 @@ module _ (counts : Counts) where
               (omega arith, λ differ. absurd (differ (sym at_i)))
 
   -- no two inner words stand before each other
-  not-both : (j k : ℕ) → Before counts j k → Before counts k j → ⊥
-  not-both j k b c = irreflexive counts j (transitive counts j k j b c)
+  not_both : (j k : ℕ) → Before counts j k → Before counts k j → ⊥
+  not_both j k b c = irreflexive counts j (transitive counts j k j b c)
 
   -- so two such lists agree at place i, and at all places
   module _ (l m : List ℕ) (wl : Worst counts l) (wm : Worst counts m) where
@@ -69,18 +69,18 @@ module _ (counts : Counts) where
 
         go : Dec (place_of l i < 64) → Dec (place_of m i < 64) → place_of l i ≡ place_of m i
         go (yes a) d =
-            let there = no-later l m wl wm i h agree a in
-            let back = no-later m l wm wl i h (λ j b. sym (agree j b)) there.0 in
-            ⊎_elim (λ e. e) (λ differ. absurd (not-both _ _ (there.1 differ) (back.1 (λ e. differ (sym e))))) (same_or_not (place_of l i) (place_of m i))
-        go (no f) (yes b) = absurd (f (no-later m l wm wl i h (λ j b. sym (agree j b)) b).0)
+            let there = no_later l m wl wm i h agree a in
+            let back = no_later m l wm wl i h (λ j b. sym (agree j b)) there.0 in
+            ⊎_elim (λ e. e) (λ differ. absurd (not_both _ _ (there.1 differ) (back.1 (λ e. differ (sym e))))) (same_or_not (place_of l i) (place_of m i))
+        go (no f) (yes b) = absurd (f (no_later m l wm wl i h (λ j b. sym (agree j b)) b).0)
         go (no f) (no g) = empty l wl f ∙ sym (empty m wm g)
 
-    agree-below : (n : ℕ) → n ≤ 8 → (j : ℕ) → j < n → place_of l j ≡ place_of m j
-    agree-below zero h j b = absurd (not-suc-le-zero b)
-    agree-below (suc n) h j b = below_more _ n (agree-below n (omega arith)) (agree_at n (omega arith) (agree-below n (omega arith))) j (omega arith)
+    agree_below : (n : ℕ) → n ≤ 8 → (j : ℕ) → j < n → place_of l j ≡ place_of m j
+    agree_below zero h j b = absurd (not-suc-le-zero b)
+    agree_below (suc n) h j b = below_more _ n (agree_below n (omega arith)) (agree_at n (omega arith) (agree_below n (omega arith))) j (omega arith)
 
-    worst-one : l ≡ m
-    worst-one = ext_get_or 64 l m (wl.eight ∙ sym wm.eight) (λ i b. agree-below 8 (le_refl 8) i (omega (arith, wl.eight)))
+    worst_one : l ≡ m
+    worst_one = ext_get_or 64 l m (wl.eight ∙ sym wm.eight) (λ i b. agree_below 8 (le_refl 8) i (omega (arith, wl.eight)))
 
-  pub worst-only : (list : List ℕ) → Worst counts list → list ≡ worstWords counts
-  worst-only list w = worst-one list (worstWords counts) w (worst-list counts)
+  pub worst_only : (list : List ℕ) → Worst counts list → list ≡ worst_words counts
+  worst_only list w = worst_one list (worst_words counts) w (worst_list counts)

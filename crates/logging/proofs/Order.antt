@@ -10,67 +10,67 @@ use native.Mathlib.Omega.{arith}
 use borrow.Author.Tests.{ltb-true, lt-ltb, le-ltb, eq-eqb, ne_eqb}
 use lib.Dec.{ltb}
 use lib.ListN.{get_or}
-use Rattle.logging.specs.WorstList.{Counts, countIn, count_of, data_of, isBefore}
+use Rattle.logging.specs.WorstList.{Counts, count_in, count_of, data_of, is_before}
 use Rattle.logging.specs.Laws.{Before, PutFirst}
 
 -- ---- counts
 
-pub count-inside : (list : List ℕ) (k x : ℕ) → k < 64 → x ≡ get_or list k 0 → x ≡ countIn list k
-unfolding countIn
-count-inside list k x h e = rw (lt-ltb k 64 h, e)
+pub count_inside : (list : List ℕ) (k x : ℕ) → k < 64 → x ≡ get_or list k 0 → x ≡ count_in list k
+unfolding count_in
+count_inside list k x h e = rw (lt-ltb k 64 h, e)
 
-pub count-outside : (list : List ℕ) (k : ℕ) → 64 ≤ k → 0 ≡ countIn list k
-unfolding countIn
-count-outside list k h = rw (le-ltb k 64 h)
+pub count_outside : (list : List ℕ) (k : ℕ) → 64 ≤ k → 0 ≡ count_in list k
+unfolding count_in
+count_outside list k h = rw (le-ltb k 64 h)
 
-pub count-together : (counts : Counts) (k x y : ℕ) → x ≡ countIn counts.0 k → y ≡ countIn counts.1 k → x + y ≡ count_of counts k
+pub count_together : (counts : Counts) (k x y : ℕ) → x ≡ count_in counts.0 k → y ≡ count_in counts.1 k → x + y ≡ count_of counts k
 unfolding count_of
-count-together counts k x y ex ey = rw (ex, ey)
+count_together counts k x y ex ey = rw (ex, ey)
 
 -- an empty place has none
-pub none-outside : (counts : Counts) (k : ℕ) → 64 ≤ k → 0 ≡ count_of counts k
-none-outside counts k h = count-together counts k 0 0 (count-outside counts.0 k h) (count-outside counts.1 k h)
+pub none_outside : (counts : Counts) (k : ℕ) → 64 ≤ k → 0 ≡ count_of counts k
+none_outside counts k h = count_together counts k 0 0 (count_outside counts.0 k h) (count_outside counts.1 k h)
 
 -- ---- each way through the function
 
 module _ (counts : Counts) (j k x y : ℕ) (ex : x ≡ count_of counts j) (ey : y ≡ count_of counts k) where
-  pub before-count : (x ≡ y → ⊥) → ltb y x ≡ isBefore counts j k
-  unfolding isBefore
-  before-count n = rw (← ex, ← ey, ne_eqb x y n) (sym (or-false (ltb y x)))
+  pub before_count : (x ≡ y → ⊥) → ltb y x ≡ is_before counts j k
+  unfolding is_before
+  before_count n = rw (← ex, ← ey, ne_eqb x y n) (sym (or-false (ltb y x)))
 
   module _ (u v : ℕ) (eu : u ≡ data_of counts j) (ev : v ≡ data_of counts k) (equal : x ≡ y) where
-    pub before-data : (u ≡ v → ⊥) → ltb v u ≡ isBefore counts j k
-    unfolding isBefore
-    before-data n = rw (← ex, ← ey, le-ltb y x (omega arith), eq-eqb x y equal, ← eu, ← ev, ne_eqb u v n) (sym (or-false (ltb v u)))
+    pub before_data : (u ≡ v → ⊥) → ltb v u ≡ is_before counts j k
+    unfolding is_before
+    before_data n = rw (← ex, ← ey, le-ltb y x (omega arith), eq-eqb x y equal, ← eu, ← ev, ne_eqb u v n) (sym (or-false (ltb v u)))
 
-    pub before-number : u ≡ v → ltb k j ≡ isBefore counts j k
-    unfolding isBefore
-    before-number e = rw (← ex, ← ey, le-ltb y x (omega arith), eq-eqb x y equal, ← eu, ← ev, le-ltb v u (omega arith), eq-eqb u v e)
+    pub before_number : u ≡ v → ltb k j ≡ is_before counts j k
+    unfolding is_before
+    before_number e = rw (← ex, ← ey, le-ltb y x (omega arith), eq-eqb x y equal, ← eu, ← ev, le-ltb v u (omega arith), eq-eqb u v e)
 
 -- ---- document 02's words
 
 module _ (counts : Counts) (j k : ℕ) where
-  before-says : Before counts j k → PutFirst counts j k
-  before-says b = go (ℕ_discrete (count_of counts j) (count_of counts k)) (ℕ_discrete (data_of counts j) (data_of counts k))
+  before_says : Before counts j k → PutFirst counts j k
+  before_says b = go (ℕ_discrete (count_of counts j) (count_of counts k)) (ℕ_discrete (data_of counts j) (data_of counts k))
     where
       go : Dec (count_of counts j ≡ count_of counts k) → Dec (data_of counts j ≡ data_of counts k) → PutFirst counts j k
-      go (no n) d = inl (ltb-true _ _ (before-count counts j k _ _ refl refl n ∙ b))
-      go (yes e) (no n) = inr (e, inl (ltb-true _ _ (before-data counts j k _ _ refl refl _ _ refl refl e n ∙ b)))
-      go (yes e) (yes d) = inr (e, inr (d, ltb-true k j (before-number counts j k _ _ refl refl _ _ refl refl e d ∙ b)))
+      go (no n) d = inl (ltb-true _ _ (before_count counts j k _ _ refl refl n ∙ b))
+      go (yes e) (no n) = inr (e, inl (ltb-true _ _ (before_data counts j k _ _ refl refl _ _ refl refl e n ∙ b)))
+      go (yes e) (yes d) = inr (e, inr (d, ltb-true k j (before_number counts j k _ _ refl refl _ _ refl refl e d ∙ b)))
 
-  says-before : PutFirst counts j k → Before counts j k
-  says-before (inl larger) = sym (before-count counts j k _ _ refl refl (λ e. omega arith)) ∙ lt-ltb _ _ larger
-  says-before (inr (e, inl more)) = sym (before-data counts j k _ _ refl refl _ _ refl refl e (λ d. omega arith)) ∙ lt-ltb _ _ more
-  says-before (inr (e, inr (d, higher))) = sym (before-number counts j k _ _ refl refl _ _ refl refl e d) ∙ lt-ltb k j higher
+  says_before : PutFirst counts j k → Before counts j k
+  says_before (inl larger) = sym (before_count counts j k _ _ refl refl (λ e. omega arith)) ∙ lt-ltb _ _ larger
+  says_before (inr (e, inl more)) = sym (before_data counts j k _ _ refl refl _ _ refl refl e (λ d. omega arith)) ∙ lt-ltb _ _ more
+  says_before (inr (e, inr (d, higher))) = sym (before_number counts j k _ _ refl refl _ _ refl refl e d) ∙ lt-ltb k j higher
 
   pub in_words : (Before counts j k → PutFirst counts j k) × (PutFirst counts j k → Before counts j k)
-  in_words = (before-says, says-before)
+  in_words = (before_says, says_before)
 
 -- ---- a strict total order
 
 module _ (counts : Counts) where
   pub irreflexive : (k : ℕ) → Before counts k k → ⊥
-  irreflexive k b = go (before-says counts k k b)
+  irreflexive k b = go (before_says counts k k b)
     where
       go : PutFirst counts k k → ⊥
       go (inl h) = omega arith
@@ -78,7 +78,7 @@ module _ (counts : Counts) where
       go (inr (e, inr (d, h))) = omega arith
 
   pub transitive : (i j k : ℕ) → Before counts i j → Before counts j k → Before counts i k
-  transitive i j k b c = says-before counts i k (go (before-says counts i j b) (before-says counts j k c))
+  transitive i j k b c = says_before counts i k (go (before_says counts i j b) (before_says counts j k c))
     where
       go : PutFirst counts i j → PutFirst counts j k → PutFirst counts i k
       go (inl g) (inl h) = inl (omega arith)
@@ -96,10 +96,10 @@ module _ (counts : Counts) where
     where
       -- j stands before k, or k before j
       first : PutFirst counts j k → Before counts j k ⊎ Before counts k j
-      first p = inl (says-before counts j k p)
+      first p = inl (says_before counts j k p)
 
       second : PutFirst counts k j → Before counts j k ⊎ Before counts k j
-      second p = inr (says-before counts k j p)
+      second p = inr (says_before counts k j p)
 
       go : Dec (count_of counts j ≡ count_of counts k) → Dec (data_of counts j ≡ data_of counts k) → Dec (count_of counts k < count_of counts j) →
           Dec (data_of counts k < data_of counts j) → Dec (k < j) → Before counts j k ⊎ Before counts k j

@@ -7,7 +7,7 @@ use native.Mathlib.Omega.{arith}
 use lib.Dec.{eqb}
 use Rattle.frames.specs.declared.Report.{Report}
 use Rattle.logging.specs.declared.Counters.{Counters}
-use Rattle.logging.specs.Counting.{framesOf, uncorrectableOf, correctedBitsOf, limited, cleared, counted, Call, clear, count, after, since, sumOver, totals}
+use Rattle.logging.specs.Counting.{frames_of, uncorrectable_of, corrected_bits_of, limited, cleared, counted, Call, clear, count, after, since, sum_over_lem, totals}
 
 -- ---- what one call gives
 
@@ -18,26 +18,26 @@ clearing = refl
 pub counting : (c : Counters) (r : Report) (f u b x y z : ℕ) → x ≡ cond (eqb r.refusal 0) 1 0 → y ≡ cond (eqb r.refusal 5) 1 0 →
     z ≡ cond (eqb r.refusal 0) r.sum 0 → f ≡ limited (c.frames + x) → u ≡ limited (c.uncorrectable + y) → b ≡ limited (c.bits + z) →
     record { frames = f; uncorrectable = u; bits = b } ≡ counted c r
-unfolding counted framesOf uncorrectableOf correctedBitsOf
+unfolding counted frames_of uncorrectable_of corrected_bits_of
 counting c r f u b x y z ex ey ez ef eu eb = rw (ef, eu, eb, ex, ey, ez)
 
 -- ---- every sequence of calls
 
 -- a number that stops is the limit of the whole sum, wherever it stopped on the way
-next : (f : Report → ℕ) (answers : List Report) (r : Report) → limited (limited (sumOver f answers) + f r) ≡ limited (sumOver f (r ∷ answers))
-unfolding sumOver
+next : (f : Report → ℕ) (answers : List Report) (r : Report) → limited (limited (sum_over_lem f answers) + f r) ≡ limited (sum_over_lem f (r ∷ answers))
+unfolding sum_over_lem
 next f answers r = omega arith
 
-counted-totals : (answers : List Report) (r : Report) → counted (totals answers) r ≡ totals (r ∷ answers)
+counted_totals : (answers : List Report) (r : Report) → counted (totals answers) r ≡ totals (r ∷ answers)
 unfolding counted totals
-counted-totals answers r = rw (next framesOf answers r, next uncorrectableOf answers r, next correctedBitsOf answers r)
+counted_totals answers r = rw (next frames_of answers r, next uncorrectable_of answers r, next corrected_bits_of answers r)
 
-cleared-totals : cleared ≡ totals []
-unfolding cleared totals sumOver
-cleared-totals = refl
+cleared_totals : cleared ≡ totals []
+unfolding cleared totals sum_over_lem
+cleared_totals = refl
 
-pub since-clearing : (calls : List (Call Report)) → after calls ≡ totals (since calls)
+pub since_clearing : (calls : List (Call Report)) → after calls ≡ totals (since calls)
 unfolding after since
-since-clearing [] = cleared-totals
-since-clearing (clear ∷ earlier) = cleared-totals
-since-clearing (count r ∷ earlier) = rw (since-clearing earlier) (counted-totals (since earlier) r)
+since_clearing [] = cleared_totals
+since_clearing (clear ∷ earlier) = cleared_totals
+since_clearing (count r ∷ earlier) = rw (since_clearing earlier) (counted_totals (since earlier) r)

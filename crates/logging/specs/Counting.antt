@@ -4,14 +4,14 @@ use Rattle.frames.specs.declared.Report.{Report}
 use Rattle.logging.specs.declared.Counters.{Counters}
 
 -- what an answer adds to each number: a corrected block one frame and its report's sum of bits, a refusal 5 one uncorrectable block, any other nothing
-unfoldable pub framesOf : Report → ℕ
-framesOf r = cond (eqb r.refusal 0) 1 0
+unfoldable pub frames_of : Report → ℕ
+frames_of r = cond (eqb r.refusal 0) 1 0
 
-unfoldable pub uncorrectableOf : Report → ℕ
-uncorrectableOf r = cond (eqb r.refusal 5) 1 0
+unfoldable pub uncorrectable_of : Report → ℕ
+uncorrectable_of r = cond (eqb r.refusal 5) 1 0
 
-unfoldable pub correctedBitsOf : Report → ℕ
-correctedBitsOf r = cond (eqb r.refusal 0) r.sum 0
+unfoldable pub corrected_bits_of : Report → ℕ
+corrected_bits_of r = cond (eqb r.refusal 0) r.sum 0
 
 -- a sum, or the largest 32-bit number if that is less
 abbrev pub limited : ℕ → ℕ
@@ -24,9 +24,9 @@ cleared = record { frames = 0; uncorrectable = 0; bits = 0 }
 unfoldable pub counted : Counters → Report → Counters
 counted c r =
     record {
-      frames = limited (c.frames + framesOf r);
-      uncorrectable = limited (c.uncorrectable + uncorrectableOf r);
-      bits = limited (c.bits + correctedBitsOf r);
+      frames = limited (c.frames + frames_of r);
+      uncorrectable = limited (c.uncorrectable + uncorrectable_of r);
+      bits = limited (c.bits + corrected_bits_of r);
     }
 
 -- ---- every sequence of calls
@@ -48,14 +48,14 @@ since (clear ∷ earlier) = []
 since (count a ∷ earlier) = a ∷ since earlier
 
 -- what answers add up to, and the counters that show it
-unfoldable pub sumOver : {A : Type 0} → (A → ℕ) → List A → ℕ
-sumOver f [] = 0
-sumOver f (a ∷ rest) = f a + sumOver f rest
+unfoldable pub sum_over_lem : {A : Type 0} → (A → ℕ) → List A → ℕ
+sum_over_lem f [] = 0
+sum_over_lem f (a ∷ rest) = f a + sum_over_lem f rest
 
 unfoldable pub totals : List Report → Counters
 totals answers =
     record {
-      frames = limited (sumOver framesOf answers);
-      uncorrectable = limited (sumOver uncorrectableOf answers);
-      bits = limited (sumOver correctedBitsOf answers);
+      frames = limited (sum_over_lem frames_of answers);
+      uncorrectable = limited (sum_over_lem uncorrectable_of answers);
+      bits = limited (sum_over_lem corrected_bits_of answers);
     }

@@ -1,9 +1,9 @@
 -- What is proved of counters and worst list: `logging` of proofs/Proved.antt is the proof.
 use Rattle.std.specs.Prelude.{◌≡◌, ◌⊎◌, true, cond, List, map, ℕ, ◌<◌, eqb, length, get_or}
-use Rattle.frames.specs.Answers.{frameCorrected}
+use Rattle.frames.specs.Answers.{frame_corrected}
 use Rattle.frames.specs.declared.Report.{Report}
-use Rattle.logging.specs.Counting.{limited, Call, clear, count, after, since, sumOver, totals}
-use Rattle.logging.specs.WorstList.{Counts, count_of, data_of, isBefore, worstWords}
+use Rattle.logging.specs.Counting.{limited, Call, clear, count, after, since, sum_over_lem, totals}
+use Rattle.logging.specs.WorstList.{Counts, count_of, data_of, is_before, worst_words}
 
 -- ---- counters
 
@@ -13,14 +13,14 @@ pub record CorrectorCall : Type 0 where
   pub buffer : List ℕ
   pub report : Report
   pub out : List ℕ
-  pub promised : (report.refusal, report.«data», report.parity, report.sum, out) ≡ frameCorrected block buffer
+  pub promised : (report.refusal, report.«data», report.parity, report.sum, out) ≡ frame_corrected block buffer
 
 -- the number and the sum that are promised
-abbrev pub numberPromised : CorrectorCall → ℕ
-numberPromised c = (frameCorrected c.block c.buffer).0
+abbrev pub number_promised : CorrectorCall → ℕ
+number_promised c = (frame_corrected c.block c.buffer).0
 
-abbrev pub sumPromised : CorrectorCall → ℕ
-sumPromised c = (frameCorrected c.block c.buffer).3
+abbrev pub sum_promised : CorrectorCall → ℕ
+sum_promised c = (frame_corrected c.block c.buffer).3
 
 -- what the counters are given: a clearing, or the report of the corrector's call
 abbrev pub given : Call CorrectorCall → Call Report
@@ -29,21 +29,21 @@ given (count c) = count c.report
 
 pub record CounterLaws : Type 0 where
   -- after any calls, each number is the sum over the answers since the last clearing, or 4,294,967,295 if that is less
-  pub since-clearing : (calls : List (Call Report)) → after calls ≡ totals (since calls)
+  pub since_clearing : (calls : List (Call Report)) → after calls ≡ totals (since calls)
   -- where the answers are the corrector's, these are its corrected blocks since the last clearing, its refusals 5, and the bits of its corrected blocks
   pub corrections : (calls : List (Call CorrectorCall)) →
       after (map given calls)
       ≡ record {
-        frames = limited (sumOver (λ c. cond (eqb (numberPromised c) 0) 1 0) (since calls));
-        uncorrectable = limited (sumOver (λ c. cond (eqb (numberPromised c) 5) 1 0) (since calls));
-        bits = limited (sumOver (λ c. cond (eqb (numberPromised c) 0) (sumPromised c) 0) (since calls));
+        frames = limited (sum_over_lem (λ c. cond (eqb (number_promised c) 0) 1 0) (since calls));
+        uncorrectable = limited (sum_over_lem (λ c. cond (eqb (number_promised c) 5) 1 0) (since calls));
+        bits = limited (sum_over_lem (λ c. cond (eqb (number_promised c) 0) (sum_promised c) 0) (since calls));
       }
 
 -- ---- worst list
 
 -- inner word j stands before inner word k
 abbrev pub Before : Counts → ℕ → ℕ → Type 0
-Before counts j k = isBefore counts j k ≡ true
+Before counts j k = is_before counts j k ≡ true
 
 -- document 02, A.2, puts inner word j before inner word k: its count is larger; or the counts are equal, and it has more at data places; or both are equal, and
 -- its number is higher
@@ -78,9 +78,9 @@ pub record WorstLaws : Type 0 where
   pub transitive : (counts : Counts) (i j k : ℕ) → Before counts i j → Before counts j k → Before counts i k
   pub comparable : (counts : Counts) (j k : ℕ) → (j ≡ k → ⊥) → Before counts j k ⊎ Before counts k j
   -- the list is what the two documents ask for
-  pub worst : (counts : Counts) → Worst counts (worstWords counts)
+  pub worst : (counts : Counts) → Worst counts (worst_words counts)
   -- and there is no other such list
-  pub only : (counts : Counts) (list : List ℕ) → Worst counts list → list ≡ worstWords counts
+  pub only : (counts : Counts) (list : List ℕ) → Worst counts list → list ≡ worst_words counts
 
 pub record Logging : Type 0 where
   pub counters : CounterLaws

@@ -4,7 +4,7 @@
 //     worst list   the first inner word in the order of the list, then the first of the others, up to eight
 ghost use Rattle.std.specs.Prelude.{◌≡◌, cond, ◌+◌, ◌≤◌, eqb};
 ghost use Rattle.logging.specs.Counting.{limited, cleared, counted};
-ghost use Rattle.logging.specs.WorstList.{countIn, count_of, isBefore, isOpen, earlier, firstOpen, worstWords};
+ghost use Rattle.logging.specs.WorstList.{count_in, count_of, is_before, is_open, earlier, first_open, worst_words};
 
 use frames::{Frame, Report};
 
@@ -88,7 +88,7 @@ fn wide(n: u16) -> u32
 
 // What one list of counts has for inner word k; an empty place has none.
 fn count_in(list: &[u16; Frame::INNER_WORDS], k: usize) -> u32
-    ensures { (result ≡ countIn list.now k) × (result ≤ 65535) }
+    ensures { (result ≡ count_in list.now k) × (result ≤ 65535) }
 {
     if k < Frame::INNER_WORDS {
         wide(list[k])
@@ -112,7 +112,7 @@ fn is_before(
     j: usize,
     k: usize,
 ) -> bool
-    ensures { result ≡ isBefore («data».now, parity.now) j k }
+    ensures { result ≡ is_before («data».now, parity.now) j k }
 {
     let of_j = count(data, parity, j);
     let of_k = count(data, parity, k);
@@ -134,7 +134,7 @@ fn is_open(
     listed: &[bool; MARKS],
     k: usize,
 ) -> bool
-    ensures { result ≡ isOpen («data».now, parity.now) listed.now k }
+    ensures { result ≡ is_open («data».now, parity.now) listed.now k }
 {
     if Frame::INNER_WORDS <= k {
         return false;
@@ -173,7 +173,7 @@ fn first_open(
     parity: &[u16; Frame::INNER_WORDS],
     listed: &[bool; MARKS],
 ) -> usize
-    ensures { (result ≤ 64) × (result ≡ firstOpen («data».now, parity.now) listed.now 64) }
+    ensures { (result ≤ 64) × (result ≡ first_open («data».now, parity.now) listed.now 64) }
 {
     let mut j = EMPTY;
     let mut k: usize = 0;
@@ -186,7 +186,7 @@ fn first_open(
 
 // The inner words of a report with a count above 0, the first eight in the order of the list ("worst list"); empty places hold 64.
 pub fn worst_words(report: Report) -> [u8; LISTED]
-    ensures { result ≡ worstWords (report.«data», report.parity) }
+    ensures { result ≡ worst_words (report.«data», report.parity) }
 {
     let data = report.data;
     let parity = report.parity;

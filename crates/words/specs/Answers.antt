@@ -1,14 +1,14 @@
 -- What the entries answer: a refusal's number, or 0, and the output buffer ("lent space").
 use Rattle.std.specs.Prelude.{Bool, true, ◌&&◌, cond, List, ℕ, eqb, leb, length}
 use Rattle.std.proofs.Math.Option.{Option, none, some}
-use Rattle.fields.specs.Places.{at, all_below, apartBetween, apart}
+use Rattle.fields.specs.Places.{at, all_below, apart_between, apart}
 use Rattle.words.specs.declared.Correction.{Correction}
 use Rattle.words.specs.declared.Correction.TheVariants.{Corrected, Refused}
 use Rattle.words.specs.declared.InnerCorrection.{InnerCorrection}
 use Rattle.words.specs.declared.InnerCorrection.TheVariants as Inner
 use Rattle.words.specs.Bits.{bits_of, bytes_of}
-use Rattle.words.specs.OuterCode.{isOuter, outerParity}
-use Rattle.words.specs.InnerCode.{isInner, innerParity}
+use Rattle.words.specs.OuterCode.{is_outer, outer_parity}
+use Rattle.words.specs.InnerCode.{is_inner, inner_parity}
 use Rattle.words.specs.Nearest.{nearest}
 
 -- the number n unless the test holds; else what follows
@@ -32,40 +32,40 @@ unfoldable pub first_of : ℕ → ℕ → ℕ
 first_of n next = cond (eqb n 0) next n
 
 -- outer words have 17 to 1,023 symbols, their data 1 to 1,007; 4: no code word
-unfoldable pub outerChecked : List ℕ → ℕ
-outerChecked w = first_of (refusal (within 17 1023 (length w)) true (all_below 1024 w)) (unless (isOuter w) 4 0)
+unfoldable pub outer_checked : List ℕ → ℕ
+outer_checked w = first_of (refusal (within 17 1023 (length w)) true (all_below 1024 w)) (unless (is_outer w) 4 0)
 
-unfoldable pub outerEncoded : List ℕ → List ℕ → ℕ × List ℕ
-outerEncoded d buffer = answered (refusal (within 1 1007 (length d)) (eqb (length buffer) 16) (all_below 1024 d)) (outerParity d) buffer
+unfoldable pub outer_encoded : List ℕ → List ℕ → ℕ × List ℕ
+outer_encoded d buffer = answered (refusal (within 1 1007 (length d)) (eqb (length buffer) 16) (all_below 1024 d)) (outer_parity d) buffer
 
 -- inner words have 255 bytes, their data 244, their parity 11
-unfoldable pub innerChecked : List ℕ → ℕ
-innerChecked w = first_of (refusal (eqb (length w) 255) true true) (unless (isInner (bits_of w)) 4 0)
+unfoldable pub inner_checked : List ℕ → ℕ
+inner_checked w = first_of (refusal (eqb (length w) 255) true true) (unless (is_inner (bits_of w)) 4 0)
 
-unfoldable pub innerEncoded : List ℕ → List ℕ → ℕ × List ℕ
-innerEncoded d buffer = answered (refusal (eqb (length d) 244) (eqb (length buffer) 11) true) (bytes_of 11 (at (innerParity (bits_of d)))) buffer
+unfoldable pub inner_encoded : List ℕ → List ℕ → ℕ × List ℕ
+inner_encoded d buffer = answered (refusal (eqb (length d) 244) (eqb (length buffer) 11) true) (bytes_of 11 (at (inner_parity (bits_of d)))) buffer
 
 -- document 01's numbers for each case of a correction's answer: 0 or the refusal's number, and how many symbols of an outer word were changed
-abbrev pub refusalOf : Correction → ℕ
-refusalOf (Corrected changed) = 0
-refusalOf (Refused number) = number
+abbrev pub refusal_of : Correction → ℕ
+refusal_of (Corrected changed) = 0
+refusal_of (Refused number) = number
 
-abbrev pub changedOf : Correction → ℕ
-changedOf (Corrected changed) = changed
-changedOf (Refused number) = 0
+abbrev pub changed_of : Correction → ℕ
+changed_of (Corrected changed) = changed
+changed_of (Refused number) = 0
 
 -- the same of an inner word, where changed data places and changed parity places are counted apart
-abbrev pub innerRefusalOf : InnerCorrection → ℕ
-innerRefusalOf (Inner.Corrected d p) = 0
-innerRefusalOf (Inner.Refused number) = number
+abbrev pub inner_refusal_of : InnerCorrection → ℕ
+inner_refusal_of (Inner.Corrected d p) = 0
+inner_refusal_of (Inner.Refused number) = number
 
-abbrev pub dataChangedOf : InnerCorrection → ℕ
-dataChangedOf (Inner.Corrected d p) = d
-dataChangedOf (Inner.Refused number) = 0
+abbrev pub data_changed_of : InnerCorrection → ℕ
+data_changed_of (Inner.Corrected d p) = d
+data_changed_of (Inner.Refused number) = 0
 
-abbrev pub parityChangedOf : InnerCorrection → ℕ
-parityChangedOf (Inner.Corrected d p) = p
-parityChangedOf (Inner.Refused number) = 0
+abbrev pub parity_changed_of : InnerCorrection → ℕ
+parity_changed_of (Inner.Corrected d p) = p
+parity_changed_of (Inner.Refused number) = 0
 
 -- the answer, and the buffer: the code word that was found, with its changes; or refusal 5, none within the radius ("beyond reach")
 unfoldable pub found : {A : Type 0} → (ℕ → A) → (List ℕ → A) → (List ℕ → List ℕ) → List ℕ → Option (List ℕ) → A × List ℕ
@@ -77,17 +77,17 @@ unfoldable pub corrected : {A : Type 0} → (ℕ → A) → ℕ → List ℕ →
 corrected refused n buffer answer = cond (eqb n 0) answer (refused n, buffer)
 
 -- the outer code word within eight symbols
-unfoldable pub outerCorrected : List ℕ → List ℕ → Correction × List ℕ
-outerCorrected w buffer =
+unfoldable pub outer_corrected : List ℕ → List ℕ → Correction × List ℕ
+outer_corrected w buffer =
     corrected Refused (refusal (within 17 1023 (length w)) (eqb (length buffer) (length w)) (all_below 1024 w)) buffer
-    (found Refused (λ c. Corrected (apart w c)) (λ c. c) buffer (nearest isOuter 1024 8 w))
+    (found Refused (λ c. Corrected (apart w c)) (λ c. c) buffer (nearest is_outer 1024 8 w))
 
 -- the changes of an inner word: at places below 1,952, the data places, and from there on, the parity places
-unfoldable pub innerChanges : List ℕ → List ℕ → InnerCorrection
-innerChanges w c = Inner.Corrected (apartBetween 0 1952 w c) (apartBetween 1952 2040 w c)
+unfoldable pub inner_changes : List ℕ → List ℕ → InnerCorrection
+inner_changes w c = Inner.Corrected (apart_between 0 1952 w c) (apart_between 1952 2040 w c)
 
 -- the inner code word within eight places
-unfoldable pub innerCorrected : List ℕ → List ℕ → InnerCorrection × List ℕ
-innerCorrected w buffer =
+unfoldable pub inner_corrected : List ℕ → List ℕ → InnerCorrection × List ℕ
+inner_corrected w buffer =
     corrected Inner.Refused (refusal (eqb (length w) 255) (eqb (length buffer) 255) true) buffer
-    (found Inner.Refused (innerChanges (bits_of w)) (λ c. bytes_of 255 (at c)) buffer (nearest isInner 2 8 (bits_of w)))
+    (found Inner.Refused (inner_changes (bits_of w)) (λ c. bytes_of 255 (at c)) buffer (nearest is_inner 2 8 (bits_of w)))

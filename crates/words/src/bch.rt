@@ -1,13 +1,13 @@
 // Inner words: binary polynomials, the divisor that the eight factors make, the remainder of a word after division by it, and correction: the values of the
 // remainder give the wrong places (module wrong_places), which are inverted.
 ghost use Rattle.std.specs.Prelude.{◌≡◌, ◌*◌, ◌/◌, ◌%◌, ◌+◌, ◌^◌, ◌≤◌, ◌<◌, length, eqb};
-ghost use Rattle.fields.specs.Elements.{xor, scale, doubled, powersB, exponentsB};
+ghost use Rattle.fields.specs.Elements.{xor, scale, doubled, powers_b, exponents_b};
 ghost use Rattle.fields.specs.Places.{at};
-ghost use Rattle.decoding.specs.Steps.Decoder.{withErrors};
+ghost use Rattle.decoding.specs.Steps.Decoder.{with_errors};
 ghost use Rattle.words.specs.Bits.{bit_at, bits_of, number_of, bit_of, bytes_of};
 ghost use Rattle.words.specs.InnerCode.{value_of, factors, divisor, remainder};
 ghost use Rattle.words.specs.Steps.Limbs.{number, Represents, residue, Residues};
-ghost use Rattle.words.specs.Steps.InnerDecoding.{oddSyndromes, plusTerm, flips, InnerErrors};
+ghost use Rattle.words.specs.Steps.InnerDecoding.{odd_syndromes, plus_term, flips, InnerErrors};
 
 use crate::wrong_places::OddSyndromes;
 use crate::{Inner, wrong_places};
@@ -251,7 +251,7 @@ fn coefficient(v: Polynomial, k: usize) -> u16
 // The values w with those of the term c z^i added. A product by the bit c, not a branch on it: coefficients cannot be predicted.
 fn plus_term(exp: &[u16], w: OddSyndromes, c: u16, i: usize) -> OddSyndromes
     requires { (c < 2) × (i < 88) }
-    ensures { result.at ≡ plusTerm exp.now w.at c i }
+    ensures { result.at ≡ plus_term exp.now w.at c i }
 {
     let mut at = [0u16; Inner::RADIUS];
     let mut j: usize = 0;
@@ -266,7 +266,7 @@ fn plus_term(exp: &[u16], w: OddSyndromes, c: u16, i: usize) -> OddSyndromes
 // The values of v, of degree below 88: at a^e the sum of a^(e i) over its coefficients i that are 1.
 fn odd_syndromes(exp: &[u16], v: Polynomial) -> OddSyndromes
     requires { v.low < 2 ^ 48 }
-    ensures { result.at ≡ oddSyndromes exp.now (number v.high v.low) }
+    ensures { result.at ≡ odd_syndromes exp.now (number v.high v.low) }
 {
     let mut w = OddSyndromes {
         at: [0u16; Inner::RADIUS],
@@ -281,7 +281,7 @@ fn odd_syndromes(exp: &[u16], v: Polynomial) -> OddSyndromes
 
 // The errors in a word: the values of its remainder are those of the word.
 pub(crate) fn errors(exp: &[u16], log: &[u16], word: &[u8]) -> Errors
-    requires { (exp.now ≡ powersB) × (log.now ≡ exponentsB) }
+    requires { (exp.now ≡ powers_b) × (log.now ≡ exponents_b) }
     ensures { InnerErrors word.now result.places.at result.values result.places.count result.left }
 {
     let odd = odd_syndromes(exp, remainder(divisor(), word));
@@ -291,7 +291,7 @@ pub(crate) fn errors(exp: &[u16], log: &[u16], word: &[u8]) -> Errors
 // Writes the word with the wrong places inverted.
 pub(crate) fn correct(word: &[u8], e: Errors, out: &mut [u8])
     requires { (length out.old ≡ length word.now) × (e.places.count ≤ 8) }
-    ensures { bits_of out.new ≡ withErrors (bit_at word.now) e.places.at (flips e.values) e.places.count (8 * length word.now) }
+    ensures { bits_of out.new ≡ with_errors (bit_at word.now) e.places.at (flips e.values) e.places.count (8 * length word.now) }
 {
     symbols::copy_bytes(word, out);
     wrong_places::invert(e, 1, 0, out);

@@ -2,9 +2,9 @@
 // `correct_from` is for the crates above too.
 ghost use Rattle.std.specs.Prelude.{◌≡◌, true, ◌≤◌, length};
 ghost use Rattle.fields.specs.Places.{at, all_below};
-ghost use Rattle.decoding.specs.Steps.Decoder.{withError, withErrors};
-ghost use Rattle.words.specs.Answers.{outerCorrected};
-ghost use Rattle.words.specs.Steps.Division.{outerRemainder};
+ghost use Rattle.decoding.specs.Steps.Decoder.{with_error, with_errors};
+ghost use Rattle.words.specs.Answers.{outer_corrected};
+ghost use Rattle.words.specs.Steps.Division.{outer_remainder};
 ghost use Rattle.words.specs.Steps.SixSymbols.{Packs};
 
 use crate::packed::Packed;
@@ -14,7 +14,7 @@ use decoding::symbols;
 
 // Adds v to the symbol at place i; a place past the end changes nothing.
 fn add(out: &mut [u16], i: usize, v: u16)
-    ensures { out.new ≡ withError out.old i v }
+    ensures { out.new ≡ with_error out.old i v }
 {
     if i < out.len() {
         out[i] = symbols::sum(out[i], v);
@@ -24,7 +24,7 @@ fn add(out: &mut [u16], i: usize, v: u16)
 // Writes the word with the errors' values added.
 fn correct(word: &[u16], e: Errors, out: &mut [u16])
     requires { (length out.old ≡ length word.now) × (e.places.count ≤ 8) }
-    ensures { out.new ≡ withErrors (at word.now) e.places.at e.values e.places.count (length word.now) }
+    ensures { out.new ≡ with_errors (at word.now) e.places.at e.values e.places.count (length word.now) }
 {
     symbols::copy(word, out);
     let places = e.places;
@@ -38,8 +38,8 @@ fn correct(word: &[u16], e: Errors, out: &mut [u16])
 // Writes the code word within eight symbols of a word that no entry refuses, whose remainder is `rest`; 5.
 pub fn correct_from(rest: Packed, word: &[u16], out: &mut [u16]) -> Correction
     requires in_bounds { (17 ≤ length word.now) × (length word.now ≤ 1023) × (all_below 1024 word.now ≡ true) × (length out.old ≡ length word.now) }
-    requires packs { Packs rest.high rest.middle rest.low (outerRemainder word.now) }
-    ensures { (result, out.new) ≡ outerCorrected word.now out.old }
+    requires packs { Packs rest.high rest.middle rest.low (outer_remainder word.now) }
+    ensures { (result, out.new) ≡ outer_corrected word.now out.old }
 {
     let exp = fields::exp_a();
     let log = fields::log_a();

@@ -2,7 +2,7 @@
 // made once, from the parities of the sixty single bits.
 ghost use Rattle.std.specs.Prelude.{◌≡◌, ◌+◌, ◌*◌, ◌^◌, ◌<◌, length};
 ghost use Rattle.fields.specs.Elements.{xor};
-ghost use Rattle.words.specs.Steps.SixSymbols.{parityEntry, digitParities, unitParities, Stored};
+ghost use Rattle.words.specs.Steps.SixSymbols.{parity_entry, digit_parities, unit_parities, Stored};
 
 // Six symbols have so many digits of six bits, and a digit has so many values: so many entries of the table for each digit.
 pub(crate) const DIGITS: usize = 10;
@@ -203,7 +203,7 @@ const UNITS: [u64; TABLE_DIGITS * DIGIT_BITS] = [
 ];
 
 fn units() -> [u64; TABLE_DIGITS * DIGIT_BITS]
-    ensures { result ≡ unitParities }
+    ensures { result ≡ unit_parities }
 {
     UNITS
 }
@@ -223,7 +223,7 @@ fn blank() -> [u64; ENTRIES]
 
 // Stores the entries of digit r of the table for the values whose highest bit is bit b: each is the entry without that bit, plus that of the bit alone.
 fn store_bit(unit: u64, r: usize, b: usize, table: &mut [u64])
-    requires { (r < 30) × (b < 6) × (unit ≡ parityEntry (64 * r + 2 ^ b)) × Stored (64 * r + 2 ^ b) table.old }
+    requires { (r < 30) × (b < 6) × (unit ≡ parity_entry (64 * r + 2 ^ b)) × Stored (64 * r + 2 ^ b) table.old }
     ensures { Stored (64 * r + 2 ^ (b + 1)) table.new }
 {
     let n: usize = 1 << b;
@@ -237,7 +237,7 @@ fn store_bit(unit: u64, r: usize, b: usize, table: &mut [u64])
 
 // Stores the entries of digit r.
 fn store_digit(units: &[u64], r: usize, table: &mut [u64])
-    requires { (r < 30) × (units.now ≡ unitParities) × Stored (64 * r) table.old }
+    requires { (r < 30) × (units.now ≡ unit_parities) × Stored (64 * r) table.old }
     ensures { Stored (64 * (r + 1)) table.new }
 {
     table[DIGIT_VALUES * r] = 0;
@@ -249,8 +249,8 @@ fn store_digit(units: &[u64], r: usize, table: &mut [u64])
 }
 
 fn fill(units: &[u64], table: &mut [u64])
-    requires { (units.now ≡ unitParities) × (length table.old ≡ 1920) }
-    ensures { table.new ≡ digitParities }
+    requires { (units.now ≡ unit_parities) × (length table.old ≡ 1920) }
+    ensures { table.new ≡ digit_parities }
 {
     let mut r: usize = 0;
     while r < TABLE_DIGITS {
@@ -261,7 +261,7 @@ fn fill(units: &[u64], table: &mut [u64])
 
 // The parities of the digits.
 pub fn table() -> [u64; ENTRIES]
-    ensures { result ≡ digitParities }
+    ensures { result ≡ digit_parities }
 {
     let units = units();
     let mut table = blank();

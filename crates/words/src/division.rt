@@ -2,10 +2,10 @@
 // of a low and a high digit of five bits, so a step adds sixteen symbols for each digit, from two tables that are made once, and multiplies nothing.
 ghost use Rattle.std.specs.Prelude.{◌≡◌, true, ◌≤◌, ◌<◌};
 ghost use Rattle.fields.specs.Lists.{tabulate};
-ghost use Rattle.fields.specs.Elements.{timesA};
+ghost use Rattle.fields.specs.Elements.{times_a};
 ghost use Rattle.fields.specs.Places.{at, all_below};
-ghost use Rattle.words.specs.ReedSolomon.{shiftedIn};
-ghost use Rattle.words.specs.OuterCode.{generator, outerParity};
+ghost use Rattle.words.specs.ReedSolomon.{shifted_in};
+ghost use Rattle.words.specs.OuterCode.{generator, outer_parity};
 ghost use Rattle.words.specs.Steps.Division.{multiples};
 
 use crate::{Outer, reed_solomon};
@@ -69,7 +69,7 @@ impl Register {
     pub(crate) fn next(mut self, low: &[u16], high: &[u16], s: u16) -> Self
         requires low_value { (low.now ≡ multiples 1) × (high.now ≡ multiples 32) }
         requires cells_bound { (at self.cells 0 < 1024) × (s < 1024) }
-        ensures { result.cells ≡ shiftedIn timesA 16 (at generator) self.cells s }
+        ensures { result.cells ≡ shifted_in times_a 16 (at generator) self.cells s }
     {
         let f = sum(self.cells[0], s);
         let l = (f % DIGITS) as usize * Outer::PARITY;
@@ -88,7 +88,7 @@ impl Register {
 pub(crate) fn divide(low: &[u16], high: &[u16], data: &[u16]) -> Register
     requires low_value { (low.now ≡ multiples 1) × (high.now ≡ multiples 32) }
     requires data_value { all_below 1024 «data».now ≡ true }
-    ensures { result.cells ≡ outerParity «data».now }
+    ensures { result.cells ≡ outer_parity «data».now }
 {
     let mut register = Register::empty();
     let mut i = 0;

@@ -15,7 +15,7 @@
 // than one fault, the order is 6 (its length), 3 (the size of the output buffer), 7 (a symbol above 1,023), then 4 (no code word) or 5 (no code word
 // within eight).
 ghost use Rattle.std.specs.Prelude.{◌≡◌};
-ghost use Rattle.words.specs.Answers.{outerChecked, outerEncoded, innerChecked, innerEncoded, outerCorrected, innerCorrected};
+ghost use Rattle.words.specs.Answers.{outer_checked, outer_encoded, inner_checked, inner_encoded, outer_corrected, inner_corrected};
 
 use decoding::symbols;
 
@@ -90,7 +90,7 @@ pub enum InnerCorrection {
 
 // 0 for an outer code word; 6, 7 or 4.
 pub fn check_outer(word: &[u16]) -> u8
-    ensures { result ≡ outerChecked word.now }
+    ensures { result ≡ outer_checked word.now }
 {
     let refusal = reed_solomon::refusal(word, Outer::SHORTEST, Outer::LONGEST, true);
     if refusal != 0 {
@@ -106,7 +106,7 @@ pub fn check_outer(word: &[u16]) -> u8
 
 // Writes the parity symbols of data and returns 0; 6, 3 or 7.
 pub fn encode_outer(data: &[u16], out: &mut [u16]) -> u8
-    ensures { (result, out.new) ≡ outerEncoded «data».now out.old }
+    ensures { (result, out.new) ≡ outer_encoded «data».now out.old }
 {
     let fits = out.len() == Outer::PARITY;
     let refusal = reed_solomon::refusal(data, Outer::SHORTEST_DATA, Outer::LONGEST_DATA, fits);
@@ -123,7 +123,7 @@ pub fn encode_outer(data: &[u16], out: &mut [u16]) -> u8
 
 // Writes the code word within eight symbols of the word; 6, 3, 7 or 5.
 pub fn correct_outer(word: &[u16], out: &mut [u16]) -> Correction
-    ensures { (result, out.new) ≡ outerCorrected word.now out.old }
+    ensures { (result, out.new) ≡ outer_corrected word.now out.old }
 {
     let fits = out.len() == word.len();
     let number = reed_solomon::refusal(word, Outer::SHORTEST, Outer::LONGEST, fits);
@@ -137,7 +137,7 @@ pub fn correct_outer(word: &[u16], out: &mut [u16]) -> Correction
 
 // 0 for an inner code word; 6 or 4.
 pub fn check_inner(word: &[u8]) -> u8
-    ensures { result ≡ innerChecked word.now }
+    ensures { result ≡ inner_checked word.now }
 {
     if word.len() != Inner::BYTES {
         return 6;
@@ -151,7 +151,7 @@ pub fn check_inner(word: &[u8]) -> u8
 
 // Writes the parity bytes of data and returns 0; 6 or 3.
 pub fn encode_inner(data: &[u8], out: &mut [u8]) -> u8
-    ensures { (result, out.new) ≡ innerEncoded «data».now out.old }
+    ensures { (result, out.new) ≡ inner_encoded «data».now out.old }
 {
     if data.len() != Inner::DATA_BYTES {
         return 6;
@@ -165,7 +165,7 @@ pub fn encode_inner(data: &[u8], out: &mut [u8]) -> u8
 
 // Writes the code word within eight places of the word; 6, 3 or 5.
 pub fn correct_inner(word: &[u8], out: &mut [u8]) -> InnerCorrection
-    ensures { (result, out.new) ≡ innerCorrected word.now out.old }
+    ensures { (result, out.new) ≡ inner_corrected word.now out.old }
 {
     if word.len() != Inner::BYTES {
         return InnerCorrection::Refused { number: 6 };

@@ -5,10 +5,10 @@ ghost use Rattle.std.specs.Prelude.{◌≡◌, true, ◌+◌, ◌*◌, ◌/◌, 
 ghost use Rattle.std.specs.Int.Bits.{bit_or};
 ghost use Rattle.fields.specs.Elements.{xor};
 ghost use Rattle.fields.specs.Places.{at, all_below};
-ghost use Rattle.decoding.specs.Steps.ByTables.{rootValues};
-ghost use Rattle.words.specs.OuterCode.{outerParity};
-ghost use Rattle.words.specs.Steps.Division.{outerRemainder};
-ghost use Rattle.words.specs.Steps.SixSymbols.{joinedFrom, symbol_of, six, Packs, packedNumber, unpacked, sixParity, digitParities};
+ghost use Rattle.decoding.specs.Steps.ByTables.{root_values};
+ghost use Rattle.words.specs.OuterCode.{outer_parity};
+ghost use Rattle.words.specs.Steps.Division.{outer_remainder};
+ghost use Rattle.words.specs.Steps.SixSymbols.{joined_from, symbol_of, six, Packs, packed_number, unpacked, six_parity, digit_parities};
 
 use crate::digit_table::{DIGIT_BITS, DIGIT_VALUES, DIGITS, PART, plus};
 use crate::{Outer, reed_solomon};
@@ -36,7 +36,7 @@ fn wide(x: u16) -> u64
 // The number that n symbols of the word from place i on are, the first the highest.
 fn join(word: &[u16], i: usize, n: usize) -> u64
     requires { (i + n ≤ length word.now) × (n ≤ 6) × (all_below 1024 word.now ≡ true) }
-    ensures { (result ≡ joinedFrom word.now i n) × (result < 2 ^ 60) }
+    ensures { (result ≡ joined_from word.now i n) × (result < 2 ^ 60) }
 {
     let mut x: u64 = 0;
     let mut j: usize = 0;
@@ -87,8 +87,8 @@ impl Packed {
 
     // The register after six symbols more.
     pub fn next(self, table: &[u64], x: u64) -> Self
-        requires { (table.now ≡ digitParities) × (self.high < 2 ^ 60) × (x < 2 ^ 60) }
-        ensures { (result.high ≡ xor self.middle (six (sixParity (xor self.high x)) 0)) × (result.middle ≡ xor self.low (six (sixParity (xor self.high x)) 6)) × (result.low ≡ six (sixParity (xor self.high x)) 12) }
+        requires { (table.now ≡ digit_parities) × (self.high < 2 ^ 60) × (x < 2 ^ 60) }
+        ensures { (result.high ≡ xor self.middle (six (six_parity (xor self.high x)) 0)) × (result.middle ≡ xor self.low (six (six_parity (xor self.high x)) 6)) × (result.low ≡ six (six_parity (xor self.high x)) 12) }
     {
         let p = six_parity(table, plus(self.high, x));
         Packed {
@@ -109,8 +109,8 @@ fn digit(x: u64, d: usize) -> usize
 
 // The parity of six symbols, as they stand in x.
 pub fn six_parity(table: &[u64], x: u64) -> Packed
-    requires { (table.now ≡ digitParities) × (x < 2 ^ 60) }
-    ensures { Packs result.high result.middle result.low (sixParity x) }
+    requires { (table.now ≡ digit_parities) × (x < 2 ^ 60) }
+    ensures { Packs result.high result.middle result.low (six_parity x) }
 {
     let mut p = Packed::empty();
     let mut d: usize = 0;
@@ -124,8 +124,8 @@ pub fn six_parity(table: &[u64], x: u64) -> Packed
 // The register after all symbols of data: the parity symbols. The first symbols, so many that sixes remain, stand in a number with zeros before them: zeros
 // leave the register empty.
 fn divide(table: &[u64], data: &[u16]) -> Packed
-    requires { (table.now ≡ digitParities) × (all_below 1024 «data».now ≡ true) }
-    ensures { Packs result.high result.middle result.low (outerParity «data».now) }
+    requires { (table.now ≡ digit_parities) × (all_below 1024 «data».now ≡ true) }
+    ensures { Packs result.high result.middle result.low (outer_parity «data».now) }
 {
     let mut i = data.len() % SYMBOLS;
     let mut p = six_parity(table, join(data, 0, i));
@@ -145,7 +145,7 @@ fn symbol(x: u64, i: usize) -> u16
 }
 
 fn number(p: Packed, k: usize) -> u64
-    ensures { result ≡ packedNumber p.high p.middle p.low k }
+    ensures { result ≡ packed_number p.high p.middle p.low k }
 {
     if k == 0 {
         return p.high;
@@ -171,16 +171,16 @@ fn unpacked(p: Packed) -> [u16; Outer::PARITY]
 
 // The parity symbols of data.
 pub fn parity(table: &[u64], data: &[u16]) -> [u16; Outer::PARITY]
-    requires { (table.now ≡ digitParities) × (all_below 1024 «data».now ≡ true) }
-    ensures { result ≡ outerParity «data».now }
+    requires { (table.now ≡ digit_parities) × (all_below 1024 «data».now ≡ true) }
+    ensures { result ≡ outer_parity «data».now }
 {
     unpacked(divide(table, data))
 }
 
 // The remainder of a word after division by the generator: the parity of all but the last sixteen symbols, and these, added. It is zero for a code word.
 pub fn remainder(table: &[u64], word: &[u16]) -> Packed
-    requires { (table.now ≡ digitParities) × (16 ≤ length word.now) × (all_below 1024 word.now ≡ true) }
-    ensures { Packs result.high result.middle result.low (outerRemainder word.now) }
+    requires { (table.now ≡ digit_parities) × (16 ≤ length word.now) × (all_below 1024 word.now ≡ true) }
+    ensures { Packs result.high result.middle result.low (outer_remainder word.now) }
 {
     let from = word.len() - Outer::PARITY;
     let p = divide(table, &word[0..from]);
@@ -196,7 +196,7 @@ pub fn remainder(table: &[u64], word: &[u16]) -> Packed
 
 // The values at the sixteen roots of a remainder, which are those of the word: the generator vanishes there.
 pub(crate) fn root_values(exp: &[u16], log: &[u16], rest: Packed) -> [u16; Outer::PARITY]
-    ensures { result ≡ rootValues exp.now log.now (unpacked rest.high rest.middle rest.low) }
+    ensures { result ≡ root_values exp.now log.now (unpacked rest.high rest.middle rest.low) }
 {
     let cells = unpacked(rest);
     reed_solomon::root_values(exp, log, &cells)

@@ -1,7 +1,7 @@
 // Outer words over a field that is lent as its two tables: refusals, values at the roots, and the generator.
 ghost use Rattle.std.specs.Prelude.{◌≡◌, length};
 ghost use Rattle.fields.specs.Places.{all_below};
-ghost use Rattle.decoding.specs.Steps.ByTables.{tableValue, rootValues};
+ghost use Rattle.decoding.specs.Steps.ByTables.{table_value, root_values};
 ghost use Rattle.words.specs.OuterCode.{generator};
 ghost use Rattle.words.specs.Answers.{refusal, within};
 
@@ -30,7 +30,7 @@ pub(crate) fn refusal(word: &[u16], shortest: usize, longest: usize, fits: bool)
 
 // The value of the word at x, by Horner's rule.
 fn value(exp: &[u16], log: &[u16], word: &[u16], x: u16) -> u16
-    ensures { result ≡ tableValue exp.now log.now word.now x }
+    ensures { result ≡ table_value exp.now log.now word.now x }
 {
     let mut v = 0;
     let mut i = 0;
@@ -43,7 +43,7 @@ fn value(exp: &[u16], log: &[u16], word: &[u16], x: u16) -> u16
 
 // The word's values at the sixteen roots a^0 to a^15.
 pub fn root_values(exp: &[u16], log: &[u16], word: &[u16]) -> [u16; Outer::PARITY]
-    ensures { result ≡ rootValues exp.now log.now word.now }
+    ensures { result ≡ root_values exp.now log.now word.now }
 {
     let mut values = [0u16; Outer::PARITY];
     let mut j: u16 = 0;

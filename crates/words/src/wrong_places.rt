@@ -1,11 +1,11 @@
 // The wrong places of an inner word, from its values at a, a^3, .. a^15: the errors that explain these, and the places inverted where the word stands, alone or
 // among others. For the crates above too.
 ghost use Rattle.std.specs.Prelude.{◌≡◌, cond, ℕ, ◌+◌, ◌*◌, ◌≤◌, ◌<◌, length, eqb};
-ghost use Rattle.fields.specs.Elements.{xor, powersB, exponentsB};
+ghost use Rattle.fields.specs.Elements.{xor, powers_b, exponents_b};
 ghost use Rattle.fields.specs.Places.{differs};
 ghost use Rattle.decoding.specs.Steps.PowerTables.{PowerTables};
 ghost use Rattle.words.specs.Bits.{bit_at};
-ghost use Rattle.words.specs.Steps.InnerDecoding.{Syndromes, isBit, isBinary, ErrorsOf, inverted, explains};
+ghost use Rattle.words.specs.Steps.InnerDecoding.{Syndromes, is_bit, is_binary, ErrorsOf, inverted, explains};
 
 use crate::Inner;
 use decoding::error_values::Errors;
@@ -33,14 +33,14 @@ fn syndromes(exp: &[u16], log: &[u16], odd: OddSyndromes) -> [u16; decoding::SYN
 
 // The value of an error in a place, where a wrong place is one with the value 1: its locator, or 0 for none.
 fn is_bit(value: u16, x: u16) -> bool
-    ensures { result ≡ isBit value x }
+    ensures { result ≡ is_bit value x }
 {
     if value == 0 { true } else { value == x }
 }
 
 // Each error's value is that of a wrong place.
 fn is_binary(exp: &[u16], e: Errors) -> bool
-    ensures { result ≡ isBinary exp.now e.places.at e.values e.places.count }
+    ensures { result ≡ is_binary exp.now e.places.at e.values e.places.count }
 {
     let places = e.places;
     let at = places.at;
@@ -58,7 +58,7 @@ fn is_binary(exp: &[u16], e: Errors) -> bool
 
 // The errors in a word that has these values, which is a code word with at most eight places wrong only if they explain it.
 pub(crate) fn errors_of(exp: &[u16], log: &[u16], odd: OddSyndromes) -> Errors
-    requires { (exp.now ≡ powersB) × (log.now ≡ exponentsB) }
+    requires { (exp.now ≡ powers_b) × (log.now ≡ exponents_b) }
     ensures { ErrorsOf odd.at result.places.at result.values result.places.count result.left }
 {
     let t = syndromes(exp, log, odd);
@@ -67,7 +67,7 @@ pub(crate) fn errors_of(exp: &[u16], log: &[u16], odd: OddSyndromes) -> Errors
 
 // The errors in an inner word, from its odd syndromes, by tables of powers, which the caller lends from word to word.
 pub fn errors_by_tables(exp: &[u16], log: &[u16], tables: &mut [u16], odd: OddSyndromes) -> Errors
-    requires { (exp.now ≡ powersB) × (log.now ≡ exponentsB) × PowerTables exp.now tables.old }
+    requires { (exp.now ≡ powers_b) × (log.now ≡ exponents_b) × PowerTables exp.now tables.old }
     ensures errors { ErrorsOf odd.at result.places.at result.values result.places.count result.left }
     ensures tables { PowerTables exp.now tables.new }
 {

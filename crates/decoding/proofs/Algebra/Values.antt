@@ -11,15 +11,15 @@ use Rattle.decoding.proofs.Algebra.Elements.{ops}
 
 module _ (m p : ℕ) (F : Field m p) where
   -- the value of a word of elements is an element
-  pub value-lt : (x : ℕ) (b : ℕ → ℕ) → ((i : ℕ) → b i < 2 ^ m) → (n : ℕ) → value m p x b n < 2 ^ m
+  pub value_lt : (x : ℕ) (b : ℕ → ℕ) → ((i : ℕ) → b i < 2 ^ m) → (n : ℕ) → value m p x b n < 2 ^ m
   unfolding horner
-  value-lt x b h zero = pow_pos m
-  value-lt x b h (suc n) = F.sum_lt _ _ (F.times-lt _ x (value-lt x b h n)) (h n)
+  value_lt x b h zero = pow_pos m
+  value_lt x b h (suc n) = F.sum_lt _ _ (F.times_lt _ x (value_lt x b h n)) (h n)
 
   -- the value of a word is that of the abstract algebra
-  pub value-abstract : (x : ℕ) → x < 2 ^ m → (b : ℕ → ℕ) → ((i : ℕ) → b i < 2 ^ m) → (n : ℕ) → value m p x b n ≡ value_at (ops m p) x b n
+  pub value_abstract : (x : ℕ) → x < 2 ^ m → (b : ℕ → ℕ) → ((i : ℕ) → b i < 2 ^ m) → (n : ℕ) → value m p x b n ≡ value_at (ops m p) x b n
   unfolding horner value_at
-  value-abstract x hx b h zero = refl
-  value-abstract x hx b h (suc n) =
-      ap (λ (v : ℕ). xor v (b n)) (sym (ap₂ (times m p) (mod-eq_of_lt (value-lt x b h n)) (mod-eq_of_lt hx))
-      ∙ ap (λ (v : ℕ). times m p (v % 2 ^ m) (x % 2 ^ m)) (value-abstract x hx b h n))
+  value_abstract x hx b h zero = refl
+  value_abstract x hx b h (suc n) =
+      ap (λ (v : ℕ). xor v (b n)) (sym (ap₂ (times m p) (mod-eq_of_lt (value_lt x b h n)) (mod-eq_of_lt hx))
+      ∙ ap (λ (v : ℕ). times m p (v % 2 ^ m) (x % 2 ^ m)) (value_abstract x hx b h n))

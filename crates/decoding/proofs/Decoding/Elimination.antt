@@ -12,26 +12,26 @@ use lib.ListN.{length, set, replicate, length-set}
 use lib.Seq.{get_or-set_same, get_or-set_other}
 use Rattle.fields.specs.Elements.{xor}
 use Rattle.fields.specs.Lists.{tabulate}
-use Rattle.fields.specs.Steps.ByTables.{tableProduct, tableInverse}
+use Rattle.fields.specs.Steps.ByTables.{table_product, table_inverse}
 use Rattle.fields.specs.Places.{at, sum_to, differs}
-use Rattle.fields.proofs.Lists.{tabulate-at, tabulate-lt}
-use Rattle.fields.proofs.Places.Counting.{differs-most, sum-most, sum-one-more}
-use Rattle.fields.proofs.Places.Filling.{zeros-at}
+use Rattle.fields.proofs.Lists.{tabulate_at, tabulate_lt}
+use Rattle.fields.proofs.Places.Counting.{differs_most, sum_most, sum_one_more}
+use Rattle.fields.proofs.Places.Filling.{zeros_at}
 use Rattle.decoding.specs.declared.annihilator.Row.{Row}
 use Rattle.decoding.specs.Steps.Decoder.{Tables}
-use Rattle.decoding.specs.Steps.Annihilator.{Annihilates, powerRow, plusScaled, Zeros, cellCleared, no_row, cells_of, reduced, FirstNonzero}
-use Rattle.decoding.proofs.Algebra.Field.{Ops, Laws, add-self, add-zero, mul_comm, mul_assoc, mul-zero}
-use Rattle.decoding.proofs.Algebra.Locators.{appliedTo, applied-same, applied-linear, applied-zero, applied-power}
-use Rattle.decoding.proofs.Algebra.Tables.{tableOps, table-laws, table-applied}
+use Rattle.decoding.specs.Steps.Annihilator.{Annihilates, power_row, plus_scaled, Zeros, cell_cleared, no_row, cells_of, reduced, FirstNonzero}
+use Rattle.decoding.proofs.Algebra.Field.{Ops, Laws, add_self, add-zero, mul_comm, mul_assoc, mul-zero}
+use Rattle.decoding.proofs.Algebra.Locators.{applied_to, applied_same, applied_linear, applied_zero, applied_power}
+use Rattle.decoding.proofs.Algebra.Tables.{table_ops, table_laws, table_applied}
 
 module _ (es ls t : List ℕ) where
   abbrev O : Ops ℕ
-  O = tableOps es ls
+  O = table_ops es ls
 
   -- the cells are elements, and cells 0 to 7 are what the polynomial in cells 8 to 16 makes of t
   pub record Linked (u : List ℕ) : Type 0 where
     pub inside : (i : ℕ) → at u i < length ls
-    pub made : (j : ℕ) → j < 8 → at u j ≡ appliedTo O (λ k. at u (8 + k)) 9 (λ k. at t (j + k))
+    pub made : (j : ℕ) → j < 8 → at u j ≡ applied_to O (λ k. at u (8 + k)) 9 (λ k. at t (j + k))
 
   -- a pivot of cell j: the cells before are zero, and the polynomial's degree is below d. Where cell j is zero too, there is none yet
   pub record Pivot (d j : ℕ) (v : List ℕ) : Type 0 where
@@ -54,89 +54,89 @@ module _ (es ls t : List ℕ) where
 
   module _ (T : Tables es ls) where
     abbrev K : Laws O (λ a. a < length ls)
-    K = table-laws es ls T
+    K = table_laws es ls T
 
     -- ---- u plus c times v
     module _ (u v : List ℕ) (c : ℕ) where
-      plus-at : (i : ℕ) → i < 17 → at (plusScaled es ls u c v) i ≡ xor (at u i) (tableProduct es ls c (at v i))
-      unfolding plusScaled
-      plus-at i l = tabulate-at 17 _ i 0 l
+      plus_at : (i : ℕ) → i < 17 → at (plus_scaled es ls u c v) i ≡ xor (at u i) (table_product es ls c (at v i))
+      unfolding plus_scaled
+      plus_at i l = tabulate_at 17 _ i 0 l
 
-      plus-inside : ((i : ℕ) → at u i < length ls) → (i : ℕ) → at (plusScaled es ls u c v) i < length ls
-      unfolding plusScaled
-      plus-inside h i = tabulate-lt (length ls) 17 _ K.in-zero (λ i. K.in-add _ _ (h i) (K.in-mul _ _)) i
+      plus_inside : ((i : ℕ) → at u i < length ls) → (i : ℕ) → at (plus_scaled es ls u c v) i < length ls
+      unfolding plus_scaled
+      plus_inside h i = tabulate_lt (length ls) 17 _ K.in_zero (λ i. K.in_add _ _ (h i) (K.in_mul _ _)) i
 
-      plus-linked : Linked u → Linked v → Linked (plusScaled es ls u c v)
-      plus-linked hu hv =
+      plus_linked : Linked u → Linked v → Linked (plus_scaled es ls u c v)
+      plus_linked hu hv =
           record {
-            inside = plus-inside hu.inside;
+            inside = plus_inside hu.inside;
             made = λ j l.
-                plus-at j (omega arith) ∙ ap₂ (λ (x y : ℕ). xor x (tableProduct es ls c y)) (hu.made j l) (hv.made j l)
-                ∙ sym (applied-linear O K c (λ k. at u (8 + k)) (λ k. at v (8 + k)) (λ k. at t (j + k)) 9)
-                ∙ applied-same O _ _ (λ k. at t (j + k)) 9 (λ k b. sym (plus-at (8 + k) (omega arith)));
+                plus_at j (omega arith) ∙ ap₂ (λ (x y : ℕ). xor x (table_product es ls c y)) (hu.made j l) (hv.made j l)
+                ∙ sym (applied_linear O K c (λ k. at u (8 + k)) (λ k. at v (8 + k)) (λ k. at t (j + k)) 9)
+                ∙ applied_same O _ _ (λ k. at t (j + k)) 9 (λ k b. sym (plus_at (8 + k) (omega arith)));
           }
 
       -- a cell where v is zero stays
-      plus-same : (i : ℕ) → i < 17 → at v i ≡ 0 → at (plusScaled es ls u c v) i ≡ at u i
-      plus-same i l z = plus-at i l ∙ cc (z, mul-zero O K c, add-zero O K (at u i))
+      plus_same : (i : ℕ) → i < 17 → at v i ≡ 0 → at (plus_scaled es ls u c v) i ≡ at u i
+      plus_same i l z = plus_at i l ∙ cc (z, mul-zero O K c, add-zero O K (at u i))
 
     -- the cell of the pivot is cleared
-    cleared-zero : (u v : List ℕ) (j : ℕ) → j < 17 → Linked u → Linked v → ¬ (at v j ≡ 0) → at (cellCleared es ls u v j) j ≡ 0
-    unfolding cellCleared
-    cleared-zero u v j l hu hv n =
+    cleared_zero : (u v : List ℕ) (j : ℕ) → j < 17 → Linked u → Linked v → ¬ (at v j ≡ 0) → at (cell_cleared es ls u v j) j ≡ 0
+    unfolding cell_cleared
+    cleared_zero u v j l hu hv n =
         let a = at u j in
         let b = at v j in
-        let i = tableInverse es ls b in
-        let one : tableProduct es ls b i ≡ 1 = K.mul-inv b (hv.inside j) n in
-        plus-at u v _ j l ∙ cc (mul_assoc O K a i b, mul_comm O K i b, one, mul_comm O K a 1, K.one-mul a (hu.inside j), add-self O K a)
+        let i = table_inverse es ls b in
+        let one : table_product es ls b i ≡ 1 = K.mul_inv b (hv.inside j) n in
+        plus_at u v _ j l ∙ cc (mul_assoc O K a i b, mul_comm O K i b, one, mul_comm O K a 1, K.one-mul a (hu.inside j), add_self O K a)
 
     -- ---- the row of x^d
     module _ (d : ℕ) (small : d < 9) where
-      power_at : (i : ℕ) → i < 8 → at (powerRow es ls t d) i ≡ tableProduct es ls 1 (at t (d + i))
-      unfolding powerRow
-      power_at i l = tabulate-at 17 _ i 0 (omega arith) ∙ rw (lt-ltb i 8 l)
+      power_at : (i : ℕ) → i < 8 → at (power_row es ls t d) i ≡ table_product es ls 1 (at t (d + i))
+      unfolding power_row
+      power_at i l = tabulate_at 17 _ i 0 (omega arith) ∙ rw (lt-ltb i 8 l)
 
-      power-one : (i : ℕ) → 8 ≤ i → i + d ≡ 16 → at (powerRow es ls t d) i ≡ 1
-      unfolding powerRow
-      power-one i h e = tabulate-at 17 _ i 0 (omega arith) ∙ rw (le-ltb i 8 h, eq-eqb (i + d) 16 e)
+      power_one : (i : ℕ) → 8 ≤ i → i + d ≡ 16 → at (power_row es ls t d) i ≡ 1
+      unfolding power_row
+      power_one i h e = tabulate_at 17 _ i 0 (omega arith) ∙ rw (le-ltb i 8 h, eq-eqb (i + d) 16 e)
 
-      power_zero : (i : ℕ) → 8 ≤ i → i < 17 → ¬ (i + d ≡ 16) → at (powerRow es ls t d) i ≡ 0
-      unfolding powerRow
-      power_zero i h l n = tabulate-at 17 _ i 0 l ∙ rw (le-ltb i 8 h, ne_eqb (i + d) 16 n)
+      power_zero : (i : ℕ) → 8 ≤ i → i < 17 → ¬ (i + d ≡ 16) → at (power_row es ls t d) i ≡ 0
+      unfolding power_row
+      power_zero i h l n = tabulate_at 17 _ i 0 l ∙ rw (le-ltb i 8 h, ne_eqb (i + d) 16 n)
 
-      power-inside : (i : ℕ) → at (powerRow es ls t d) i < length ls
-      unfolding powerRow
-      power-inside = tabulate-lt (length ls) 17 _ K.in-zero (λ i. go (ltb i 8) (eqb (i + d) 16) _ (K.in-mul 1 (at t (d + i))))
+      power_inside : (i : ℕ) → at (power_row es ls t d) i < length ls
+      unfolding power_row
+      power_inside = tabulate_lt (length ls) 17 _ K.in_zero (λ i. go (ltb i 8) (eqb (i + d) 16) _ (K.in_mul 1 (at t (d + i))))
         where
           go : (a b : Bool) (x : ℕ) → x < length ls → cond a x (cond b 1 0) < length ls
           go true b x h = h
           go false true x h = K.in_one
-          go false false x h = K.in-zero
+          go false false x h = K.in_zero
 
-      power-reduced : (pivots : List Row) → Reduced pivots d 0 (powerRow es ls t d)
-      power-reduced pivots =
+      power_reduced : (pivots : List Row) → Reduced pivots d 0 (power_row es ls t d)
+      power_reduced pivots =
           record {
-            linked = record { inside = power-inside; made = λ j l. power_at j l ∙ made j };
-            leading = power-one (16 - d) (omega arith) (omega arith);
+            linked = record { inside = power_inside; made = λ j l. power_at j l ∙ made j };
+            leading = power_one (16 - d) (omega arith) (omega arith);
             above = λ i h l. power_zero i h (omega arith) (λ e. omega arith);
             zeros = λ j h. absurd (not-suc-le-zero h);
           }
         where
-          made : (j : ℕ) → tableProduct es ls 1 (at t (d + j)) ≡ appliedTo O (λ k. at (powerRow es ls t d) (8 + k)) 9 (λ k. at t (j + k))
+          made : (j : ℕ) → table_product es ls 1 (at t (d + j)) ≡ applied_to O (λ k. at (power_row es ls t d) (8 + k)) 9 (λ k. at t (j + k))
           made j =
               let e : d + j ≡ j + d = omega arith in
-              rw e (sym (applied-power O K 9 d small _ (λ k. at t (j + k)) (λ k e. power-one (8 + k) (omega arith) (omega arith))
+              rw e (sym (applied_power O K 9 d small _ (λ k. at t (j + k)) (λ k e. power_one (8 + k) (omega arith) (omega arith))
               (λ k l n. power_zero (8 + k) (omega arith) (omega arith) (λ e. n (omega arith)))))
 
       -- ---- its reduction
       module _ (pivots : List Row) (each : (j : ℕ) → j < 8 → Pivot d j (cells_of pivots j)) where
-        cleared-reduced : (n : ℕ) (u : List ℕ) → n < 8 → Reduced pivots d n u → Reduced pivots d (suc n) (cellCleared es ls u (cells_of pivots n) n)
-        unfolding cellCleared
-        cleared-reduced n u l h =
+        cleared_reduced : (n : ℕ) (u : List ℕ) → n < 8 → Reduced pivots d n u → Reduced pivots d (suc n) (cell_cleared es ls u (cells_of pivots n) n)
+        unfolding cell_cleared
+        cleared_reduced n u l h =
             record {
-              linked = plus-linked u v c h.linked p.linked;
-              leading = plus-same u v c (16 - d) (omega arith) (p.above (16 - d) (omega arith) (omega arith)) ∙ h.leading;
-              above = λ i a b. plus-same u v c i (omega arith) (p.above i a (omega arith)) ∙ h.above i a b;
+              linked = plus_linked u v c h.linked p.linked;
+              leading = plus_same u v c (16 - d) (omega arith) (p.above (16 - d) (omega arith) (omega arith)) ∙ h.leading;
+              above = λ i a b. plus_same u v c i (omega arith) (p.above i a (omega arith)) ∙ h.above i a b;
               zeros = λ j b. go j b (ℕ_discrete j n);
             }
           where
@@ -144,72 +144,72 @@ module _ (es ls t : List ℕ) where
             v = cells_of pivots n
 
             c : ℕ
-            c = tableProduct es ls (at u n) (tableInverse es ls (at v n))
+            c = table_product es ls (at u n) (table_inverse es ls (at v n))
 
             p : Pivot d n v
             p = each n l
 
-            go : (j : ℕ) → j < suc n → Dec (j ≡ n) → ¬ (at (cells_of pivots j) j ≡ 0) → at (cellCleared es ls u v n) j ≡ 0
-            go j b (yes e) k = rw e (cleared-zero u v n (omega arith) h.linked p.linked (rw e at k))
-            go j b (no e) k = plus-same u v c j (omega arith) (p.before j (omega arith)) ∙ h.zeros j (omega arith) k
+            go : (j : ℕ) → j < suc n → Dec (j ≡ n) → ¬ (at (cells_of pivots j) j ≡ 0) → at (cell_cleared es ls u v n) j ≡ 0
+            go j b (yes e) k = rw e (cleared_zero u v n (omega arith) h.linked p.linked (rw e at k))
+            go j b (no e) k = plus_same u v c j (omega arith) (p.before j (omega arith)) ∙ h.zeros j (omega arith) k
 
-        row-reduced : (n : ℕ) → n ≤ 8 → Reduced pivots d n (reduced es ls (powerRow es ls t d) pivots n)
+        row_reduced : (n : ℕ) → n ≤ 8 → Reduced pivots d n (reduced es ls (power_row es ls t d) pivots n)
         unfolding reduced
-        row-reduced zero l = power-reduced pivots
-        row-reduced (suc n) l = cleared-reduced n _ l (row-reduced n (omega arith))
+        row_reduced zero l = power_reduced pivots
+        row_reduced (suc n) l = cleared_reduced n _ l (row_reduced n (omega arith))
 
     -- ---- the rows one after the other
-    abbrev zeroRow : Row
-    zeroRow = record { cells = replicate 17 0 }
+    abbrev zero_row : Row
+    zero_row = record { cells = replicate 17 0 }
 
-    cells-zero : (n j i : ℕ) → at (cells_of (replicate n zeroRow) j) i ≡ 0
+    cells_zero : (n j i : ℕ) → at (cells_of (replicate n zero_row) j) i ≡ 0
     unfolding cells_of
-    cells-zero zero j i = refl
-    cells-zero (suc n) zero i = zeros-at 17 i
-    cells-zero (suc n) (suc j) i = cells-zero n j i
+    cells_zero zero j i = refl
+    cells_zero (suc n) zero i = zeros_at 17 i
+    cells_zero (suc n) (suc j) i = cells_zero n j i
 
-    pub pivots-start : Pivots 0 (replicate 8 zeroRow)
+    pub pivots_start : Pivots 0 (replicate 8 zero_row)
     unfolding sum_to differs cells_of
-    pivots-start =
+    pivots_start =
         record {
           long = refl;
-          each = λ j l. record { linked = linked j; before = λ i h. cells-zero 8 j i; above = λ i h k. cells-zero 8 j i };
+          each = λ j l. record { linked = linked j; before = λ i h. cells_zero 8 j i; above = λ i h k. cells_zero 8 j i };
           count = refl;
         }
       where
-        linked : (j : ℕ) → Linked (cells_of (replicate 8 zeroRow) j)
+        linked : (j : ℕ) → Linked (cells_of (replicate 8 zero_row) j)
         linked j =
             record {
-              inside = λ i. rw (cells-zero 8 j i) K.in-zero;
-              made = λ i l. cells-zero 8 j i ∙ sym (applied-zero O K _ (λ k. at t (i + k)) 9 (λ k b. cells-zero 8 j (8 + k)));
+              inside = λ i. rw (cells_zero 8 j i) K.in_zero;
+              made = λ i l. cells_zero 8 j i ∙ sym (applied_zero O K _ (λ k. at t (i + k)) 9 (λ k b. cells_zero 8 j (8 + k)));
             }
 
     module _ (d : ℕ) (pivots : List Row) (so_far : Pivots d pivots) where
-      pub pivots-zeros : d < 9 → (j : ℕ) → j < 8 → Zeros (cells_of pivots j) j (17 - d)
-      pivots-zeros small j h = record { before = (so_far.each j h).before; above = λ k lo hi. (so_far.each j h).above k lo (omega arith) }
+      pub pivots_zeros : d < 9 → (j : ℕ) → j < 8 → Zeros (cells_of pivots j) j (17 - d)
+      pivots_zeros small j h = record { before = (so_far.each j h).before; above = λ k lo hi. (so_far.each j h).above k lo (omega arith) }
 
       -- there is no place for a ninth pivot
-      pub pivots-end : (r : List ℕ) → 9 ≤ d → Annihilates es ls t r
-      pivots-end r h =
+      pub pivots_end : (r : List ℕ) → 9 ≤ d → Annihilates es ls t r
+      pivots_end r h =
           let few : sum_to (0 + 8) (λ j. differs (at (cells_of pivots j) j) 0) ≤ 8 =
-          sum-most 0 8 _ (λ i l. absurd (not-suc-le-zero l)) (λ j. differs-most (at (cells_of pivots j) j) 0) in
+          sum_most 0 8 _ (λ i l. absurd (not-suc-le-zero l)) (λ j. differs_most (at (cells_of pivots j) j) 0) in
           absurd (omega (arith, so_far.count, few))
 
-      module _ (small : d < 9) (p row : Row) (ep : p.cells ≡ powerRow es ls t d) (er : row.cells ≡ reduced es ls p.cells pivots 8) (j : ℕ)
+      module _ (small : d < 9) (p row : Row) (ep : p.cells ≡ power_row es ls t d) (er : row.cells ≡ reduced es ls p.cells pivots 8) (j : ℕ)
           (first : FirstNonzero row.cells j) where
         row_is : Reduced pivots d 8 row.cells
-        row_is = rw (er, ep) (row-reduced d small pivots so_far.each 8 (omega arith))
+        row_is = rw (er, ep) (row_reduced d small pivots so_far.each 8 (omega arith))
 
         -- a row with no cell left annihilates
-        pub row-annihilates : (r : List ℕ) → j ≡ 8 → r ≡ tabulate 9 (λ k. at row.cells (8 + k)) → Annihilates es ls t r
-        row-annihilates r e v = rw v (
+        pub row_annihilates : (r : List ℕ) → j ≡ 8 → r ≡ tabulate 9 (λ k. at row.cells (8 + k)) → Annihilates es ls t r
+        row_annihilates r e v = rw v (
             record {
-              elements = tabulate-lt (length ls) 9 _ K.in-zero (λ k. row_is.linked.inside (8 + k));
+              elements = tabulate_lt (length ls) 9 _ K.in_zero (λ k. row_is.linked.inside (8 + k));
               leading = 8 - d;
               leading_lt = omega arith;
-              leading-one = tabulate-at 9 _ (8 - d) 0 (omega arith) ∙ (let e : 8 + (8 - d) ≡ 16 - d = omega arith in rw e row_is.leading);
+              leading_one = tabulate_at 9 _ (8 - d) 0 (omega arith) ∙ (let e : 8 + (8 - d) ≡ 16 - d = omega arith in rw e row_is.leading);
               equations = λ i l.
-                  table-applied es ls _ (λ k. at t (i + k)) 9 ∙ applied-same O _ _ (λ k. at t (i + k)) 9 (λ k b. tabulate-at 9 _ k 0 b)
+                  table_applied es ls _ (λ k. at t (i + k)) 9 ∙ applied_same O _ _ (λ k. at t (i + k)) 9 (λ k b. tabulate_at 9 _ k 0 b)
                   ∙ sym (row_is.linked.made i l) ∙ first.before i (omega arith);
             })
 
@@ -233,13 +233,13 @@ module _ (es ls t : List ℕ) where
           unfolding cells_of
           set_other i n = ap (λ (r : Row). r.cells) (get_or-set_other pivots j i row no_row n)
 
-          pub pivots-next : Pivots (d + 1) (set pivots j row)
+          pub pivots_next : Pivots (d + 1) (set pivots j row)
           unfolding differs
-          pivots-next =
+          pivots_next =
               record {
                 long = length-set pivots j row ∙ so_far.long;
                 each = λ i l. go i l (ℕ_discrete i j);
-                count = sum-one-more 8 j (λ i. differs (at (cells_of pivots i) i) 0) (λ i. differs (at (cells_of (set pivots j row) i) i) 0) cell
+                count = sum_one_more 8 j (λ i. differs (at (cells_of pivots i) i) 0) (λ i. differs (at (cells_of (set pivots j row) i) i) 0) cell
                     (rw (set_same, none, ne_eqb (at row.cells j) 0 (first.here cell)))
                     (λ i l n. rw (set_other i n)) ∙ omega (arith, so_far.count);
               }

@@ -6,62 +6,62 @@ use native.Mathlib.Nat.{mul-add}
 use native.Mathlib.Omega.{arith}
 use borrow.Author.Tests.{eqb-true, ltb-true}
 use lib.Dec.{eqb, ltb}
-use Rattle.fields.specs.Elements.{xor, scale, doubled, power, powersB, exponentsB}
-use Rattle.fields.specs.Steps.ByTables.{tableProduct, tablePower}
+use Rattle.fields.specs.Elements.{xor, scale, doubled, power, powers_b, exponents_b}
+use Rattle.fields.specs.Steps.ByTables.{table_product, table_power}
 use Rattle.fields.specs.Places.{at, every}
-use Rattle.fields.proofs.ByTables.{table-power}
-use Rattle.fields.proofs.Instances.{field-b}
-use Rattle.fields.proofs.Places.Tests.{every-at}
+use Rattle.fields.proofs.ByTables.{table_power_lem}
+use Rattle.fields.proofs.Instances.{field_b}
+use Rattle.fields.proofs.Places.Tests.{every_at}
 use Rattle.decoding.specs.Steps.PowerTables.{near, far}
-use Rattle.decoding.proofs.Algebra.Tables.{table-laws, table-powers, table-power-sum, tables-b}
+use Rattle.decoding.proofs.Algebra.Tables.{table_laws, table_powers, table_power_sum, tables_b}
 
 -- the power of x = a^(-d), and the test of table d
-unfoldable entryPower : ℕ → ℕ → ℕ
-entryPower d m = power 11 2053 ((2047 - d) * m % 2047)
+unfoldable entry_power : ℕ → ℕ → ℕ
+entry_power d m = power 11 2053 ((2047 - d) * m % 2047)
 
 unfoldable trinomial : ℕ → Bool
-trinomial d = eqb (entryPower d (at far d)) (xor (entryPower d (at far d - at near d)) 1)
+trinomial d = eqb (entry_power d (at far d)) (xor (entry_power d (at far d - at near d)) 1)
 
-all-trinomials : every 8 (λ d. trinomial (suc d)) ≡ true
-unfolding every trinomial entryPower power doubled scale xor near far
-all-trinomials = refl
+all_trinomials : every 8 (λ d. trinomial (suc d)) ≡ true
+unfolding every trinomial entry_power power doubled scale xor near far
+all_trinomials = refl
 
-all-gaps : every 9 (λ d. ltb 39 (at near d)) ≡ true
+all_gaps : every 9 (λ d. ltb 39 (at near d)) ≡ true
 unfolding every near
-all-gaps = refl
+all_gaps = refl
 
 all_more : every 9 (λ d. ltb (at near d) (at far d)) ≡ true
 unfolding every near far
 all_more = refl
 
-pub near-least : (d : ℕ) → d ≤ 8 → 40 ≤ at near d
-near-least d h = ltb-true 39 (at near d) (every-at 9 (λ d. ltb 39 (at near d)) all-gaps d (omega arith))
+pub near_least : (d : ℕ) → d ≤ 8 → 40 ≤ at near d
+near_least d h = ltb-true 39 (at near d) (every_at 9 (λ d. ltb 39 (at near d)) all_gaps d (omega arith))
 
-pub far-more : (d : ℕ) → d ≤ 8 → at near d < at far d
-far-more d h = ltb-true (at near d) (at far d) (every-at 9 (λ d. ltb (at near d) (at far d)) all_more d (omega arith))
+pub far_more : (d : ℕ) → d ≤ 8 → at near d < at far d
+far_more d h = ltb-true (at near d) (at far d) (every_at 9 (λ d. ltb (at near d) (at far d)) all_more d (omega arith))
 
-entry-power : (d m : ℕ) → tablePower powersB ((2047 - d) * m) ≡ entryPower d m
-unfolding entryPower
-entry-power d m = table-power 11 2053 field-b ((2047 - d) * m) ∙ sym (field-b.power-mod ((2047 - d) * m))
+entry_power_lem : (d m : ℕ) → table_power powers_b ((2047 - d) * m) ≡ entry_power d m
+unfolding entry_power
+entry_power_lem d m = table_power_lem 11 2053 field_b ((2047 - d) * m) ∙ sym (field_b.power_mod ((2047 - d) * m))
 
-trinomial-at : (d : ℕ) → 0 < d → d ≤ 8 → tablePower powersB ((2047 - d) * at far d) ≡ xor (tablePower powersB ((2047 - d) * (at far d - at near d))) 1
+trinomial_at : (d : ℕ) → 0 < d → d ≤ 8 → table_power powers_b ((2047 - d) * at far d) ≡ xor (table_power powers_b ((2047 - d) * (at far d - at near d))) 1
 unfolding trinomial
-trinomial-at d pos most =
+trinomial_at d pos most =
     let e : suc (d - 1) ≡ d = omega arith in
-    let test : trinomial d ≡ true = rw e at (every-at 8 (λ d. trinomial (suc d)) all-trinomials (d - 1) (omega arith)) in
-    entry-power d (at far d) ∙ eqb-true _ _ test ∙ sym (ap (λ (v : ℕ). xor v 1) (entry-power d (at far d - at near d)))
+    let test : trinomial d ≡ true = rw e at (every_at 8 (λ d. trinomial (suc d)) all_trinomials (d - 1) (omega arith)) in
+    entry_power_lem d (at far d) ∙ eqb-true _ _ test ∙ sym (ap (λ (v : ℕ). xor v 1) (entry_power_lem d (at far d - at near d)))
 
 -- entry m of table d is the sum of two entries before it
-pub table-sum : (d m : ℕ) → 0 < d → d ≤ 8 → at far d ≤ m →
-    tablePower powersB ((2047 - d) * m) ≡ xor (tablePower powersB ((2047 - d) * (m - at near d))) (tablePower powersB ((2047 - d) * (m - at far d)))
-table-sum d m pos most h =
-    ap X whole ∙ ap (λ (k : ℕ). tablePower powersB k) (mul-add (2047 - d) r q)
-    ∙ table-power-sum powersB exponentsB tables-b ((2047 - d) * r) ((2047 - d) * q)
-    ∙ ap (tableProduct powersB exponentsB (X r)) (trinomial-at d pos most)
-    ∙ (table-laws powersB exponentsB tables-b).mul-add (X r) (X (q - p)) 1
+pub table_sum : (d m : ℕ) → 0 < d → d ≤ 8 → at far d ≤ m →
+    table_power powers_b ((2047 - d) * m) ≡ xor (table_power powers_b ((2047 - d) * (m - at near d))) (table_power powers_b ((2047 - d) * (m - at far d)))
+table_sum d m pos most h =
+    ap X whole ∙ ap (λ (k : ℕ). table_power powers_b k) (mul-add (2047 - d) r q)
+    ∙ table_power_sum powers_b exponents_b tables_b ((2047 - d) * r) ((2047 - d) * q)
+    ∙ ap (table_product powers_b exponents_b (X r)) (trinomial_at d pos most)
+    ∙ (table_laws powers_b exponents_b tables_b).mul-add (X r) (X (q - p)) 1
     ∙ ap₂ xor
-    (sym (table-power-sum powersB exponentsB tables-b ((2047 - d) * r) ((2047 - d) * (q - p))) ∙ ap (λ (k : ℕ). tablePower powersB k) (sym (mul-add (2047 - d) r (q - p))) ∙ ap X part)
-    ((table-laws powersB exponentsB tables-b).mul_comm (X r) 1 ∙ (table-laws powersB exponentsB tables-b).one-mul (X r) ((table-powers powersB exponentsB tables-b).inside ((2047 - d) * r)))
+    (sym (table_power_sum powers_b exponents_b tables_b ((2047 - d) * r) ((2047 - d) * (q - p))) ∙ ap (λ (k : ℕ). table_power powers_b k) (sym (mul-add (2047 - d) r (q - p))) ∙ ap X part)
+    ((table_laws powers_b exponents_b tables_b).mul_comm (X r) 1 ∙ (table_laws powers_b exponents_b tables_b).one-mul (X r) ((table_powers powers_b exponents_b tables_b).inside ((2047 - d) * r)))
   where
     p : ℕ
     p = at near d
@@ -73,10 +73,10 @@ table-sum d m pos most h =
     r = m - q
 
     X : ℕ → ℕ
-    X k = tablePower powersB ((2047 - d) * k)
+    X k = table_power powers_b ((2047 - d) * k)
 
     whole : m ≡ r + q
     whole = omega arith
 
     part : r + (q - p) ≡ m - p
-    part = omega (arith, far-more d most)
+    part = omega (arith, far_more d most)

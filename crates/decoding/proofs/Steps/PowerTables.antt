@@ -14,20 +14,20 @@ use lib.ListN.{length, get_or, set, length-set}
 use lib.Seq.{get_or-set_same, get_or-set_other}
 use mir.Syntax.{w64}
 use mir.Val.{Fits}
-use Rattle.fields.specs.Elements.{xor, powersB}
-use Rattle.fields.specs.Steps.ByTables.{tablePower, wrapped}
+use Rattle.fields.specs.Elements.{xor, powers_b}
+use Rattle.fields.specs.Steps.ByTables.{table_power, wrapped}
 use Rattle.fields.specs.Lists.{tabulate}
 use Rattle.fields.specs.Places.{at, every, all_below}
-use Rattle.fields.proofs.Lists.{tabulate-at, tabulate-length, tabulate-lt}
-use Rattle.fields.proofs.Instances.{field-b}
-use Rattle.fields.proofs.Ways.{past, wrapped-modulo}
+use Rattle.fields.proofs.Lists.{tabulate_at, tabulate_length, tabulate_lt}
+use Rattle.fields.proofs.Instances.{field_b}
+use Rattle.fields.proofs.Ways.{past, wrapped_modulo}
 use Rattle.fields.proofs.Places.Tests.{below_at}
-use Rattle.fields.proofs.Places.Filling.{Filled, filled_next, filled-end}
+use Rattle.fields.proofs.Places.Filling.{Filled, filled_next, filled_end}
 use Rattle.decoding.specs.declared.root_search.Places.{Places}
-use Rattle.decoding.specs.Steps.RootSearch.{lessModulo, kept}
-use Rattle.decoding.specs.Steps.PowerTables.{PowerTables, TableFilled, near, far, blockSum, stored, withSums, reciprocals, tableBase, tableStart, tableBases, tableStarts, tablePosition, fourAt, eightAt, tablesSum, kept_to}
-use Rattle.decoding.proofs.Algebra.Tables.{powers-length}
-use Rattle.decoding.proofs.Decoding.TableSums.{near-least, far-more, table-sum}
+use Rattle.decoding.specs.Steps.RootSearch.{less_modulo, kept}
+use Rattle.decoding.specs.Steps.PowerTables.{PowerTables, TableFilled, near, far, block_sum, stored, with_sums, reciprocals, table_base, table_start, table_bases, table_starts, table_position, four_at, eight_at, tables_sum, kept_to}
+use Rattle.decoding.proofs.Algebra.Tables.{powers_length}
+use Rattle.decoding.proofs.Decoding.TableSums.{near_least, far_more, table_sum}
 
 -- ---- the tables
 
@@ -37,19 +37,19 @@ pub record Emptied (before : List ℕ) (m : ℕ) (tables : List ℕ) : Type 0 wh
   pub long : length tables ≡ length before
   pub done : (i : ℕ) → i < m → at tables i ≡ 0
 
-pub emptied-none : {tables : List ℕ} → Emptied tables 0 tables
-emptied-none = record { within = zero-le; long = refl; done = λ i h. absurd (not-suc-le-zero h) }
+pub emptied_none : {tables : List ℕ} → Emptied tables 0 tables
+emptied_none = record { within = zero-le; long = refl; done = λ i h. absurd (not-suc-le-zero h) }
 
 module _ {before : List ℕ} {m : ℕ} {tables : List ℕ} (so_far : Emptied before m tables) (size : length before ≡ 18784) where
-  pub emptied-next : m < 2087 → Emptied before (m + 1) (set tables m 0)
-  emptied-next h = record { within = omega arith; long = length-set tables m 0 ∙ so_far.long; done = λ i l. go i l (ℕ_discrete i m) }
+  pub emptied_next : m < 2087 → Emptied before (m + 1) (set tables m 0)
+  emptied_next h = record { within = omega arith; long = length-set tables m 0 ∙ so_far.long; done = λ i l. go i l (ℕ_discrete i m) }
     where
       go : (i : ℕ) → i < m + 1 → Dec (i ≡ m) → at (set tables m 0) i ≡ 0
       go i l (yes q) = rw q (get_or-set_same tables m 0 0 (omega (arith, so_far.long)))
       go i l (no q) = get_or-set_other tables m i 0 0 q ∙ so_far.done i (omega arith)
 
-  pub emptied-end : 2087 ≤ m → (es : List ℕ) → PowerTables es (set tables 18783 0)
-  emptied-end h es =
+  pub emptied_end : 2087 ≤ m → (es : List ℕ) → PowerTables es (set tables 18783 0)
+  emptied_end h es =
       let none : at (set tables 18783 0) 18783 ≡ 0 = get_or-set_same tables 18783 0 0 (omega (arith, so_far.long)) in
       record {
         long = length-set tables 18783 0 ∙ so_far.long ∙ size;
@@ -65,9 +65,9 @@ pub record TableStarted (es before : List ℕ) (d k m : ℕ) (tables : List ℕ)
   pub exponent : k ≡ (2047 - d) * m % 2047
   pub inside : k < 2047
 
-less-is : (e d : ℕ) → e < 2047 → d < 2047 → lessModulo 2047 e d ≡ (e + (2047 - d)) % 2047
-unfolding lessModulo
-less-is e d he hd = go (dec_lt e d)
+less_is : (e d : ℕ) → e < 2047 → d < 2047 → less_modulo 2047 e d ≡ (e + (2047 - d)) % 2047
+unfolding less_modulo
+less_is e d he hd = go (dec_lt e d)
   where
     go : Dec (e < d) → cond (ltb e d) (e + (2047 - d)) (e - d) ≡ (e + (2047 - d)) % 2047
     go (yes h) = rw (lt-ltb e d h) (omega arith)
@@ -84,9 +84,9 @@ module _ (es before : List ℕ) (d : ℕ) where
       }
 
   module _ (k m : ℕ) (tables : List ℕ) (so_far : TableStarted es before d k m tables) (order : length es ≡ 2047) (size : length before ≡ 18784) (most : d ≤ 8) where
-    pub started-next : (r : ℕ) → m < 167 → r ≡ lessModulo 2047 k d → TableStarted es before d r (m + 1) (set tables (2087 * d + m) (get_or es k 0))
-    unfolding tablePower
-    started-next r h er =
+    pub started_next : (r : ℕ) → m < 167 → r ≡ less_modulo 2047 k d → TableStarted es before d r (m + 1) (set tables (2087 * d + m) (get_or es k 0))
+    unfolding table_power
+    started_next r h er =
         record {
           within = omega arith;
           filled =
@@ -101,54 +101,54 @@ module _ (es before : List ℕ) (d : ℕ) where
         }
       where
         step : r ≡ (k + (2047 - d)) % 2047
-        step = er ∙ less-is k d so_far.inside (omega arith)
+        step = er ∙ less_is k d so_far.inside (omega arith)
 
         go : (l : ℕ) → l < m + 1 → Dec (l ≡ m) → at (set tables (2087 * d + m) (get_or es k 0)) (2087 * d + l) ≡ get_or es ((2047 - d) * l % length es) 0
         go l b (yes q) = rw (q, order, ← so_far.exponent) (get_or-set_same tables (2087 * d + m) _ 0 (omega (arith, so_far.filled.long)))
         go l b (no q) = get_or-set_other tables (2087 * d + m) (2087 * d + l) _ 0 (λ e. q (omega arith)) ∙ so_far.filled.done l (omega arith)
 
-    pub started-end : 167 ≤ m → TableFilled es before d 167 tables
-    started-end h = let q : m ≡ 167 = omega (arith, so_far.within) in rw q at so_far.filled
+    pub started_end : 167 ≤ m → TableFilled es before d 167 tables
+    started_end h = let q : m ≡ 167 = omega (arith, so_far.within) in rw q at so_far.filled
 
 -- ---- the other entries of a table, block by block
 
-pub powers-long : (es : List ℕ) → es ≡ powersB → length es ≡ 2047
-powers-long es exp = rw (exp, powers-length 11 2053 field-b)
+pub powers_long : (es : List ℕ) → es ≡ powers_b → length es ≡ 2047
+powers_long es exp = rw (exp, powers_length 11 2053 field_b)
 
-pub near-most : (d : ℕ) → at near d ≤ 167
+pub near_most : (d : ℕ) → at near d ≤ 167
 unfolding near all_below every
-near-most d = let h : at near d < 168 = below_at 168 near (lit< tt) refl d in omega arith
+near_most d = let h : at near d < 168 = below_at 168 near (lit< tt) refl d in omega arith
 
-pub far-most : (d : ℕ) → at far d ≤ 167
+pub far_most : (d : ℕ) → at far d ≤ 167
 unfolding far all_below every
-far-most d = let h : at far d < 168 = below_at 168 far (lit< tt) refl d in omega arith
+far_most d = let h : at far d < 168 = below_at 168 far (lit< tt) refl d in omega arith
 
-pub sums_next : (tables sums : List ℕ) (a b l r : ℕ) → Filled 40 (blockSum tables a b) l sums → l < 40 → r ≡ xor (get_or tables (a + l) 0) (get_or tables (b + l) 0) →
-    Filled 40 (blockSum tables a b) (l + 1) (set sums l r)
-unfolding blockSum
+pub sums_next : (tables sums : List ℕ) (a b l r : ℕ) → Filled 40 (block_sum tables a b) l sums → l < 40 → r ≡ xor (get_or tables (a + l) 0) (get_or tables (b + l) 0) →
+    Filled 40 (block_sum tables a b) (l + 1) (set sums l r)
+unfolding block_sum
 sums_next tables sums a b l r so_far h e = filled_next so_far h e
 
 module _ (tables : List ℕ) (s : ℕ) (block : List ℕ) where
-  pub stored-none : tables ≡ stored tables s block 0
+  pub stored_none : tables ≡ stored tables s block 0
   unfolding stored
-  stored-none = refl
+  stored_none = refl
 
   pub stored_next : (k : ℕ) (r : List ℕ) → r ≡ stored tables s block k → set r (s + k) (get_or block k 0) ≡ stored tables s block (k + 1)
   unfolding stored
   stored_next k r e = rw (add-one, ← e)
 
-  pub stored-end : (k : ℕ) (r : List ℕ) → r ≡ stored tables s block k → k ≤ 40 → 40 ≤ k → r ≡ stored tables s block 40
-  stored-end k r e lo hi = let q : k ≡ 40 = omega arith in rw q at e
+  pub stored_end : (k : ℕ) (r : List ℕ) → r ≡ stored tables s block k → k ≤ 40 → 40 ≤ k → r ≡ stored tables s block 40
+  stored_end k r e lo hi = let q : k ≡ 40 = omega arith in rw q at e
 
-  stored-long : (k : ℕ) → length (stored tables s block k) ≡ length tables
+  stored_long : (k : ℕ) → length (stored tables s block k) ≡ length tables
   unfolding stored
-  stored-long zero = refl
-  stored-long (suc k) = length-set (stored tables s block k) (s + k) _ ∙ stored-long k
+  stored_long zero = refl
+  stored_long (suc k) = length-set (stored tables s block k) (s + k) _ ∙ stored_long k
 
-  stored-before : (k i : ℕ) → i < s → at (stored tables s block k) i ≡ at tables i
+  stored_before : (k i : ℕ) → i < s → at (stored tables s block k) i ≡ at tables i
   unfolding stored
-  stored-before zero i h = refl
-  stored-before (suc k) i h = get_or-set_other (stored tables s block k) (s + k) i _ 0 (λ e. omega arith) ∙ stored-before k i h
+  stored_before zero i h = refl
+  stored_before (suc k) i h = get_or-set_other (stored tables s block k) (s + k) i _ 0 (λ e. omega arith) ∙ stored_before k i h
 
   stored_at : (k l : ℕ) → s + k ≤ length tables → l < k → at (stored tables s block k) (s + l) ≡ at block l
   unfolding stored
@@ -156,33 +156,33 @@ module _ (tables : List ℕ) (s : ℕ) (block : List ℕ) where
   stored_at (suc k) l fits h = go (ℕ_discrete l k) (stored_at k l (omega arith))
     where
       go : Dec (l ≡ k) → (l < k → at (stored tables s block k) (s + l) ≡ at block l) → at (set (stored tables s block k) (s + k) (at block k)) (s + l) ≡ at block l
-      go (yes e) before = rw e (get_or-set_same (stored tables s block k) (s + k) _ 0 (omega (arith, stored-long k)))
+      go (yes e) before = rw e (get_or-set_same (stored tables s block k) (s + k) _ 0 (omega (arith, stored_long k)))
       go (no e) before = get_or-set_other (stored tables s block k) (s + k) (s + l) _ 0 (λ q. e (omega arith)) ∙ before (omega arith)
 
-pub sums-stored : (tables sums after : List ℕ) (s p q : ℕ) → sums ≡ tabulate 40 (blockSum tables (s - p) (s - q)) → after ≡ stored tables s sums 40 → after ≡ withSums tables s p q
-unfolding withSums
-sums-stored tables sums after s p q es ea = rw (← es) ea
+pub sums_stored : (tables sums after : List ℕ) (s p q : ℕ) → sums ≡ tabulate 40 (block_sum tables (s - p) (s - q)) → after ≡ stored tables s sums 40 → after ≡ with_sums tables s p q
+unfolding with_sums
+sums_stored tables sums after s p q es ea = rw (← es) ea
 
 -- the first m entries of table d are there, and whole blocks are left
 pub record TableBlocks (before : List ℕ) (d m : ℕ) (tables : List ℕ) : Type 0 where
   pub least : 167 ≤ m
   pub within : m ≤ 2087
   pub whole : m % 40 ≡ 7
-  pub filled : TableFilled powersB before d m tables
+  pub filled : TableFilled powers_b before d m tables
 
 module _ (before : List ℕ) (d m : ℕ) (tables : List ℕ) (so_far : TableBlocks before d m tables) where
-  pub blocks-next : (p q : ℕ) (after : List ℕ) → length before ≡ 18784 → 0 < d → d ≤ 8 → m < 2087 → p ≡ at near d → q ≡ at far d →
-      after ≡ withSums tables (2087 * d + m) p q → TableBlocks before d (m + 40) after
-  unfolding withSums blockSum
-  blocks-next p q after size pos most h ep eq ea = rw ea (
+  pub blocks_next : (p q : ℕ) (after : List ℕ) → length before ≡ 18784 → 0 < d → d ≤ 8 → m < 2087 → p ≡ at near d → q ≡ at far d →
+      after ≡ with_sums tables (2087 * d + m) p q → TableBlocks before d (m + 40) after
+  unfolding with_sums block_sum
+  blocks_next p q after size pos most h ep eq ea = rw ea (
       record {
         least = omega (arith, so_far.least);
         within = fits;
         whole = omega (arith, so_far.whole);
         filled =
             record {
-              long = stored-long tables s block 40 ∙ so_far.filled.long;
-              other = λ i b. stored-before tables s block 40 i (omega arith) ∙ so_far.filled.other i b;
+              long = stored_long tables s block 40 ∙ so_far.filled.long;
+              other = λ i b. stored_before tables s block 40 i (omega arith) ∙ so_far.filled.other i b;
               done = λ l b. go l b (dec_lt l m);
             };
       })
@@ -191,59 +191,59 @@ module _ (before : List ℕ) (d m : ℕ) (tables : List ℕ) (so_far : TableBloc
       s = 2087 * d + m
 
       block : List ℕ
-      block = tabulate 40 (blockSum tables (s - p) (s - q))
+      block = tabulate 40 (block_sum tables (s - p) (s - q))
 
       fits : m + 40 ≤ 2087
       fits = omega (arith, so_far.whole)
 
-      entry : (l k : ℕ) → k < m → l ≡ 2087 * d + k → at tables l ≡ tablePower powersB ((2047 - d) * k)
+      entry : (l k : ℕ) → k < m → l ≡ 2087 * d + k → at tables l ≡ table_power powers_b ((2047 - d) * k)
       entry l k b e = rw e (so_far.filled.done k b)
 
       -- entry m + j is the sum of two before
-      new : (j : ℕ) → j < 40 → at (stored tables s block 40) (s + j) ≡ tablePower powersB ((2047 - d) * (m + j))
+      new : (j : ℕ) → j < 40 → at (stored tables s block 40) (s + j) ≡ table_power powers_b ((2047 - d) * (m + j))
       new j b =
-          let gap : 40 ≤ p = rw ep (near-least d most) in
-          let more : p < q = rw (ep, eq) (far-more d most) in
-          let short : q ≤ 167 = rw eq (far-most d) in
+          let gap : 40 ≤ p = rw ep (near_least d most) in
+          let more : p < q = rw (ep, eq) (far_more d most) in
+          let short : q ≤ 167 = rw eq (far_most d) in
           let lo : 167 ≤ m = so_far.least in
           stored_at tables s block 40 j (omega (arith, fits, so_far.filled.long)) b
-          ∙ tabulate-at 40 (blockSum tables (s - p) (s - q)) j 0 b
+          ∙ tabulate_at 40 (block_sum tables (s - p) (s - q)) j 0 b
           ∙ ap₂ xor (entry (s - p + j) (m + j - p) (omega arith) (omega arith)) (entry (s - q + j) (m + j - q) (omega arith) (omega arith))
-          ∙ rw (ep, eq) (sym (table-sum d (m + j) pos most (omega (arith, eq))))
+          ∙ rw (ep, eq) (sym (table_sum d (m + j) pos most (omega (arith, eq))))
 
-      go : (l : ℕ) → l < m + 40 → Dec (l < m) → at (stored tables s block 40) (2087 * d + l) ≡ tablePower powersB ((2047 - d) * l)
-      go l b (yes c) = stored-before tables s block 40 (2087 * d + l) (omega arith) ∙ so_far.filled.done l c
+      go : (l : ℕ) → l < m + 40 → Dec (l < m) → at (stored tables s block 40) (2087 * d + l) ≡ table_power powers_b ((2047 - d) * l)
+      go l b (yes c) = stored_before tables s block 40 (2087 * d + l) (omega arith) ∙ so_far.filled.done l c
       go l b (no c) =
           let e : 2087 * d + l ≡ s + (l - m) = omega arith in
           let f : m + (l - m) ≡ l = omega arith in
-          ap (at (stored tables s block 40)) e ∙ new (l - m) (omega arith) ∙ ap (λ (k : ℕ). tablePower powersB ((2047 - d) * k)) f
+          ap (at (stored tables s block 40)) e ∙ new (l - m) (omega arith) ∙ ap (λ (k : ℕ). table_power powers_b ((2047 - d) * k)) f
 
-  pub blocks_end : 2087 ≤ m → TableFilled powersB before d 2087 tables
+  pub blocks_end : 2087 ≤ m → TableFilled powers_b before d 2087 tables
   blocks_end h = let q : m ≡ 2087 = omega (arith, so_far.within) in rw q at so_far.filled
 
-pub blocks-none : {before : List ℕ} {d : ℕ} → TableFilled powersB before d 167 before → TableBlocks before d 167 before
-blocks-none F = record { least = lit≤ tt; within = lit≤ tt; whole = refl; filled = F }
+pub blocks_none : {before : List ℕ} {d : ℕ} → TableFilled powers_b before d 167 before → TableBlocks before d 167 before
+blocks_none F = record { least = lit≤ tt; within = lit≤ tt; whole = refl; filled = F }
 
 -- ---- a table that is filled
 
-module _ (es before started tables : List ℕ) (d : ℕ) (exp : es ≡ powersB) (start : TableFilled es before d 167 started) where
-  pub started-whole : TableFilled powersB started d 167 started
-  started-whole = record { long = refl; other = λ i h. refl; done = rw exp at start.done }
+module _ (es before started tables : List ℕ) (d : ℕ) (exp : es ≡ powers_b) (start : TableFilled es before d 167 started) where
+  pub started_whole : TableFilled powers_b started d 167 started
+  started_whole = record { long = refl; other = λ i h. refl; done = rw exp at start.done }
 
-  pub table-long : TableFilled powersB started d 2087 tables → length tables ≡ length before
-  table-long rest = rest.long ∙ start.long
+  pub table_long : TableFilled powers_b started d 2087 tables → length tables ≡ length before
+  table_long rest = rest.long ∙ start.long
 
-  module _ (tables-are : PowerTables es before) (most : d ≤ 8) (next : d ≡ at before 18783 + 1) (rest : TableFilled powersB started d 2087 tables) where
-    pub table-count : at (set tables 18783 d) 18783 ≡ d
-    table-count = get_or-set_same tables 18783 d 0 (omega (arith, start.long, rest.long, tables-are.long))
+  module _ (tables_are : PowerTables es before) (most : d ≤ 8) (next : d ≡ at before 18783 + 1) (rest : TableFilled powers_b started d 2087 tables) where
+    pub table_count : at (set tables 18783 d) 18783 ≡ d
+    table_count = get_or-set_same tables 18783 d 0 (omega (arith, start.long, rest.long, tables_are.long))
 
-    pub table-end : PowerTables es (set tables 18783 d)
-    table-end =
+    pub table_end : PowerTables es (set tables 18783 d)
+    table_end =
         record {
-          long = length-set tables 18783 d ∙ rest.long ∙ start.long ∙ tables-are.long;
-          zeros = λ i l. other i (omega arith) (omega arith) ∙ tables-are.zeros i l;
-          few = rw table-count most;
-          powers = λ f i pos l b. go f i pos (omega (arith, table-count)) b (ℕ_discrete f d);
+          long = length-set tables 18783 d ∙ rest.long ∙ start.long ∙ tables_are.long;
+          zeros = λ i l. other i (omega arith) (omega arith) ∙ tables_are.zeros i l;
+          few = rw table_count most;
+          powers = λ f i pos l b. go f i pos (omega (arith, table_count)) b (ℕ_discrete f d);
         }
       where
         same : (i : ℕ) → ¬ (i ≡ 18783) → at (set tables 18783 d) i ≡ at tables i
@@ -252,101 +252,101 @@ module _ (es before started tables : List ℕ) (d : ℕ) (exp : es ≡ powersB) 
         other : (i : ℕ) → i < 18783 → i < 2087 * d → at (set tables 18783 d) i ≡ at before i
         other i l h = same i (λ q. omega arith) ∙ rest.other i h ∙ start.other i h
 
-        go : (f i : ℕ) → 0 < f → f ≤ d → i < 2087 → Dec (f ≡ d) → at (set tables 18783 d) (2087 * f + i) ≡ tablePower es ((2047 - f) * i)
+        go : (f i : ℕ) → 0 < f → f ≤ d → i < 2087 → Dec (f ≡ d) → at (set tables 18783 d) (2087 * f + i) ≡ table_power es ((2047 - f) * i)
         go f i pos l b (yes q) = rw (q, exp) (same (2087 * d + i) (λ e. omega arith) ∙ rest.done i b)
-        go f i pos l b (no q) = other (2087 * f + i) (omega arith) (omega arith) ∙ tables-are.powers f i pos (omega arith) b
+        go f i pos l b (no q) = other (2087 * f + i) (omega arith) (omega arith) ∙ tables_are.powers f i pos (omega arith) b
 
 -- ---- where the terms' values stand
 
-pub reciprocal-lt : (d : ℕ) → at reciprocals d < 2047
+pub reciprocal_lt : (d : ℕ) → at reciprocals d < 2047
 unfolding reciprocals all_below every
-reciprocal-lt d = below_at 2047 reciprocals (lit< tt) refl d
+reciprocal_lt d = below_at 2047 reciprocals (lit< tt) refl d
 
-pub multiplied-most : (e r : ℕ) → e ≤ 2047 → r < 2047 → e * r ≤ 4190209
-multiplied-most e r he hr = mul-le-mul he (let h : r ≤ 2047 = omega arith in h)
+pub multiplied_most : (e r : ℕ) → e ≤ 2047 → r < 2047 → e * r ≤ 4190209
+multiplied_most e r he hr = mul-le-mul he (let h : r ≤ 2047 = omega arith in h)
 
 -- 2,048 q + r is 2,047 q + (q + r): modulo 2,047 the two parts of a number add up to it
 module _ (x : ℕ) (small : x < 4194303) where
   pub folded_fits : Fits w64 (x / 2 ^ 11 + bit_and x 2047)
   folded_fits = record { fits = rw (and_mask x 11) (omega arith) }
 
-  pub folded-is : (r : ℕ) → r ≡ wrapped 2047 (x / 2 ^ 11 + bit_and x 2047) → r ≡ x % 2047
-  folded-is r er =
+  pub folded_is : (r : ℕ) → r ≡ wrapped 2047 (x / 2 ^ 11 + bit_and x 2047) → r ≡ x % 2047
+  folded_is r er =
       let twice : x / 2048 + x % 2048 < 2047 + 2047 = omega arith in
       let whole : x / 2048 + x % 2048 + 2047 * (x / 2048) ≡ x = omega arith in
-      er ∙ rw (and_mask x 11) (wrapped-modulo 2047 (x / 2048 + x % 2048) twice)
+      er ∙ rw (and_mask x 11) (wrapped_modulo 2047 (x / 2048 + x % 2048) twice)
       ∙ sym (add-mul-mod_self_left (x / 2048 + x % 2048) 2047 (x / 2048)) ∙ ap (λ (u : ℕ). u % 2047) whole
 
 module _ (c d : ℕ) where
-  pub base-zero : c ≡ 0 → 0 ≡ tableBase c d
-  unfolding tableBase
-  base-zero z = rw (eq-eqb c 0 z)
+  pub base_zero : c ≡ 0 → 0 ≡ table_base c d
+  unfolding table_base
+  base_zero z = rw (eq-eqb c 0 z)
 
-  pub base-table : (c ≡ 0 → ⊥) → 2087 * d ≡ tableBase c d
-  unfolding tableBase
-  base-table z = rw (ne_eqb c 0 z)
+  pub base_table : (c ≡ 0 → ⊥) → 2087 * d ≡ table_base c d
+  unfolding table_base
+  base_table z = rw (ne_eqb c 0 z)
 
   module _ (ls : List ℕ) (n : ℕ) where
-    pub start-zero : c ≡ 0 → 0 ≡ tableStart ls c d n
-    unfolding tableStart
-    start-zero z = rw (eq-eqb c 0 z)
+    pub start_zero : c ≡ 0 → 0 ≡ table_start ls c d n
+    unfolding table_start
+    start_zero z = rw (eq-eqb c 0 z)
 
-    pub start-table : (c ≡ 0 → ⊥) → (l e r p : ℕ) → l ≡ at ls c → e ≡ 2047 - l → r ≡ at reciprocals d → p ≡ e * r → (s : ℕ) → s ≡ (p + (2047 + 1 - n)) % 2047 → s ≡ tableStart ls c d n
-    unfolding tableStart
-    start-table z l e r p el ee er ep s es = es ∙ rw (ne_eqb c 0 z, ep, ee, er, el)
+    pub start_table : (c ≡ 0 → ⊥) → (l e r p : ℕ) → l ≡ at ls c → e ≡ 2047 - l → r ≡ at reciprocals d → p ≡ e * r → (s : ℕ) → s ≡ (p + (2047 + 1 - n)) % 2047 → s ≡ table_start ls c d n
+    unfolding table_start
+    start_table z l e r p el ee er ep s es = es ∙ rw (ne_eqb c 0 z, ep, ee, er, el)
 
 -- the base and the start of the term of degree d + 1
-unfoldable pub termBase : List ℕ → ℕ → ℕ
-termBase v d = tableBase (at v (7 - d)) (d + 1)
+unfoldable pub term_base : List ℕ → ℕ → ℕ
+term_base v d = table_base (at v (7 - d)) (d + 1)
 
-unfoldable pub termStart : List ℕ → List ℕ → ℕ → ℕ → ℕ
-termStart ls v n d = tableStart ls (at v (7 - d)) (d + 1) n
+unfoldable pub term_start : List ℕ → List ℕ → ℕ → ℕ → ℕ
+term_start ls v n d = table_start ls (at v (7 - d)) (d + 1) n
 
 module _ (v : List ℕ) (d : ℕ) where
-  pub bases-next : (bases : List ℕ) (r : ℕ) → Filled 8 (termBase v) d bases → d < 8 → r ≡ tableBase (get_or v (8 - 1 - d) 0) (d + 1) → Filled 8 (termBase v) (d + 1) (set bases d r)
-  unfolding termBase
-  bases-next bases r so_far h e = filled_next so_far h e
+  pub bases_next : (bases : List ℕ) (r : ℕ) → Filled 8 (term_base v) d bases → d < 8 → r ≡ table_base (get_or v (8 - 1 - d) 0) (d + 1) → Filled 8 (term_base v) (d + 1) (set bases d r)
+  unfolding term_base
+  bases_next bases r so_far h e = filled_next so_far h e
 
-  pub bases-end : (bases : List ℕ) → Filled 8 (termBase v) d bases → 8 ≤ d → bases ≡ tableBases v
-  unfolding termBase tableBases
-  bases-end bases so_far h = filled-end so_far h
+  pub bases_end : (bases : List ℕ) → Filled 8 (term_base v) d bases → 8 ≤ d → bases ≡ table_bases v
+  unfolding term_base table_bases
+  bases_end bases so_far h = filled_end so_far h
 
   module _ (ls : List ℕ) (n : ℕ) where
-    pub starts-next : (starts : List ℕ) (r : ℕ) → Filled 8 (termStart ls v n) d starts → d < 8 → r ≡ tableStart ls (get_or v (8 - 1 - d) 0) (d + 1) n →
-        Filled 8 (termStart ls v n) (d + 1) (set starts d r)
-    unfolding termStart
-    starts-next starts r so_far h e = filled_next so_far h e
+    pub starts_next : (starts : List ℕ) (r : ℕ) → Filled 8 (term_start ls v n) d starts → d < 8 → r ≡ table_start ls (get_or v (8 - 1 - d) 0) (d + 1) n →
+        Filled 8 (term_start ls v n) (d + 1) (set starts d r)
+    unfolding term_start
+    starts_next starts r so_far h e = filled_next so_far h e
 
-    pub starts-end : (starts : List ℕ) → Filled 8 (termStart ls v n) d starts → 8 ≤ d → starts ≡ tableStarts ls v n
-    unfolding termStart tableStarts
-    starts-end starts so_far h = filled-end so_far h
+    pub starts_end : (starts : List ℕ) → Filled 8 (term_start ls v n) d starts → 8 ≤ d → starts ≡ table_starts ls v n
+    unfolding term_start table_starts
+    starts_end starts so_far h = filled_end so_far h
 
-pub start-inside : (starts : List ℕ) (d : ℕ) → ((k : ℕ) → at starts k < 2047) → get_or starts d 0 < 2047
-start-inside starts d h = h d
+pub start_inside : (starts : List ℕ) (d : ℕ) → ((k : ℕ) → at starts k < 2047) → get_or starts d 0 < 2047
+start_inside starts d h = h d
 
 module _ (bases starts : List ℕ) (i d r : ℕ) (most : (k : ℕ) → at bases k ≤ 16696) (er : r ≡ (get_or starts d 0 + i) % 2047) where
   small : r < 2047
   small = rw er (mod-lt (get_or starts d 0 + i) (lit< tt))
 
-  pub position-small : get_or bases d 0 + r < 18446744073709551616
-  position-small = omega (arith, most d, small)
+  pub position_small : get_or bases d 0 + r < 18446744073709551616
+  position_small = omega (arith, most d, small)
 
-  pub position-is : get_or bases d 0 + r ≡ tablePosition bases starts i d
-  unfolding tablePosition
-  position-is = rw er
+  pub position_is : get_or bases d 0 + r ≡ table_position bases starts i d
+  unfolding table_position
+  position_is = rw er
 
-  pub position-fits : get_or bases d 0 + r + 40 ≤ 18784
-  position-fits = omega (arith, most d, small)
+  pub position_fits : get_or bases d 0 + r + 40 ≤ 18784
+  position_fits = omega (arith, most d, small)
 
 -- ---- the sums
 
 pub four_is : (tables : List ℕ) (a b c d l u w r : ℕ) → u ≡ xor (get_or tables (a + l) 0) (get_or tables (b + l) 0) → w ≡ xor (get_or tables (c + l) 0) (get_or tables (d + l) 0) → r ≡ xor u w →
-    r ≡ fourAt tables a b c d l
-unfolding fourAt
+    r ≡ four_at tables a b c d l
+unfolding four_at
 four_is tables a b c d l u w r eu ew er = er ∙ ap₂ xor eu ew
 
-pub eight_is : (tables : List ℕ) (a b c d e f g h l u w r : ℕ) → u ≡ fourAt tables a b c d l → w ≡ fourAt tables e f g h l → r ≡ xor u w → r ≡ eightAt tables a b c d e f g h l
-unfolding eightAt
+pub eight_is : (tables : List ℕ) (a b c d e f g h l u w r : ℕ) → u ≡ four_at tables a b c d l → w ≡ four_at tables e f g h l → r ≡ xor u w → r ≡ eight_at tables a b c d e f g h l
+unfolding eight_at
 eight_is tables a b c d e f g h l u w r eu ew er = er ∙ ap₂ xor eu ew
 
 -- if z is 0, none of f 0, .. f (l - 1) is x
@@ -354,44 +354,44 @@ pub record Unequal (f : ℕ → ℕ) (x l z : ℕ) : Type 0 where
   pub within : l ≤ 40
   pub none : z ≡ 0 → (k : ℕ) → k < l → f k ≡ x → ⊥
 
-pub unequal-none : {f : ℕ → ℕ} {x : ℕ} → Unequal f x 0 0
-unequal-none = record { within = zero-le; none = λ z k h. absurd (not-suc-le-zero h) }
+pub unequal_none : {f : ℕ → ℕ} {x : ℕ} → Unequal f x 0 0
+unequal_none = record { within = zero-le; none = λ z k h. absurd (not-suc-le-zero h) }
 
 module _ {f : ℕ → ℕ} {x l z : ℕ} (so_far : Unequal f x l z) where
-  pub unequal-next : {v r : ℕ} → l < 40 → v ≡ f l → (r ≡ 0 → (z ≡ 0) × (v ≡ x → ⊥)) → Unequal f x (l + 1) r
-  unequal-next {v} {r} h e n = record { within = omega arith; none = λ q k b. go q k b (ℕ_discrete k l) }
+  pub unequal_next : {v r : ℕ} → l < 40 → v ≡ f l → (r ≡ 0 → (z ≡ 0) × (v ≡ x → ⊥)) → Unequal f x (l + 1) r
+  unequal_next {v} {r} h e n = record { within = omega arith; none = λ q k b. go q k b (ℕ_discrete k l) }
     where
       go : r ≡ 0 → (k : ℕ) → k < l + 1 → Dec (k ≡ l) → f k ≡ x → ⊥
       go q k b (yes s) t = (n q).1 (e ∙ ap f (sym s) ∙ t)
       go q k b (no s) t = so_far.none (n q).0 k (omega arith) t
 
-  pub unequal-end : 40 ≤ l → z ≡ 0 → (k : ℕ) → k < 40 → f k ≡ x → ⊥
-  unequal-end h q k b = so_far.none q k (omega arith)
+  pub unequal_end : 40 ≤ l → z ≡ 0 → (k : ℕ) → k < 40 → f k ≡ x → ⊥
+  unequal_end h q k b = so_far.none q k (omega arith)
 
 -- ---- the places that are kept
 
-pub kept-few : (i : ℕ) (p : Places) → p.count ≤ 8 → (kept i p).count ≤ 8
+pub kept_few : (i : ℕ) (p : Places) → p.count ≤ 8 → (kept i p).count ≤ 8
 unfolding kept
-kept-few i p h = go (ltb p.count 8) refl
+kept_few i p h = go (ltb p.count 8) refl
   where
     go : (b : Bool) → ltb p.count 8 ≡ b → (cond b (record { at = set p.at p.count i; count = p.count + 1 }) p).count ≤ 8
     go true e = omega (arith, ltb-true p.count 8 e)
     go false e = h
 
 module _ (p : Places) (v x i : ℕ) where
-  pub keep-here : (r : Places) → v ≡ x → r ≡ kept i p → r ≡ cond (eqb v x) (kept i p) p
-  keep-here r e er = rw (eq-eqb v x e) er
+  pub keep_here : (r : Places) → v ≡ x → r ≡ kept i p → r ≡ cond (eqb v x) (kept i p) p
+  keep_here r e er = rw (eq-eqb v x e) er
 
-  pub keep-few : (r : Places) → r ≡ kept i p → p.count ≤ 8 → r.count ≤ 8
-  keep-few r er few = rw er (kept-few i p few)
+  pub keep_few : (r : Places) → r ≡ kept i p → p.count ≤ 8 → r.count ≤ 8
+  keep_few r er few = rw er (kept_few i p few)
 
-  pub keep-not : (v ≡ x → ⊥) → p ≡ cond (eqb v x) (kept i p) p
-  keep-not n = rw (ne_eqb v x n)
+  pub keep_not : (v ≡ x → ⊥) → p ≡ cond (eqb v x) (kept i p) p
+  keep_not n = rw (ne_eqb v x n)
 
 module _ (f : ℕ → ℕ) (x i : ℕ) (p₀ : Places) where
-  pub kept-none : p₀ ≡ kept_to f x i p₀ 0
+  pub kept_none : p₀ ≡ kept_to f x i p₀ 0
   unfolding kept_to
-  kept-none = refl
+  kept_none = refl
 
   -- nothing is kept where f is never x
   kept_same : (l : ℕ) → ((k : ℕ) → k < l → f k ≡ x → ⊥) → p₀ ≡ kept_to f x i p₀ l
@@ -404,27 +404,27 @@ module _ (f : ℕ → ℕ) (x i : ℕ) (p₀ : Places) where
     unfolding kept_to
     kept_next v r ev er = rw (add-one, ← so_far, ← ev) er
 
-    pub kept-end : l ≤ 40 → 40 ≤ l → p ≡ kept_to f x i p₀ 40
-    kept-end lo hi = let q : l ≡ 40 = omega arith in rw q at so_far
+    pub kept_end : l ≤ 40 → 40 ≤ l → p ≡ kept_to f x i p₀ 40
+    kept_end lo hi = let q : l ≡ 40 = omega arith in rw q at so_far
 
 -- a block, by the positions of its tables
-module _ (tables bases starts : List ℕ) (x i a b c d e f g h : ℕ) (p : Places) (ea : a ≡ tablePosition bases starts i 0) (eb : b ≡ tablePosition bases starts i 1)
-    (ec : c ≡ tablePosition bases starts i 2) (ed : d ≡ tablePosition bases starts i 3) (ee : e ≡ tablePosition bases starts i 4) (ef : f ≡ tablePosition bases starts i 5)
-    (eg : g ≡ tablePosition bases starts i 6) (eh : h ≡ tablePosition bases starts i 7) where
-  by-tables : eightAt tables a b c d e f g h ≡ tablesSum tables bases starts i
-  unfolding tablesSum
-  by-tables = rw (ea, eb, ec, ed, ee, ef, eg, eh)
+module _ (tables bases starts : List ℕ) (x i a b c d e f g h : ℕ) (p : Places) (ea : a ≡ table_position bases starts i 0) (eb : b ≡ table_position bases starts i 1)
+    (ec : c ≡ table_position bases starts i 2) (ed : d ≡ table_position bases starts i 3) (ee : e ≡ table_position bases starts i 4) (ef : f ≡ table_position bases starts i 5)
+    (eg : g ≡ table_position bases starts i 6) (eh : h ≡ table_position bases starts i 7) where
+  by_tables : eight_at tables a b c d e f g h ≡ tables_sum tables bases starts i
+  unfolding tables_sum
+  by_tables = rw (ea, eb, ec, ed, ee, ef, eg, eh)
 
-  pub block-some : (r : Places) → r ≡ kept_to (eightAt tables a b c d e f g h) x i p 40 → r ≡ kept_to (tablesSum tables bases starts i) x i p 40
-  block-some r er = er ∙ ap (λ (s : ℕ → ℕ). kept_to s x i p 40) by-tables
+  pub block_some : (r : Places) → r ≡ kept_to (eight_at tables a b c d e f g h) x i p 40 → r ≡ kept_to (tables_sum tables bases starts i) x i p 40
+  block_some r er = er ∙ ap (λ (s : ℕ → ℕ). kept_to s x i p 40) by_tables
 
-  pub block_none : (z : ℕ) → z ≡ 0 → (z ≡ 0 → (l : ℕ) → l < 40 → eightAt tables a b c d e f g h l ≡ x → ⊥) → p ≡ kept_to (tablesSum tables bases starts i) x i p 40
-  block_none z q n = block-some p (kept_same (eightAt tables a b c d e f g h) x i p 40 (n q))
+  pub block_none : (z : ℕ) → z ≡ 0 → (z ≡ 0 → (l : ℕ) → l < 40 → eight_at tables a b c d e f g h l ≡ x → ⊥) → p ≡ kept_to (tables_sum tables bases starts i) x i p 40
+  block_none z q n = block_some p (kept_same (eight_at tables a b c d e f g h) x i p 40 (n q))
 
 -- the tables of the terms lie within the buffer
-pub bases-most : (v bases : List ℕ) → bases ≡ tableBases v → (k : ℕ) → at bases k ≤ 16696
-unfolding tableBases tableBase
-bases-most v bases e k = rw e (go (dec_lt k 8))
+pub bases_most : (v bases : List ℕ) → bases ≡ table_bases v → (k : ℕ) → at bases k ≤ 16696
+unfolding table_bases table_base
+bases_most v bases e k = rw e (go (dec_lt k 8))
   where
     pick : (b : Bool) (d : ℕ) → d ≤ 8 → cond b 0 (2087 * d) ≤ 16696
     pick true d h = zero-le
@@ -434,12 +434,12 @@ bases-most v bases e k = rw e (go (dec_lt k 8))
     f d = cond (eqb (at v (7 - d)) 0) 0 (2087 * (d + 1))
 
     go : Dec (k < 8) → at (tabulate 8 f) k ≤ 16696
-    go (yes h) = rw (tabulate-at 8 f k 0 h) (pick (eqb (at v (7 - k)) 0) (k + 1) (omega arith))
-    go (no h) = rw (sym (past (tabulate 8 f) k (rw (tabulate-length 8 f) (omega arith)))) zero-le
+    go (yes h) = rw (tabulate_at 8 f k 0 h) (pick (eqb (at v (7 - k)) 0) (k + 1) (omega arith))
+    go (no h) = rw (sym (past (tabulate 8 f) k (rw (tabulate_length 8 f) (omega arith)))) zero-le
 
-pub starts-most : (ls v starts : List ℕ) (n : ℕ) → starts ≡ tableStarts ls v n → (k : ℕ) → at starts k < 2047
-unfolding tableStarts tableStart
-starts-most ls v starts n e k = rw e (tabulate-lt 2047 8 _ (lit< tt) (λ d. pick (eqb (at v (7 - d)) 0) _) k)
+pub starts_most : (ls v starts : List ℕ) (n : ℕ) → starts ≡ table_starts ls v n → (k : ℕ) → at starts k < 2047
+unfolding table_starts table_start
+starts_most ls v starts n e k = rw e (tabulate_lt 2047 8 _ (lit< tt) (λ d. pick (eqb (at v (7 - d)) 0) _) k)
   where
     pick : (b : Bool) (y : ℕ) → cond b 0 (y % 2047) < 2047
     pick true y = lit< tt

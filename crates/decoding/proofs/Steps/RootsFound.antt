@@ -12,38 +12,38 @@ use lib.Dec.{ltb}
 use lib.ListN.{length, get_or, set, length-set}
 use lib.Seq.{get_or-set_same, get_or-set_other}
 use Rattle.fields.specs.Elements.{xor}
-use Rattle.fields.specs.Steps.ByTables.{tableProduct}
+use Rattle.fields.specs.Steps.ByTables.{table_product}
 use Rattle.fields.specs.Places.{at, horner}
-use Rattle.fields.proofs.Lists.{tabulate-length}
-use Rattle.fields.proofs.Places.Filling.{Filled, filled-end}
+use Rattle.fields.proofs.Lists.{tabulate_length}
+use Rattle.fields.proofs.Places.Filling.{Filled, filled_end}
 use Rattle.decoding.specs.declared.root_search.Places.{Places}
-use Rattle.decoding.specs.Steps.ByTables.{tableValue}
+use Rattle.decoding.specs.Steps.ByTables.{table_value}
 use Rattle.decoding.specs.Steps.Decoder.{Tables, locator}
-use Rattle.decoding.specs.Steps.RootSearch.{rootPlaces, backwards, kept, Roots, RootAt, FirstRoot, quotient_of}
-use Rattle.decoding.proofs.Decoding.Search.{quotient-in, root-stays, root-was}
+use Rattle.decoding.specs.Steps.RootSearch.{root_places, backwards, kept, Roots, RootAt, FirstRoot, quotient_of}
+use Rattle.decoding.proofs.Decoding.Search.{quotient_in, root_stays, root_was}
 
 -- ---- the quotient
 
 -- the value at r of the first k coefficients
-unfoldable pub valueOfFirst : List ℕ → List ℕ → List ℕ → ℕ → ℕ → ℕ
-valueOfFirst es ls v r k = horner (λ u. tableProduct es ls u r) (at v) k
+unfoldable pub value_of_first : List ℕ → List ℕ → List ℕ → ℕ → ℕ → ℕ
+value_of_first es ls v r k = horner (λ u. table_product es ls u r) (at v) k
 
 module _ (es ls v : List ℕ) (r : ℕ) where
-  pub first-none : 0 ≡ valueOfFirst es ls v r 0
-  unfolding valueOfFirst horner
-  first-none = refl
+  pub first_none : 0 ≡ value_of_first es ls v r 0
+  unfolding value_of_first horner
+  first_none = refl
 
-  pub first_next : (k u p w : ℕ) → u ≡ valueOfFirst es ls v r k → p ≡ tableProduct es ls u r → w ≡ xor p (get_or v k 0) → w ≡ valueOfFirst es ls v r (k + 1)
-  unfolding valueOfFirst horner
+  pub first_next : (k u p w : ℕ) → u ≡ value_of_first es ls v r k → p ≡ table_product es ls u r → w ≡ xor p (get_or v k 0) → w ≡ value_of_first es ls v r (k + 1)
+  unfolding value_of_first horner
   first_next k u p w eu ep ew = rw (add-one, ← eu, ← ep) ew
 
-  quotient-long : length (quotient_of es ls v r) ≡ 9
+  quotient_long : length (quotient_of es ls v r) ≡ 9
   unfolding quotient_of
-  quotient-long = tabulate-length 9 _
+  quotient_long = tabulate_length 9 _
 
-  pub quotient-end : (k : ℕ) (c : List ℕ) → Filled 9 (valueOfFirst es ls v r) k c → 9 ≤ k → c ≡ quotient_of es ls v r
-  unfolding valueOfFirst quotient_of
-  quotient-end k c F h = filled-end F h
+  pub quotient_end : (k : ℕ) (c : List ℕ) → Filled 9 (value_of_first es ls v r) k c → 9 ≤ k → c ≡ quotient_of es ls v r
+  unfolding value_of_first quotient_of
+  quotient_end k c F h = filled_end F h
 
 -- ---- the roots
 
@@ -56,33 +56,33 @@ module _ (i : ℕ) (p : Places) where
   unfolding kept
   kept_new h = rw (lt-ltb p.count 8 h)
 
-  pub kept-long : length p.at ≡ 8 → length (kept i p).at ≡ 8
+  pub kept_long : length p.at ≡ 8 → length (kept i p).at ≡ 8
   unfolding kept
-  kept-long long = go (ltb p.count 8)
+  kept_long long = go (ltb p.count 8)
     where
       go : (b : Bool) → length (cond b (record { at = set p.at p.count i; count = p.count + 1 }) p).at ≡ 8
       go false = long
       go true = length-set p.at p.count i ∙ long
 
 -- the first k entries, backwards: how many, and what a later one that is stored changes in them
-backwards-length : (l : List ℕ) (k : ℕ) → length (backwards l k) ≡ k
+backwards_length : (l : List ℕ) (k : ℕ) → length (backwards l k) ≡ k
 unfolding backwards
-backwards-length l zero = refl
-backwards-length l (suc k) = ap suc (backwards-length l k)
+backwards_length l zero = refl
+backwards_length l (suc k) = ap suc (backwards_length l k)
 
-backwards-set : (l : List ℕ) (c i k : ℕ) → k ≤ c → backwards (set l c i) k ≡ backwards l k
+backwards_set : (l : List ℕ) (c i k : ℕ) → k ≤ c → backwards (set l c i) k ≡ backwards l k
 unfolding backwards
-backwards-set l c i zero h = refl
-backwards-set l c i (suc k) h = ap₂ (λ (a : ℕ) (r : List ℕ). a ∷ r) (get_or-set_other l c k i 0 (λ e. omega arith)) (backwards-set l c i k (omega arith))
+backwards_set l c i zero h = refl
+backwards_set l c i (suc k) h = ap₂ (λ (a : ℕ) (r : List ℕ). a ∷ r) (get_or-set_other l c k i 0 (λ e. omega arith)) (backwards_set l c i k (omega arith))
 
-pub roots-none : (es ls v : List ℕ) (n : ℕ) (places : List ℕ) → Roots es ls v n 0 places 0
-unfolding backwards rootPlaces
-roots-none es ls v n places =
+pub roots_none : (es ls v : List ℕ) (n : ℕ) (places : List ℕ) → Roots es ls v n 0 places 0
+unfolding backwards root_places
+roots_none es ls v n places =
     record { few = omega arith; below = λ k h. absurd (not-suc-le-zero h); ascending = λ k l h b. absurd (not-suc-le-zero b); all = λ h. refl }
 
 module _ (es ls v : List ℕ) (n i : ℕ) (p : Places) (so_far : Roots es ls v n i p.at p.count) where
   -- nothing is kept, and the roots are the same unless there are more than eight
-  stays : (length (rootPlaces es ls v n (suc i)) ≤ 8 → rootPlaces es ls v n (suc i) ≡ rootPlaces es ls v n i) → Roots es ls v n (suc i) p.at p.count
+  stays : (length (root_places es ls v n (suc i)) ≤ 8 → root_places es ls v n (suc i) ≡ root_places es ls v n i) → Roots es ls v n (suc i) p.at p.count
   stays h =
       record {
         few = so_far.few;
@@ -92,7 +92,7 @@ module _ (es ls v : List ℕ) (n i : ℕ) (p : Places) (so_far : Roots es ls v n
       }
 
   -- place i is kept
-  grows : length p.at ≡ 8 → p.count < 8 → rootPlaces es ls v n (suc i) ≡ i ∷ rootPlaces es ls v n i →
+  grows : length p.at ≡ 8 → p.count < 8 → root_places es ls v n (suc i) ≡ i ∷ root_places es ls v n i →
       Roots es ls v n (suc i) (set p.at p.count i) (p.count + 1)
   unfolding backwards
   grows long room e =
@@ -100,7 +100,7 @@ module _ (es ls v : List ℕ) (n i : ℕ) (p : Places) (so_far : Roots es ls v n
         few = omega arith;
         below = λ k h. below' k h (dec_lt k p.count);
         ascending = λ k l h b. ascending' k l h b (dec_lt l p.count);
-        all = λ h. rw (add-one, last, backwards-set p.at p.count i p.count (le_refl p.count), e)
+        all = λ h. rw (add-one, last, backwards_set p.at p.count i p.count (le_refl p.count), e)
             (ap (λ (r : List ℕ). i ∷ r) (so_far.all (omega (arith, rw e at h))));
       }
     where
@@ -125,27 +125,27 @@ module _ (es ls v : List ℕ) (n i : ℕ) (p : Places) (so_far : Roots es ls v n
       ascending' k l h b (no y) = rw (before k (omega arith), after l b y) (so_far.below k (omega arith))
 
   pub roots_kept : length p.at ≡ 8 → RootAt es ls v n i → Roots es ls v n (suc i) (kept i p).at (kept i p).count
-  unfolding rootPlaces
+  unfolding root_places
   roots_kept long z = go (dec_lt p.count 8)
     where
       go : Dec (p.count < 8) → Roots es ls v n (suc i) (kept i p).at (kept i p).count
       go (yes room) = rw (← kept_new i p room) (grows long room (rw (eq-eqb _ 0 z)))
       go (no full) =
           rw (← kept_full i p (omega arith)) (stays (λ h. absurd (
-          let b : suc (length (rootPlaces es ls v n i)) ≤ 8 = rw (eq-eqb (tableValue es ls v (locator es n i)) 0 z) at h in
-          omega (arith, backwards-length p.at p.count, ap length (so_far.all (omega arith))))))
+          let b : suc (length (root_places es ls v n i)) ≤ 8 = rw (eq-eqb (table_value es ls v (locator es n i)) 0 z) at h in
+          omega (arith, backwards_length p.at p.count, ap length (so_far.all (omega arith))))))
 
-  pub roots-other : ¬ RootAt es ls v n i → Roots es ls v n (suc i) p.at p.count
-  unfolding rootPlaces
-  roots-other z = stays (λ h. rw (ne_eqb (tableValue es ls v (locator es n i)) 0 z))
+  pub roots_other : ¬ RootAt es ls v n i → Roots es ls v n (suc i) p.at p.count
+  unfolding root_places
+  roots_other z = stays (λ h. rw (ne_eqb (table_value es ls v (locator es n i)) 0 z))
 
 -- places that are no roots are passed
-roots-pass : (es ls v : List ℕ) (n i : ℕ) (p : Places) → Roots es ls v n i p.at p.count → (d : ℕ) →
+roots_pass : (es ls v : List ℕ) (n i : ℕ) (p : Places) → Roots es ls v n i p.at p.count → (d : ℕ) →
     ((k : ℕ) → i ≤ k → k < i + d → ¬ RootAt es ls v n k) → Roots es ls v n (i + d) p.at p.count
-roots-pass es ls v n i p R zero none = let q : i + 0 ≡ i = omega arith in rw q R
-roots-pass es ls v n i p R (suc d) none =
+roots_pass es ls v n i p R zero none = let q : i + 0 ≡ i = omega arith in rw q R
+roots_pass es ls v n i p R (suc d) none =
     let q : i + suc d ≡ suc (i + d) = omega arith in
-    rw q (roots-other es ls v n (i + d) p (roots-pass es ls v n i p R d (λ k lo hi. none k lo (omega arith))) (none (i + d) (omega arith) (omega arith)))
+    rw q (roots_other es ls v n (i + d) p (roots_pass es ls v n i p R d (λ k lo hi. none k lo (omega arith))) (none (i + d) (omega arith) (omega arith)))
 
 -- where the search stands: the roots of v before i are kept, i is the next one or n, and from there on w, a quotient of v, has the same roots
 pub record Searching (es ls v : List ℕ) (n i : ℕ) (p : Places) (w : List ℕ) : Type 0 where
@@ -157,12 +157,12 @@ pub record Searching (es ls v : List ℕ) (n i : ℕ) (p : Places) (w : List ℕ
   pub stay : (k : ℕ) → i ≤ k → k < n → RootAt es ls v n k → RootAt es ls w n k
   pub were : (k : ℕ) → i ≤ k → k < n → RootAt es ls w n k → RootAt es ls v n k
 
-pub search-none : (es ls v : List ℕ) (n i : ℕ) (places : List ℕ) → length places ≡ 8 → length v ≡ 9 → ((k : ℕ) → at v k < length ls) → FirstRoot es ls v n 0 i →
+pub search_none : (es ls v : List ℕ) (n i : ℕ) (places : List ℕ) → length places ≡ 8 → length v ≡ 9 → ((k : ℕ) → at v k < length ls) → FirstRoot es ls v n 0 i →
     Searching es ls v n i (record { at = places; count = 0 }) v
-search-none es ls v n i places eight nine elements F =
+search_none es ls v n i places eight nine elements F =
     record {
       most = F.most;
-      found = rw zero-add at (roots-pass es ls v n 0 (record { at = places; count = 0 }) (roots-none es ls v n places) i (λ k lo hi. F.before k lo (omega arith)));
+      found = rw zero-add at (roots_pass es ls v n 0 (record { at = places; count = 0 }) (roots_none es ls v n places) i (λ k lo hi. F.before k lo (omega arith)));
       long = (eight, nine);
       elements = elements;
       here = F.here;
@@ -171,21 +171,21 @@ search-none es ls v n i places eight nine elements F =
     }
 
 module _ (es ls v : List ℕ) (n i : ℕ) (p : Places) (w : List ℕ) (S : Searching es ls v n i p w) where
-  pub search-elements : Tables es ls → (x : ℕ) (u : List ℕ) → u ≡ quotient_of es ls w x → (k : ℕ) → at u k < length ls
-  search-elements T x u e k = rw e (quotient-in es ls T n w S.elements S.long.1 x k)
+  pub search_elements : Tables es ls → (x : ℕ) (u : List ℕ) → u ≡ quotient_of es ls w x → (k : ℕ) → at u k < length ls
+  search_elements T x u e k = rw e (quotient_in es ls T n w S.elements S.long.1 x k)
 
-  pub search-next : Tables es ls → n ≤ length es → i < n → (q : Places) (x : ℕ) (u : List ℕ) (r : ℕ) → q ≡ kept i p → x ≡ locator es n i → u ≡ quotient_of es ls w x →
+  pub search_next : Tables es ls → n ≤ length es → i < n → (q : Places) (x : ℕ) (u : List ℕ) (r : ℕ) → q ≡ kept i p → x ≡ locator es n i → u ≡ quotient_of es ls w x →
       FirstRoot es ls u n (i + 1) r → Searching es ls v n r q u
-  search-next T fits h q x u r eq ex eu F =
+  search_next T fits h q x u r eq ex eu F =
       rw (eq, eu, ex) (record {
         most = F.most;
-        found = rw passed at (roots-pass es ls v n (suc i) (kept i p) (roots_kept es ls v n i p S.found S.long.0 (S.were i (le_refl i) h root)) (r - suc i)
+        found = rw passed at (roots_pass es ls v n (suc i) (kept i p) (roots_kept es ls v n i p S.found S.long.0 (S.were i (le_refl i) h root)) (r - suc i)
             (λ k lo hi z. first.before k (omega arith) (omega arith) (still k (omega arith) (omega (arith, F.most)) z)));
-        long = (kept-long i p S.long.0, quotient-long es ls w (locator es n i));
-        elements = quotient-in es ls T n w S.elements S.long.1 (locator es n i);
+        long = (kept_long i p S.long.0, quotient_long es ls w (locator es n i));
+        elements = quotient_in es ls T n w S.elements S.long.1 (locator es n i);
         here = first.here;
         stay = λ k lo hi z. still k (omega (arith, F.from)) hi z;
-        were = λ k lo hi z. S.were k (omega (arith, F.from)) hi (root-was es ls T n w S.elements S.long.1 fits i root k (omega (arith, F.from)) hi z);
+        were = λ k lo hi z. S.were k (omega (arith, F.from)) hi (root_was es ls T n w S.elements S.long.1 fits i root k (omega (arith, F.from)) hi z);
       })
     where
       root : RootAt es ls w n i
@@ -198,7 +198,7 @@ module _ (es ls v : List ℕ) (n i : ℕ) (p : Places) (w : List ℕ) (S : Searc
       passed = omega (arith, F.from)
 
       still : (k : ℕ) → i < k → k < n → RootAt es ls v n k → RootAt es ls (quotient_of es ls w (locator es n i)) n k
-      still k lo hi z = root-stays es ls T n w S.elements S.long.1 fits i root k lo hi (S.stay k (omega arith) hi z)
+      still k lo hi z = root_stays es ls T n w S.elements S.long.1 fits i root k lo hi (S.stay k (omega arith) hi z)
 
-  pub search-end : n ≤ i → Roots es ls v n n p.at p.count
-  search-end h = let e : i ≡ n = omega (arith, S.most) in rw e at S.found
+  pub search_end : n ≤ i → Roots es ls v n n p.at p.count
+  search_end h = let e : i ≡ n = omega (arith, S.most) in rw e at S.found

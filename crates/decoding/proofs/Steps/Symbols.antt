@@ -10,45 +10,45 @@ use lib.Dec.{ltb}
 use lib.ListN.{length, get_or}
 use Rattle.fields.specs.Places.{at, every, all_below}
 use Rattle.fields.specs.Steps.Buffers.{copied}
-use Rattle.fields.proofs.Places.Tests.{every-false}
-use Rattle.fields.proofs.Places.Filling.{Filled, filled-start, filled-list}
+use Rattle.fields.proofs.Places.Tests.{every_false}
+use Rattle.fields.proofs.Places.Filling.{Filled, filled_start, filled_list}
 
 -- the first i symbols are below q
-unfoldable pub belowUpTo : ℕ → List ℕ → ℕ → Bool
-belowUpTo q w i = every i (λ j. ltb (at w j) q)
+unfoldable pub below_up_to : ℕ → List ℕ → ℕ → Bool
+below_up_to q w i = every i (λ j. ltb (at w j) q)
 
-pub below_none : (q : ℕ) (w : List ℕ) → belowUpTo q w 0 ≡ true
-unfolding belowUpTo every
+pub below_none : (q : ℕ) (w : List ℕ) → below_up_to q w 0 ≡ true
+unfolding below_up_to every
 below_none q w = refl
 
 module _ (q : ℕ) (w : List ℕ) (i : ℕ) where
-  pub below-not : i < length w → q ≤ get_or w i 0 → false ≡ all_below q w
+  pub below_not : i < length w → q ≤ get_or w i 0 → false ≡ all_below q w
   unfolding all_below
-  below-not l h = sym (every-false (length w) (λ j. ltb (at w j) q) i l (le-ltb (get_or w i 0) q h))
+  below_not l h = sym (every_false (length w) (λ j. ltb (at w j) q) i l (le-ltb (get_or w i 0) q h))
 
-  module _ (so_far : belowUpTo q w i ≡ true) where
-    pub below_next : get_or w i 0 < q → belowUpTo q w (i + 1) ≡ true
-    unfolding belowUpTo every
+  module _ (so_far : below_up_to q w i ≡ true) where
+    pub below_next : get_or w i 0 < q → below_up_to q w (i + 1) ≡ true
+    unfolding below_up_to every
     below_next h = rw (add-one, so_far) (lt-ltb (get_or w i 0) q h)
 
     pub below_end : i ≤ length w → length w ≤ i → true ≡ all_below q w
-    unfolding belowUpTo all_below
+    unfolding below_up_to all_below
     below_end l h = let e : i ≡ length w = omega arith in sym (rw e at so_far)
 
 -- ---- copies
 
 module _ (w buffer : List ℕ) where
-  pub copied-not : (length buffer ≡ length w → ⊥) → buffer ≡ copied w buffer
+  pub copied_not : (length buffer ≡ length w → ⊥) → buffer ≡ copied w buffer
   unfolding copied
-  copied-not n = rw (ne_eqb (length buffer) (length w) n)
+  copied_not n = rw (ne_eqb (length buffer) (length w) n)
 
-  pub copied-same : length buffer ≡ length w → copied w buffer ≡ w
+  pub copied_same : length buffer ≡ length w → copied w buffer ≡ w
   unfolding copied
-  copied-same e = rw (eq-eqb (length buffer) (length w) e)
+  copied_same e = rw (eq-eqb (length buffer) (length w) e)
 
   -- the first i symbols are stored
-  pub copied-start : length buffer ≡ length w → Filled (length w) (at w) 0 buffer
-  copied-start e = filled-start e
+  pub copied_start : length buffer ≡ length w → Filled (length w) (at w) 0 buffer
+  copied_start e = filled_start e
 
-  pub copied-end : {i : ℕ} {out : List ℕ} → length buffer ≡ length w → Filled (length w) (at w) i out → length w ≤ i → out ≡ copied w buffer
-  copied-end e f h = filled-list refl f h ∙ sym (copied-same e)
+  pub copied_end : {i : ℕ} {out : List ℕ} → length buffer ≡ length w → Filled (length w) (at w) i out → length w ≤ i → out ≡ copied w buffer
+  copied_end e f h = filled_list refl f h ∙ sym (copied_same e)

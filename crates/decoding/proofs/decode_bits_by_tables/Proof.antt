@@ -1,6 +1,6 @@
 -- `decoding::decode_bits_by_tables` meets its contract. Assumes nothing.
 use borrow.Author.Rules.{rules}
-use Rattle.decoding.proofs.Steps.TableRoots.{order-fits}
+use Rattle.decoding.proofs.Steps.TableRoots.{order_fits}
 use Rattle.decoding.proofs.decode_bits_by_tables.Statement.{statement}
 use Rattle.decoding.proofs.decode_bits_by_tables.Tie as tie
 
@@ -11,7 +11,7 @@ roots-by-tables-requires : tie.Need-roots-by-tables-requires
 roots-by-tables-requires c κs = search rules
 
 bits-valued-requires : tie.Need-bits-valued-requires
-bits-valued-requires c κs = search (rules, order-fits)
+bits-valued-requires c κs = search (rules, order_fits)
 
 same_length : tie.Need-same-length
 same_length c = search rules

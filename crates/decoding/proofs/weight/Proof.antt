@@ -2,19 +2,19 @@
 use mathlib.Core.Path.{◌≡◌}
 use Prim.Native.Nat.{◌-◌, ◌≤◌}
 use borrow.Author.Rules.{rules}
-use Rattle.decoding.specs.Steps.Decoder.{weightBetween}
-use Rattle.decoding.proofs.Steps.Errors.{weight-none, weight-next, weight-end}
+use Rattle.decoding.specs.Steps.Decoder.{weight_between}
+use Rattle.decoding.proofs.Steps.Errors.{weight_none, weight_next, weight_end}
 use Rattle.decoding.proofs.weight.Statement.{statement}
 use Rattle.decoding.proofs.weight.Tie as tie
 
 abbrev invariant-loop : tie.invariant-loop
-invariant-loop from to e places n₀ k₀ n k = (k ≤ places.count) × (n ≤ k) × (n ≡ weightBetween from to places.at e.values k)
+invariant-loop from to e places n₀ k₀ n k = (k ≤ places.count) × (n ≤ k) × (n ≡ weight_between from to places.at e.values k)
 
 abbrev decreases-loop : tie.decreases-loop
 decreases-loop from to e places n₀ k₀ n k = places.count - k
 
 loop-holds : tie.Need-loop-init invariant-loop decreases-loop
-loop-holds c = search (rules, weight-none)
+loop-holds c = search (rules, weight_none)
 
 mul-changes : tie.Need-overflow-mul-changes invariant-loop decreases-loop
 mul-changes c = search rules
@@ -44,10 +44,10 @@ loop-less : tie.Need-loop-smaller invariant-loop decreases-loop
 loop-less c = search rules
 
 loop-again : tie.Need-loop-preserved invariant-loop decreases-loop
-loop-again c = search (rules, weight-next)
+loop-again c = search (rules, weight_next)
 
 returns : tie.Need-returns invariant-loop decreases-loop
-returns c = search (rules, weight-end)
+returns c = search (rules, weight_end)
 
 pub weight-spec : {M : Type 1} → statement M
 weight-spec =

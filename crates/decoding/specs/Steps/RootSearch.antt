@@ -1,18 +1,18 @@
 -- The places whose locators are roots of a polynomial, from place to place.
 use Rattle.std.specs.Prelude.{◌≡◌, cond, List, [], ◌∷◌, ℕ, zero, suc, ◌+◌, ◌-◌, ◌≤◌, ◌<◌, eqb, ltb, length, set, replicate}
 use Rattle.fields.specs.Lists.{tabulate}
-use Rattle.fields.specs.Steps.ByTables.{tableProduct, tablePower}
+use Rattle.fields.specs.Steps.ByTables.{table_product, table_power}
 use Rattle.fields.specs.Places.{at, horner}
 use Rattle.decoding.specs.declared.root_search.Places.{Places}
 use Rattle.decoding.specs.declared.root_search.Terms.{Terms}
-use Rattle.decoding.specs.Steps.ByTables.{tableValue}
-use Rattle.decoding.specs.Steps.Decoder.{locator, xorTo, timesPower}
+use Rattle.decoding.specs.Steps.ByTables.{table_value}
+use Rattle.decoding.specs.Steps.Decoder.{locator, xor_to, times_power}
 
 -- the places below i, of n, whose locators are roots of v; the last first
-unfoldable pub rootPlaces : List ℕ → List ℕ → List ℕ → ℕ → ℕ → List ℕ
-rootPlaces es ls v n zero = []
-rootPlaces es ls v n (suc i) =
-    cond (eqb (tableValue es ls v (locator es n i)) 0) (i ∷ rootPlaces es ls v n i) (rootPlaces es ls v n i)
+unfoldable pub root_places : List ℕ → List ℕ → List ℕ → ℕ → ℕ → List ℕ
+root_places es ls v n zero = []
+root_places es ls v n (suc i) =
+    cond (eqb (table_value es ls v (locator es n i)) 0) (i ∷ root_places es ls v n i) (root_places es ls v n i)
 
 -- the first k entries of a list, the last first
 unfoldable pub backwards : List ℕ → ℕ → List ℕ
@@ -24,21 +24,21 @@ pub record Roots (es ls v : List ℕ) (n i : ℕ) (places : List ℕ) (count : �
   pub few : count ≤ 8
   pub below : (k : ℕ) → k < count → at places k < i
   pub ascending : (k l : ℕ) → k < l → l < count → at places k < at places l
-  pub all : length (rootPlaces es ls v n i) ≤ 8 → backwards places count ≡ rootPlaces es ls v n i
+  pub all : length (root_places es ls v n i) ≤ 8 → backwards places count ≡ root_places es ls v n i
 
 -- the terms of a polynomial, with one more of exponent e, which falls by `step` from one place to the next
-abbrev pub addTerm : ℕ → ℕ → Terms → Terms
-addTerm e step t = record { exponents = set t.exponents t.count e; steps = set t.steps t.count step; count = t.count + 1 }
+abbrev pub add_term : ℕ → ℕ → Terms → Terms
+add_term e step t = record { exponents = set t.exponents t.count e; steps = set t.steps t.count step; count = t.count + 1 }
 
 -- the terms, with one more by its value, if that is not zero, and by the power of a that it loses from one place to the next
-unfoldable pub withTerm : List ℕ → ℕ → ℕ → Terms → Terms
-withTerm ls value power t = cond (eqb value 0) t (addTerm (at ls value) (at ls power) t)
+unfoldable pub with_term : List ℕ → ℕ → ℕ → Terms → Terms
+with_term ls value power t = cond (eqb value 0) t (add_term (at ls value) (at ls power) t)
 
 -- the terms of degree below k of the polynomial v at the locator x, but for those that are zero
-unfoldable pub termsTo : List ℕ → List ℕ → List ℕ → ℕ → ℕ → Terms
-termsTo es ls v x zero = record { exponents = replicate 9 0; steps = replicate 9 0; count = 0 }
-termsTo es ls v x (suc d) =
-    withTerm ls (tableProduct es ls (timesPower (tableProduct es ls) x 1 d) (at v (8 - d))) (tablePower es d) (termsTo es ls v x d)
+unfoldable pub terms_to : List ℕ → List ℕ → List ℕ → ℕ → ℕ → Terms
+terms_to es ls v x zero = record { exponents = replicate 9 0; steps = replicate 9 0; count = 0 }
+terms_to es ls v x (suc d) =
+    with_term ls (table_product es ls (times_power (table_product es ls) x 1 d) (at v (8 - d))) (table_power es d) (terms_to es ls v x d)
 
 -- the first k entries of a list are exponents that the table of powers has
 pub record Exponents (es : List ℕ) (k : ℕ) (exponents : List ℕ) : Type 0 where
@@ -46,21 +46,21 @@ pub record Exponents (es : List ℕ) (k : ℕ) (exponents : List ℕ) : Type 0 w
   pub inside : (l : ℕ) → l < k → at exponents l < length es
 
 -- the sum of the powers with the first k exponents
-unfoldable pub powersTo : List ℕ → List ℕ → ℕ → ℕ
-powersTo es exponents k = xorTo k (λ l. at es (at exponents l))
+unfoldable pub powers_to : List ℕ → List ℕ → ℕ → ℕ
+powers_to es exponents k = xor_to k (λ l. at es (at exponents l))
 
 -- e - d, counted modulo n, for e and d below n
-unfoldable pub lessModulo : ℕ → ℕ → ℕ → ℕ
-lessModulo n e d = cond (ltb e d) (e + (n - d)) (e - d)
+unfoldable pub less_modulo : ℕ → ℕ → ℕ → ℕ
+less_modulo n e d = cond (ltb e d) (e + (n - d)) (e - d)
 
 -- the exponents, the first k of them less by their steps
 unfoldable pub lowered : ℕ → List ℕ → List ℕ → ℕ → List ℕ
 lowered n exponents steps zero = exponents
-lowered n exponents steps (suc l) = set (lowered n exponents steps l) l (lessModulo n (at exponents l) (at steps l))
+lowered n exponents steps (suc l) = set (lowered n exponents steps l) l (less_modulo n (at exponents l) (at steps l))
 
 -- the locator of place i is a root of v
 abbrev pub RootAt : List ℕ → List ℕ → List ℕ → ℕ → ℕ → Type 0
-RootAt es ls v n i = tableValue es ls v (locator es n i) ≡ 0
+RootAt es ls v n i = table_value es ls v (locator es n i) ≡ 0
 
 -- r is the first place from i on, of n, whose locator is a root of v; n, if there is none
 pub record FirstRoot (es ls v : List ℕ) (n i r : ℕ) : Type 0 where
@@ -71,7 +71,7 @@ pub record FirstRoot (es ls v : List ℕ) (n i r : ℕ) : Type 0 where
 
 -- the quotient of v by x + r, where r is a root: coefficient k is the value at r of the first k coefficients of v
 unfoldable pub quotient_of : List ℕ → List ℕ → List ℕ → ℕ → List ℕ
-quotient_of es ls v r = tabulate 9 (horner (λ u. tableProduct es ls u r) (at v))
+quotient_of es ls v r = tabulate 9 (horner (λ u. table_product es ls u r) (at v))
 
 -- place i joins the places if there is room
 unfoldable pub kept : ℕ → Places → Places

@@ -1,6 +1,6 @@
 -- `exports::exports_correct_frame` meets its contract. Assumes nothing.
 use borrow.Author.Rules.{rules}
-use Rattle.exports.proofs.Packed.{frame-packed}
+use Rattle.exports.proofs.Packed.{frame_packed}
 use Rattle.exports.proofs.exports_correct_frame.Statement.{statement}
 use Rattle.exports.proofs.exports_correct_frame.Tie as tie
 
@@ -41,7 +41,7 @@ same-length-3 : tie.Need-same-length-3
 same-length-3 c = search rules
 
 returns : tie.Need-returns
-returns c = search (rules, frame-packed)
+returns c = search (rules, frame_packed)
 
 pub exports-correct-frame-spec : {M : Type 1} → statement M
 exports-correct-frame-spec =

@@ -1,6 +1,6 @@
 -- `exports::exports_g709_correct_row` meets its contract. Assumes nothing.
 use borrow.Author.Rules.{rules}
-use Rattle.exports.proofs.Packed.{word-packed}
+use Rattle.exports.proofs.Packed.{word_packed}
 use Rattle.exports.proofs.exports_g709_correct_row.Statement.{statement}
 use Rattle.exports.proofs.exports_g709_correct_row.Tie as tie
 
@@ -14,7 +14,7 @@ same_length : tie.Need-same-length
 same_length c = search rules
 
 returns : tie.Need-returns
-returns c = search (rules, word-packed)
+returns c = search (rules, word_packed)
 
 pub exports-g709-correct-row-spec : {M : Type 1} → statement M
 exports-g709-correct-row-spec =

@@ -1,6 +1,6 @@
 -- `exports::exports_products_b` meets its contract. Assumes nothing.
 use borrow.Author.Rules.{rules}
-use Rattle.exports.proofs.Chains.{chain-through}
+use Rattle.exports.proofs.Chains.{chain_through}
 use Rattle.exports.proofs.exports_products_b.Statement.{statement}
 use Rattle.exports.proofs.exports_products_b.Tie as tie
 
@@ -20,7 +20,7 @@ products-requires : tie.Need-products-requires
 products-requires c κs = search rules
 
 returns : tie.Need-returns
-returns c = search (rules, chain-through)
+returns c = search (rules, chain_through)
 
 pub exports-products-b-spec : {M : Type 1} → statement M
 exports-products-b-spec =

@@ -1,6 +1,6 @@
 -- `exports::packed_word` meets its contract. Assumes nothing.
 use borrow.Author.Rules.{rules}
-use Rattle.exports.proofs.Packed.{changes-packed, number-packed}
+use Rattle.exports.proofs.Packed.{changes_packed, number_packed}
 use Rattle.exports.proofs.packed_word.Statement.{statement}
 use Rattle.exports.proofs.packed_word.Tie as tie
 
@@ -20,10 +20,10 @@ cast-result-2 : tie.Need-overflow-cast-result-2
 cast-result-2 c = search rules
 
 returns : tie.Need-returns
-returns c = search (rules, changes-packed)
+returns c = search (rules, changes_packed)
 
 returns-2 : tie.Need-returns-2
-returns-2 c = search (rules, number-packed)
+returns-2 c = search (rules, number_packed)
 
 pub packed-word-spec : {M : Type 1} → statement M
 packed-word-spec =

@@ -3,7 +3,7 @@ use mathlib.Core.Path.{◌≡◌}
 use Prim.Native.Nat.{◌-◌, ◌≤◌}
 use borrow.Author.Rules.{rules}
 use Rattle.exports.specs.Chains.{chain}
-use Rattle.exports.proofs.Chains.{chain-start, chain_next, chain-end}
+use Rattle.exports.proofs.Chains.{chain_start, chain_next, chain_end}
 use Rattle.exports.proofs.products.Statement.{statement}
 use Rattle.exports.proofs.products.Tie as tie
 
@@ -14,7 +14,7 @@ abbrev decreases-loop : tie.decreases-loop
 decreases-loop exp log x y n v₀ i₀ v i = n - i
 
 loop-holds : tie.Need-loop-init invariant-loop decreases-loop
-loop-holds c = search (rules, chain-start)
+loop-holds c = search (rules, chain_start)
 
 product-requires : tie.Need-product-requires invariant-loop decreases-loop
 product-requires c κs = search rules
@@ -29,7 +29,7 @@ loop-again : tie.Need-loop-preserved invariant-loop decreases-loop
 loop-again c = search (rules, chain_next)
 
 returns : tie.Need-returns invariant-loop decreases-loop
-returns c = search (rules, chain-end)
+returns c = search (rules, chain_end)
 
 pub products-spec : {M : Type 1} → statement M
 products-spec =

@@ -18,13 +18,13 @@ pub record Placing (i : ℕ) (xs : List ℕ) (k : ℕ) (before after : List ℕ)
   pub below : (j : ℕ) → j < i → at after j ≡ at before j
   pub above : (j : ℕ) → i + k ≤ j → at after j ≡ at before j
 
-pub placing-start : {i : ℕ} {xs before : List ℕ} → Placing i xs 0 before before
-placing-start =
+pub placing_start : {i : ℕ} {xs before : List ℕ} → Placing i xs 0 before before
+placing_start =
     record { long = refl; within = zero-le; inside = λ j h. absurd (not-suc-le-zero h); below = λ j h. refl; above = λ j h. refl }
 
-pub placing-next : {i k v : ℕ} {xs before after : List ℕ} → Placing i xs k before after → k < length xs → i + length xs ≤ length before → v ≡ at xs k
+pub placing_next : {i k v : ℕ} {xs before after : List ℕ} → Placing i xs k before after → k < length xs → i + length xs ≤ length before → v ≡ at xs k
     → Placing i xs (k + 1) before (set after (i + k) v)
-placing-next {i} {k} {v} {xs} {before} {after} p h room e =
+placing_next {i} {k} {v} {xs} {before} {after} p h room e =
     record {
       long = length-set after (i + k) v ∙ p.long;
       within = omega arith;
@@ -37,15 +37,15 @@ placing-next {i} {k} {v} {xs} {before} {after} p h room e =
     stored j b (yes q) = rw q (get_or-set_same after (i + k) v 0 (omega (arith, p.long)) ∙ e)
     stored j b (no q) = get_or-set_other after (i + k) (i + j) v 0 (λ r. q (omega arith)) ∙ p.inside j (omega arith)
 
-pub placing-end : {i k : ℕ} {xs before after : List ℕ} → Placing i xs k before after → length xs ≤ k → Placed i xs before after
-placing-end {i} {k} {xs} {before} {after} p h =
+pub placing_end : {i k : ℕ} {xs before after : List ℕ} → Placing i xs k before after → length xs ≤ k → Placed i xs before after
+placing_end {i} {k} {xs} {before} {after} p h =
     let e : k ≡ length xs = omega (arith, p.within) in
     record { long = p.long; inside = λ j b. p.inside j (omega arith); below = p.below; above = λ j b. p.above j (omega arith) }
 
 -- n places at once
-pub placing-more : {i k n : ℕ} {xs ys before mid after : List ℕ} → Placing i xs k before mid → Placed (i + k) ys mid after → length ys ≡ n →
+pub placing_more : {i k n : ℕ} {xs ys before mid after : List ℕ} → Placing i xs k before mid → Placed (i + k) ys mid after → length ys ≡ n →
     k + n ≤ length xs → ((j : ℕ) → j < n → at ys j ≡ at xs (k + j)) → Placing i xs (k + n) before after
-placing-more {i} {k} {n} {xs} {ys} {before} {mid} {after} p q e room same =
+placing_more {i} {k} {n} {xs} {ys} {before} {mid} {after} p q e room same =
     record {
       long = q.long ∙ p.long;
       within = room;
@@ -71,8 +71,8 @@ append_at xs ys n i {v} e first past = go (dec_lt i n)
         ap (at (xs ++ ys)) q ∙ get_or-append-add xs ys (i - n) 0 ∙ past (omega arith)
 
 -- one list after another
-pub placed-append : {i n : ℕ} {xs ys a b c : List ℕ} → length xs ≡ n → Placed i xs a b → Placed (i + n) ys b c → Placed i (xs ++ ys) a c
-placed-append {i} {n} {xs} {ys} {a} {b} {c} l p q =
+pub placed_append : {i n : ℕ} {xs ys a b c : List ℕ} → length xs ≡ n → Placed i xs a b → Placed (i + n) ys b c → Placed i (xs ++ ys) a c
+placed_append {i} {n} {xs} {ys} {a} {b} {c} l p q =
     record {
       long = q.long ∙ p.long;
       inside = λ j h. sym (append_at xs ys n j l (λ s. sym (q.below (i + j) (omega arith) ∙ p.inside j (omega arith)))

@@ -24,10 +24,10 @@ passed : (n : ℕ) (f : ℕ → Bool) → (every n f && f n) ≡ true → (every
 passed n f t before i (inl e) = rw e ((and-eq-true_iff (every n f) (f n)).0 t).1
 passed n f t before i (inr l) = before ((and-eq-true_iff (every n f) (f n)).0 t).0 i l
 
-pub every-at : (n : ℕ) (f : ℕ → Bool) → every n f ≡ true → (i : ℕ) → i < n → f i ≡ true
+pub every_at : (n : ℕ) (f : ℕ → Bool) → every n f ≡ true → (i : ℕ) → i < n → f i ≡ true
 unfolding every
-every-at zero f t i h = absurd (not-suc-le-zero h)
-every-at (suc n) f t i h = passed n f t (every-at n f) i (eq-or-lt_of_le (le_of_suc-le-suc h))
+every_at zero f t i h = absurd (not-suc-le-zero h)
+every_at (suc n) f t i h = passed n f t (every_at n f) i (eq-or-lt_of_le (le_of_suc-le-suc h))
 
 pub every_true : (n : ℕ) (f : ℕ → Bool) → ((i : ℕ) → i < n → f i ≡ true) → every n f ≡ true
 unfolding every
@@ -38,44 +38,44 @@ failed : (n : ℕ) (f : ℕ → Bool) (i : ℕ) → f i ≡ false → (i ≡ n) 
 failed n f i e (inl q) before = rw (← q, e) (and-false (every i f))
 failed n f i e (inr l) before = rw (before l)
 
-pub every-false : (n : ℕ) (f : ℕ → Bool) (i : ℕ) → i < n → f i ≡ false → every n f ≡ false
+pub every_false : (n : ℕ) (f : ℕ → Bool) (i : ℕ) → i < n → f i ≡ false → every n f ≡ false
 unfolding every
-every-false zero f i h e = absurd (not-suc-le-zero h)
-every-false (suc n) f i h e = failed n f i e (eq-or-lt_of_le (le_of_suc-le-suc h)) (λ l. every-false n f i l e)
+every_false zero f i h e = absurd (not-suc-le-zero h)
+every_false (suc n) f i h e = failed n f i e (eq-or-lt_of_le (le_of_suc-le-suc h)) (λ l. every_false n f i l e)
 
-pub every-same : (n : ℕ) (f g : ℕ → Bool) → ((i : ℕ) → i < n → f i ≡ g i) → every n f ≡ every n g
+pub every_same : (n : ℕ) (f g : ℕ → Bool) → ((i : ℕ) → i < n → f i ≡ g i) → every n f ≡ every n g
 unfolding every
-every-same zero f g h = refl
-every-same (suc n) f g h = rw (every-same n f g (λ i l. h i (omega arith)), h n (le_refl (suc n)))
+every_same zero f g h = refl
+every_same (suc n) f g h = rw (every_same n f g (λ i l. h i (omega arith)), h n (le_refl (suc n)))
 
-pub below-lt : (q : ℕ) (w : List ℕ) → all_below q w ≡ true → (i : ℕ) → i < length w → at w i < q
+pub below_lt : (q : ℕ) (w : List ℕ) → all_below q w ≡ true → (i : ℕ) → i < length w → at w i < q
 unfolding all_below
-below-lt q w t i h = ltb-true (at w i) q (every-at (length w) (λ j. ltb (at w j) q) t i h)
+below_lt q w t i h = ltb-true (at w i) q (every_at (length w) (λ j. ltb (at w j) q) t i h)
 
 -- each symbol of a word is below q, and so is 0 past its end
 pub below_at : (q : ℕ) (w : List ℕ) → 0 < q → all_below q w ≡ true → (i : ℕ) → at w i < q
 below_at q w h t i = go (dec_lt i (length w))
   where
     go : Dec (i < length w) → get_or w i 0 < q
-    go (yes l) = below-lt q w t i l
+    go (yes l) = below_lt q w t i l
     go (no g) = rw (get_or-eq_default w 0 {n = i} (omega arith)) h
 
 pub below_all : (q : ℕ) (w : List ℕ) → ((i : ℕ) → i < length w → at w i < q) → all_below q w ≡ true
 unfolding all_below
 below_all q w h = every_true (length w) _ (λ i l. lt-ltb (at w i) q (h i l))
 
-pub below-append : (q : ℕ) (c d : List ℕ) → all_below q c ≡ true → all_below q d ≡ true → all_below q (c ++ d) ≡ true
-below-append q c d hc hd = below_all q (c ++ d) (λ i l. go i (rw (length-append c d) at l) (dec_lt i (length c)))
+pub below_append : (q : ℕ) (c d : List ℕ) → all_below q c ≡ true → all_below q d ≡ true → all_below q (c ++ d) ≡ true
+below_append q c d hc hd = below_all q (c ++ d) (λ i l. go i (rw (length-append c d) at l) (dec_lt i (length c)))
   where
     go : (i : ℕ) → i < length c + length d → Dec (i < length c) → get_or (c ++ d) i 0 < q
-    go i h (yes l) = rw (get_or-append c d 0 i l) (below-lt q c hc i l)
+    go i h (yes l) = rw (get_or-append c d 0 i l) (below_lt q c hc i l)
     go i h (no g) =
         let e : length c + (i - length c) ≡ i = omega arith in
-        rw (← e, get_or-append-add c d (i - length c) 0) (below-lt q d hd (i - length c) (omega arith))
+        rw (← e, get_or-append-add c d (i - length c) 0) (below_lt q d hd (i - length c) (omega arith))
 
-pub below-take : (q n : ℕ) (w : List ℕ) → all_below q w ≡ true → all_below q (take n w) ≡ true
-below-take q n w h =
+pub below_take : (q n : ℕ) (w : List ℕ) → all_below q w ≡ true → all_below q (take n w) ≡ true
+below_take q n w h =
     let whole = take-append-drop n w in
     let long : length w ≡ length (take n w) + length (drop n w) = ap length (sym whole) ∙ length-append (take n w) (drop n w) in
     below_all q (take n w)
-    (λ i l. rw (← get_or-append (take n w) (drop n w) 0 i l, whole) (below-lt q w h i (omega arith)))
+    (λ i l. rw (← get_or-append (take n w) (drop n w) 0 i l, whole) (below_lt q w h i (omega arith)))

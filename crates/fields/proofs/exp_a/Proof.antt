@@ -1,13 +1,13 @@
 -- `fields::exp_a` meets its contract: the table passes the test of the doubling rule. Assumes nothing.
 use mathlib.Core.Path.{refl}
 use Rattle.fields.specs.Elements.{xor, scale, doubled}
-use Rattle.fields.proofs.TableTests.{powers-are}
+use Rattle.fields.proofs.TableTests.{powers_are}
 use Rattle.fields.proofs.exp_a.Statement.{statement}
 use Rattle.fields.proofs.exp_a.Tie as tie
 
 returns : tie.Need-returns
 unfolding doubled scale xor
-returns c = powers-are _ _ _ refl tt
+returns c = powers_are _ _ _ refl tt
 
 pub exp-a-spec : {M : Type 1} → statement M
 exp-a-spec = tie.close (tie.spec returns)

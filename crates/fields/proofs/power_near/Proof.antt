@@ -1,6 +1,6 @@
 -- `fields::power_near` meets its contract. Assumes nothing.
 use borrow.Author.Rules.{rules}
-use Rattle.fields.proofs.Ways.{near-read, near-past}
+use Rattle.fields.proofs.Ways.{near_read, near_past}
 use Rattle.fields.proofs.power_near.Statement.{statement}
 use Rattle.fields.proofs.power_near.Tie as tie
 
@@ -14,10 +14,10 @@ shared-slice-read-result : tie.Need-shared-slice-read-result
 shared-slice-read-result c = search rules
 
 returns : tie.Need-returns
-returns c = search (rules, near-read)
+returns c = search (rules, near_read)
 
 returns-2 : tie.Need-returns-2
-returns-2 c = search (rules, near-past)
+returns-2 c = search (rules, near_past)
 
 pub power-near-spec : {M : Type 1} → statement M
 power-near-spec =

@@ -1,24 +1,24 @@
 -- `fields::product` meets its contract. Assumes nothing.
 use borrow.Author.Rules.{rules}
-use Rattle.fields.proofs.Ways.{product-none, product-left, product-right, product-both}
-use Rattle.fields.proofs.ByTables.{product-by-tables}
+use Rattle.fields.proofs.Ways.{product_none, product_left, product_right, product_both}
+use Rattle.fields.proofs.ByTables.{product_by_tables}
 use Rattle.fields.proofs.product.Statement.{statement}
 use Rattle.fields.proofs.product.Tie as tie
 
 returns : tie.Need-returns
-returns c = search (rules, product-none, product-by-tables)
+returns c = search (rules, product_none, product_by_tables)
 
 place-requires : tie.Need-place-requires
 place-requires c κs = search rules
 
 returns-2 : tie.Need-returns-2
-returns-2 c = search (rules, product-left, product-by-tables)
+returns-2 c = search (rules, product_left, product_by_tables)
 
 place-requires-2 : tie.Need-place-requires-2
 place-requires-2 c κs = search rules
 
 returns-3 : tie.Need-returns-3
-returns-3 c = search (rules, product-right, product-by-tables)
+returns-3 c = search (rules, product_right, product_by_tables)
 
 entry-requires : tie.Need-entry-requires
 entry-requires c κs = search rules
@@ -33,7 +33,7 @@ power-near-requires : tie.Need-power-near-requires
 power-near-requires c κs = search rules
 
 returns-4 : tie.Need-returns-4
-returns-4 c = search (rules, product-both, product-by-tables)
+returns-4 c = search (rules, product_both, product_by_tables)
 
 pub product-spec : {M : Type 1} → statement M
 product-spec =

@@ -2,7 +2,7 @@
 use mathlib.Core.Path.{◌≡◌}
 use Prim.Native.Nat.{◌%◌}
 use borrow.Author.Rules.{rules}
-use Rattle.fields.proofs.Ways.{mod-less, mod_below}
+use Rattle.fields.proofs.Ways.{mod_less, mod_below}
 use Rattle.fields.proofs.reduced.Statement.{statement}
 use Rattle.fields.proofs.reduced.Tie as tie
 
@@ -19,7 +19,7 @@ loop-less : tie.Need-loop-smaller invariant-loop decreases-loop
 loop-less c = search rules
 
 loop-again : tie.Need-loop-preserved invariant-loop decreases-loop
-loop-again c = search (rules, mod-less)
+loop-again c = search (rules, mod_less)
 
 returns : tie.Need-returns invariant-loop decreases-loop
 returns c = search (rules, mod_below)

@@ -11,92 +11,92 @@ use lib.Bits.{bit_and, and_mask}
 use lib.Pow.{pow_pos, high, low, field, mod-mod-pow, shr-shr}
 use Rattle.fields.specs.Places.{at}
 use Rattle.words.specs.Bits.{bit_of, bit_at}
-use Rattle.words.proofs.Bits.Numbers.{numberOf-same}
-use Rattle.words.proofs.Bits.Bytes.{number-of-bits}
+use Rattle.words.proofs.Bits.Numbers.{number_of_same}
+use Rattle.words.proofs.Bits.Bytes.{number_of_bits}
 use Rattle.frames.specs.Frames.{symbol_at}
-use Rattle.frames.specs.Steps.Symbols.{byte_at, symbolBit, symbolByte}
+use Rattle.frames.specs.Steps.Symbols.{byte_at, symbol_bit, symbol_byte}
 
 -- the n low bits
-bit-rest : (n x i : ℕ) → i < n → bit_of n (x % 2 ^ n) i ≡ bit_of n x i
+bit_rest : (n x i : ℕ) → i < n → bit_of n (x % 2 ^ n) i ≡ bit_of n x i
 unfolding bit_of
-bit-rest n x i l =
+bit_rest n x i l =
     let k = n - suc i in
     let e : n ≡ i + 1 + k = omega arith in
     ap (λ (z : ℕ). x % 2 ^ z / 2 ^ k % 2) e ∙ ap (λ (z : ℕ). z % 2) (field x (i + 1) k) ∙ mod-mod-pow (x / 2 ^ k) i 1
 
 -- the bits of m + n in which x stands before the n low bits of y
 module _ (m n x y i : ℕ) where
-  bit-first : i < m → bit_of (m + n) (x * 2 ^ n + y % 2 ^ n) i ≡ bit_of m x i
+  bit_first : i < m → bit_of (m + n) (x * 2 ^ n + y % 2 ^ n) i ≡ bit_of m x i
   unfolding bit_of
-  bit-first l =
+  bit_first l =
       let k = m - suc i in
       let z = x * 2 ^ n + y % 2 ^ n in
       let e : m + n - suc i ≡ n + k = omega arith in
       ap (λ (s : ℕ). z / 2 ^ s % 2) e ∙ ap (λ (s : ℕ). s % 2) (sym (shr-shr z n k))
       ∙ ap (λ (s : ℕ). s / 2 ^ k % 2) (high x n (mod-lt y (pow_pos n)))
 
-  bit-second : i < n → bit_of (m + n) (x * 2 ^ n + y % 2 ^ n) (m + i) ≡ bit_of n y i
+  bit_second : i < n → bit_of (m + n) (x * 2 ^ n + y % 2 ^ n) (m + i) ≡ bit_of n y i
   unfolding bit_of
-  bit-second l =
+  bit_second l =
       let z = x * 2 ^ n + y % 2 ^ n in
       let e : m + n - suc (m + i) ≡ n - suc i = omega arith in
-      ap (λ (s : ℕ). z / 2 ^ s % 2) e ∙ sym (bit-rest n z i l)
-      ∙ ap (λ (s : ℕ). bit_of n s i) (low x n (mod-lt y (pow_pos n))) ∙ bit-rest n y i l
+      ap (λ (s : ℕ). z / 2 ^ s % 2) e ∙ sym (bit_rest n z i l)
+      ∙ ap (λ (s : ℕ). bit_of n s i) (low x n (mod-lt y (pow_pos n))) ∙ bit_rest n y i l
 
-pub ten-fit : (x : ℕ) → Fits w16 (bit_and x 1023)
-ten-fit x = record { fits = omega (arith, and_mask x 10) }
+pub ten_fit : (x : ℕ) → Fits w16 (bit_and x 1023)
+ten_fit x = record { fits = omega (arith, and_mask x 10) }
 
-pub twenty-fit : (x y : ℕ) → x < 65536 → Fits w32 (x * 2 ^ 10 % 2 ^ 32 + bit_and y 1023)
-twenty-fit x y h = record { fits = omega (arith, and_mask y 10) }
+pub twenty_fit : (x y : ℕ) → x < 65536 → Fits w32 (x * 2 ^ 10 % 2 ^ 32 + bit_and y 1023)
+twenty_fit x y h = record { fits = omega (arith, and_mask y 10) }
 
 -- ---- ten bits of three bytes
 
 module _ (bytes : List ℕ) (i a b c : ℕ) (ea : a ≡ at bytes (i / 8)) (eb : b ≡ at bytes (i / 8 + 1)) (ec : c ≡ at bytes (i / 8 + 2)) where
-  three-bytes : (j : ℕ) → j < 10 → bit_of 24 ((a * 2 ^ 8 + b % 2 ^ 8) * 2 ^ 8 + c % 2 ^ 8) (i % 8 + j) ≡ bit_at bytes (i + j)
+  three_bytes : (j : ℕ) → j < 10 → bit_of 24 ((a * 2 ^ 8 + b % 2 ^ 8) * 2 ^ 8 + c % 2 ^ 8) (i % 8 + j) ≡ bit_at bytes (i + j)
   unfolding bit_at
-  three-bytes j l = go (dec_lt (i % 8 + j) 8) (dec_lt (i % 8 + j) 16)
+  three_bytes j l = go (dec_lt (i % 8 + j) 8) (dec_lt (i % 8 + j) 16)
     where
       go : Dec (i % 8 + j < 8) → Dec (i % 8 + j < 16) →
           bit_of 24 ((a * 2 ^ 8 + b % 2 ^ 8) * 2 ^ 8 + c % 2 ^ 8) (i % 8 + j) ≡ bit_of 8 (at bytes ((i + j) / 8)) ((i + j) % 8)
       go (yes h) _ =
           let q : (i + j) / 8 ≡ i / 8 = omega arith in
           let r : (i + j) % 8 ≡ i % 8 + j = omega arith in
-          bit-first 16 8 (a * 2 ^ 8 + b % 2 ^ 8) c (i % 8 + j) (omega arith) ∙ bit-first 8 8 a b (i % 8 + j) h ∙ rw (ea, q, r)
+          bit_first 16 8 (a * 2 ^ 8 + b % 2 ^ 8) c (i % 8 + j) (omega arith) ∙ bit_first 8 8 a b (i % 8 + j) h ∙ rw (ea, q, r)
       go (no g) (yes h) =
           let s = i % 8 + j - 8 in
           let e : i % 8 + j ≡ 8 + s = omega arith in
           let q : (i + j) / 8 ≡ i / 8 + 1 = omega arith in
           let r : (i + j) % 8 ≡ s = omega arith in
-          bit-first 16 8 (a * 2 ^ 8 + b % 2 ^ 8) c (i % 8 + j) h ∙ rw (e, q, r, ← eb) (bit-second 8 8 a b s (omega arith))
+          bit_first 16 8 (a * 2 ^ 8 + b % 2 ^ 8) c (i % 8 + j) h ∙ rw (e, q, r, ← eb) (bit_second 8 8 a b s (omega arith))
       go (no g) (no h) =
           let s = i % 8 + j - 16 in
           let e : i % 8 + j ≡ 16 + s = omega arith in
           let q : (i + j) / 8 ≡ i / 8 + 2 = omega arith in
           let r : (i + j) % 8 ≡ s = omega arith in
-          rw (e, q, r, ← ec) (bit-second 16 8 (a * 2 ^ 8 + b % 2 ^ 8) c s (omega arith))
+          rw (e, q, r, ← ec) (bit_second 16 8 (a * 2 ^ 8 + b % 2 ^ 8) c s (omega arith))
 
-  pub symbol-read : a < 256 → b < 256 → c < 256 → bit_and ((a * 2 ^ 16 % 2 ^ 32 + b * 2 ^ 8 % 2 ^ 32 + c) / 2 ^ (14 - i % 8)) 1023 ≡ symbol_at (bit_at bytes) i
+  pub symbol_read : a < 256 → b < 256 → c < 256 → bit_and ((a * 2 ^ 16 % 2 ^ 32 + b * 2 ^ 8 % 2 ^ 32 + c) / 2 ^ (14 - i % 8)) 1023 ≡ symbol_at (bit_at bytes) i
   unfolding symbol_at
-  symbol-read ha hb hc =
+  symbol_read ha hb hc =
       let x = (a * 2 ^ 8 + b % 2 ^ 8) * 2 ^ 8 + c % 2 ^ 8 in
       let e : a * 2 ^ 16 % 2 ^ 32 + b * 2 ^ 8 % 2 ^ 32 + c ≡ x = omega arith in
       let k : 14 - i % 8 ≡ 24 - (i % 8 + 10) = omega arith in
-      rw (e, k) (and_mask (x / 2 ^ (24 - (i % 8 + 10))) 10 ∙ sym (number-of-bits 24 x (i % 8) 10 (omega arith)) ∙ numberOf-same 10 _ _ three-bytes)
+      rw (e, k) (and_mask (x / 2 ^ (24 - (i % 8 + 10))) 10 ∙ sym (number_of_bits 24 x (i % 8) 10 (omega arith)) ∙ number_of_same 10 _ _ three_bytes)
 
 -- ---- eight bits of two symbols
 
-pub byte-read : (x y i : ℕ) → i < 10 → x < 65536 → bit_and ((x * 2 ^ 10 % 2 ^ 32 + bit_and y 1023) / 2 ^ (12 - i)) 255 ≡ byte_at x y i
+pub byte_read : (x y i : ℕ) → i < 10 → x < 65536 → bit_and ((x * 2 ^ 10 % 2 ^ 32 + bit_and y 1023) / 2 ^ (12 - i)) 255 ≡ byte_at x y i
 unfolding byte_at
-byte-read x y i l h =
+byte_read x y i l h =
     let m : bit_and y 1023 ≡ y % 1024 = and_mask y 10 in
     let e : x * 2 ^ 10 % 2 ^ 32 + bit_and y 1023 ≡ 1024 * x + y % 1024 = omega (arith, m) in
     let k : 12 - i ≡ 20 - (i + 8) = omega arith in
-    rw (e, k) (and_mask ((1024 * x + y % 1024) / 2 ^ (20 - (i + 8))) 8 ∙ sym (number-of-bits 20 (1024 * x + y % 1024) i 8 (omega arith)))
+    rw (e, k) (and_mask ((1024 * x + y % 1024) / 2 ^ (20 - (i + 8))) 8 ∙ sym (number_of_bits 20 (1024 * x + y % 1024) i 8 (omega arith)))
 
 module _ (f : ℕ → ℕ) (r : ℕ) where
-  two-symbols : (j : ℕ) → j < 8 → bit_of 20 (1024 * f (r / 10) + f (r / 10 + 1) % 1024) (r % 10 + j) ≡ symbolBit f (r + j)
-  unfolding symbolBit
-  two-symbols j l = rw e (go (dec_lt (r % 10 + j) 10))
+  two_symbols : (j : ℕ) → j < 8 → bit_of 20 (1024 * f (r / 10) + f (r / 10 + 1) % 1024) (r % 10 + j) ≡ symbol_bit f (r + j)
+  unfolding symbol_bit
+  two_symbols j l = rw e (go (dec_lt (r % 10 + j) 10))
     where
       e : 1024 * f (r / 10) + f (r / 10 + 1) % 1024 ≡ f (r / 10) * 2 ^ 10 + f (r / 10 + 1) % 2 ^ 10
       e = omega arith
@@ -105,14 +105,14 @@ module _ (f : ℕ → ℕ) (r : ℕ) where
       go (yes h) =
           let q : (r + j) / 10 ≡ r / 10 = omega arith in
           let s : (r + j) % 10 ≡ r % 10 + j = omega arith in
-          rw (q, s) (bit-first 10 10 (f (r / 10)) (f (r / 10 + 1)) (r % 10 + j) h)
+          rw (q, s) (bit_first 10 10 (f (r / 10)) (f (r / 10 + 1)) (r % 10 + j) h)
       go (no g) =
           let k = r % 10 + j - 10 in
           let p : r % 10 + j ≡ 10 + k = omega arith in
           let q : (r + j) / 10 ≡ r / 10 + 1 = omega arith in
           let s : (r + j) % 10 ≡ k = omega arith in
-          rw (p, q, s) (bit-second 10 10 (f (r / 10)) (f (r / 10 + 1)) k (omega arith))
+          rw (p, q, s) (bit_second 10 10 (f (r / 10)) (f (r / 10 + 1)) k (omega arith))
 
-  pub byte-of-symbols : (x y b : ℕ) → x ≡ f (r / 10) → y ≡ f (r / 10 + 1) → b ≡ byte_at x y (r % 10) → b ≡ symbolByte f r
-  unfolding byte_at symbolByte
-  byte-of-symbols x y b ex ey e = e ∙ rw (ex, ey) (numberOf-same 8 _ _ two-symbols)
+  pub byte_of_symbols : (x y b : ℕ) → x ≡ f (r / 10) → y ≡ f (r / 10 + 1) → b ≡ byte_at x y (r % 10) → b ≡ symbol_byte f r
+  unfolding byte_at symbol_byte
+  byte_of_symbols x y b ex ey e = e ∙ rw (ex, ey) (number_of_same 8 _ _ two_symbols)

@@ -1,6 +1,6 @@
 -- `frames::conclude` meets its contract. Assumes nothing.
 use borrow.Author.Rules.{rules}
-use Rattle.frames.proofs.Answers.CorrectionAnswers.{frame-reported}
+use Rattle.frames.proofs.Answers.CorrectionAnswers.{frame_reported}
 use Rattle.frames.proofs.conclude.Statement.{statement}
 use Rattle.frames.proofs.conclude.Tie as tie
 
@@ -32,7 +32,7 @@ same_length : tie.Need-same-length
 same_length c = search rules
 
 returns : tie.Need-returns
-returns c = search (rules, frame-reported)
+returns c = search (rules, frame_reported)
 
 pub conclude-spec : {M : Type 1} → statement M
 conclude-spec =

@@ -1,6 +1,6 @@
 -- `frames::correct_frame` meets its contract. Assumes nothing.
 use borrow.Author.Rules.{rules}
-use Rattle.frames.proofs.Answers.CorrectionAnswers.{correct-length, correct-space, correct-none, correct-written}
+use Rattle.frames.proofs.Answers.CorrectionAnswers.{correct_length, correct_space, correct_none, correct_written}
 use Rattle.frames.proofs.correct_frame.Statement.{statement}
 use Rattle.frames.proofs.correct_frame.Tie as tie
 
@@ -8,13 +8,13 @@ refused-requires : tie.Need-refused-requires
 refused-requires c κs = search rules
 
 returns : tie.Need-returns
-returns c = search (rules, correct-length)
+returns c = search (rules, correct_length)
 
 refused-requires-2 : tie.Need-refused-requires-2
 refused-requires-2 c κs = search rules
 
 returns-2 : tie.Need-returns-2
-returns-2 c = search (rules, correct-space)
+returns-2 c = search (rules, correct_space)
 
 blank-requires : tie.Need-blank-requires
 blank-requires c κs = search rules
@@ -35,7 +35,7 @@ refused-requires-3 : tie.Need-refused-requires-3
 refused-requires-3 c κs = search rules
 
 returns-3 : tie.Need-returns-3
-returns-3 c = search (rules, correct-none)
+returns-3 c = search (rules, correct_none)
 
 slice-aggregate-conclude : tie.Need-slice-aggregate-conclude
 slice-aggregate-conclude c = search rules
@@ -47,7 +47,7 @@ same_length : tie.Need-same-length
 same_length c = search rules
 
 returns-4 : tie.Need-returns-4
-returns-4 c = search (rules, correct-written)
+returns-4 c = search (rules, correct_written)
 
 pub correct-frame-spec : {M : Type 1} → statement M
 correct-frame-spec =

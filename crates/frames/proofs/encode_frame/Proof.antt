@@ -1,14 +1,14 @@
 -- `frames::encode_frame` meets its contract. Assumes nothing.
 use borrow.Author.Rules.{rules}
-use Rattle.frames.proofs.Answers.FrameAnswers.{encode-length, encode-space, encode-written}
+use Rattle.frames.proofs.Answers.FrameAnswers.{encode_length, encode_space, encode_written}
 use Rattle.frames.proofs.encode_frame.Statement.{statement}
 use Rattle.frames.proofs.encode_frame.Tie as tie
 
 returns : tie.Need-returns
-returns c = search (rules, encode-length)
+returns c = search (rules, encode_length)
 
 returns-2 : tie.Need-returns-2
-returns-2 c = search (rules, encode-space)
+returns-2 c = search (rules, encode_space)
 
 blank-requires : tie.Need-blank-requires
 blank-requires c κs = search rules
@@ -32,7 +32,7 @@ same_length : tie.Need-same-length
 same_length c = search rules
 
 returns-3 : tie.Need-returns-3
-returns-3 c = search (rules, encode-written)
+returns-3 c = search (rules, encode_written)
 
 pub encode-frame-spec : {M : Type 1} → statement M
 encode-frame-spec =

@@ -1,20 +1,20 @@
 -- `frames::extract_payload` meets its contract. Assumes nothing.
 use borrow.Author.Rules.{rules}
-use Rattle.frames.proofs.Answers.FrameAnswers.{extract-length, extract-space, extract-no-frame, extract-written}
+use Rattle.frames.proofs.Answers.FrameAnswers.{extract_length, extract_space, extract_no_frame, extract_written}
 use Rattle.frames.proofs.extract_payload.Statement.{statement}
 use Rattle.frames.proofs.extract_payload.Tie as tie
 
 returns : tie.Need-returns
-returns c = search (rules, extract-length)
+returns c = search (rules, extract_length)
 
 returns-2 : tie.Need-returns-2
-returns-2 c = search (rules, extract-space)
+returns-2 c = search (rules, extract_space)
 
 is-frame-requires : tie.Need-is-frame-requires
 is-frame-requires c κs = search rules
 
 returns-3 : tie.Need-returns-3
-returns-3 c = search (rules, extract-no-frame, c.before.before.before.before.before.shared-slice-known.given)
+returns-3 c = search (rules, extract_no_frame, c.before.before.before.before.before.shared-slice-known.given)
 
 blank-requires : tie.Need-blank-requires
 blank-requires c κs = search rules
@@ -35,7 +35,7 @@ same_length : tie.Need-same-length
 same_length c = search rules
 
 returns-4 : tie.Need-returns-4
-returns-4 c = search (rules, extract-written, c.before.before.before.before.before.before.before.before.before.before.before.before.before.before.shared-slice-known.given)
+returns-4 c = search (rules, extract_written, c.before.before.before.before.before.before.before.before.before.before.before.before.before.before.shared-slice-known.given)
 
 pub extract-payload-spec : {M : Type 1} → statement M
 extract-payload-spec =

@@ -1,6 +1,6 @@
 -- `frames::outer_pass` meets its contract. Assumes nothing.
 use borrow.Author.Rules.{rules}
-use Rattle.frames.proofs.Answers.CorrectionAnswers.{pass_kept, pass-none, pass-written}
+use Rattle.frames.proofs.Answers.CorrectionAnswers.{pass_kept, pass_none, pass_written}
 use Rattle.frames.proofs.outer_pass.Statement.{statement}
 use Rattle.frames.proofs.outer_pass.Tie as tie
 
@@ -26,7 +26,7 @@ same-length-2 : tie.Need-same-length-2
 same-length-2 c = search rules
 
 returns-2 : tie.Need-returns-2
-returns-2 c = search (rules, pass-none)
+returns-2 c = search (rules, pass_none)
 
 slice-aggregate-send : tie.Need-slice-aggregate-send
 slice-aggregate-send c = search rules
@@ -41,7 +41,7 @@ same-length-3 : tie.Need-same-length-3
 same-length-3 c = search rules
 
 returns-3 : tie.Need-returns-3
-returns-3 c = search (rules, pass-written)
+returns-3 c = search (rules, pass_written)
 
 pub outer-pass-spec : {M : Type 1} → statement M
 outer-pass-spec =

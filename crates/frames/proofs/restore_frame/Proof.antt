@@ -1,6 +1,6 @@
 -- `frames::restore_frame` meets its contract. Assumes nothing.
 use borrow.Author.Rules.{rules}
-use Rattle.frames.proofs.Answers.CorrectionAnswers.{none_left, passes-done}
+use Rattle.frames.proofs.Answers.CorrectionAnswers.{none_left, passes_done}
 use Rattle.frames.proofs.restore_frame.Statement.{statement}
 use Rattle.frames.proofs.restore_frame.Tie as tie
 
@@ -14,7 +14,7 @@ same_length : tie.Need-same-length
 same_length c = search rules
 
 returns : tie.Need-returns
-returns c = search (rules, passes-done)
+returns c = search (rules, passes_done)
 
 pub restore-frame-spec : {M : Type 1} → statement M
 restore-frame-spec = tie.close (tie.spec correct-requires outer-pass-requires same_length returns)

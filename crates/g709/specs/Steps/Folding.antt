@@ -5,17 +5,17 @@ use Rattle.fields.specs.Elements.{xor}
 use Rattle.fields.specs.Places.{at}
 
 -- its exponents below 81
-unfoldable pub exponentsBelow : List ℕ
-exponentsBelow = 0 ∷ 1 ∷ 2 ∷ 3 ∷ 4 ∷ 9 ∷ 17 ∷ 20 ∷ 22 ∷ 23 ∷ 30 ∷ 32 ∷ 41 ∷ 42 ∷ 43 ∷ 48 ∷ 51 ∷ 57 ∷ 69 ∷ 75 ∷ 79 ∷ []
+unfoldable pub exponents_below : List ℕ
+exponents_below = 0 ∷ 1 ∷ 2 ∷ 3 ∷ 4 ∷ 9 ∷ 17 ∷ 20 ∷ 22 ∷ 23 ∷ 30 ∷ 32 ∷ 41 ∷ 42 ∷ 43 ∷ 48 ∷ 51 ∷ 57 ∷ 69 ∷ 75 ∷ 79 ∷ []
 
 -- g 0 + g 1 + .. + g n
-unfoldable pub sumUpTo : (ℕ → ℕ) → ℕ → ℕ
-sumUpTo g zero = g 0
-sumUpTo g (suc n) = xor (sumUpTo g n) (g (suc n))
+unfoldable pub sum_up_to : (ℕ → ℕ) → ℕ → ℕ
+sum_up_to g zero = g 0
+sum_up_to g (suc n) = xor (sum_up_to g n) (g (suc n))
 
 -- the sum of the columns after byte i at these distances
 unfoldable pub taps : List ℕ → ℕ → ℕ
-taps q i = sumUpTo (λ n. at q (i + 16 * at exponentsBelow n)) 20
+taps q i = sum_up_to (λ n. at q (i + 16 * at exponents_below n)) 20
 
 -- the quotient of the bytes d, of which k are done
 pub record QuotientTo (d : ℕ → ℕ) (k : ℕ) (q : List ℕ) : Type 0 where

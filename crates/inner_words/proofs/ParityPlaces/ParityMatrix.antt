@@ -9,14 +9,14 @@ use lib.Dec.{eqb}
 use lib.ListN.{length}
 use Rattle.fields.specs.Elements.{xor, scale, doubled}
 use Rattle.fields.specs.Places.{at, every}
-use Rattle.fields.proofs.Lists.{tabulate-is}
+use Rattle.fields.proofs.Lists.{tabulate_is}
 use Rattle.fields.proofs.Pieces.{pieces, look, look_is}
-use Rattle.fields.proofs.Places.Tests.{every-at}
+use Rattle.fields.proofs.Places.Tests.{every_at}
 use Rattle.words.specs.Bits.{bit_of, number_of, bytes_of}
 use Rattle.words.specs.InnerCode.{value_of}
-use Rattle.words.proofs.Bits.Numbers.{numberOf-same}
-use Rattle.words.proofs.Codes.LeastPolynomials.{divisor-is}
-use Rattle.inner_words.specs.Steps.ParityMatrix.{shares, column, parityMatrix}
+use Rattle.words.proofs.Bits.Numbers.{number_of_same}
+use Rattle.words.proofs.Codes.LeastPolynomials.{divisor_is}
+use Rattle.inner_words.specs.Steps.ParityMatrix.{shares, column, parity_matrix}
 
 -- ---- its bytes
 
@@ -43,28 +43,28 @@ columns =
     246303798814015360011215173 ∷ 176170919179485606869806937 ∷ 45577230567316241989448545 ∷ []
 
 -- column c, with the divisor as a number
-abbrev column-by : ℕ → ℕ → ℕ
-column-by p c = value_of (doubled 88 p) (at shares (c / 11)) 12 (2 ^ (c % 11))
+abbrev column_by : ℕ → ℕ → ℕ
+column_by p c = value_of (doubled 88 p) (at shares (c / 11)) 12 (2 ^ (c % 11))
 
-columns-test : every 88 (λ c. eqb (at columns c) (column-by 317645624157077156049808851 c)) ≡ true
+columns_test : every 88 (λ c. eqb (at columns c) (column_by 317645624157077156049808851 c)) ≡ true
 unfolding every columns shares value_of scale xor doubled
-columns-test = refl
+columns_test = refl
 
-column-is : (c : ℕ) → c < 88 → at columns c ≡ column c
+column_is : (c : ℕ) → c < 88 → at columns c ≡ column c
 unfolding column
-column-is c h =
-    eqb-true _ _ (every-at 88 (λ c. eqb (at columns c) (column-by 317645624157077156049808851 c)) columns-test c h)
-    ∙ ap (λ (p : ℕ). column-by p c) (sym divisor-is)
+column_is c h =
+    eqb-true _ _ (every_at 88 (λ c. eqb (at columns c) (column_by 317645624157077156049808851 c)) columns_test c h)
+    ∙ ap (λ (p : ℕ). column_by p c) (sym divisor_is)
 
 -- byte k of the matrix
-abbrev pub byte-by : ℕ → ℕ
-byte-by k = number_of 8 (λ j. bit_of 88 (at columns ((8 * k + j) % 88)) ((8 * k + j) / 88))
+abbrev pub byte_by : ℕ → ℕ
+byte_by k = number_of 8 (λ j. bit_of 88 (at columns ((8 * k + j) % 88)) ((8 * k + j) / 88))
 
-abbrev pub matrix-test : List ℕ → Bool
-matrix-test xs = every 968 (λ k. eqb (look (pieces xs) k) (byte-by k))
+abbrev pub matrix_test : List ℕ → Bool
+matrix_test xs = every 968 (λ k. eqb (look (pieces xs) k) (byte_by k))
 
-pub table_is : (xs : List ℕ) → length xs ≡ 968 → matrix-test xs ≡ true → xs ≡ parityMatrix
-unfolding parityMatrix bytes_of
+pub table_is : (xs : List ℕ) → length xs ≡ 968 → matrix_test xs ≡ true → xs ≡ parity_matrix
+unfolding parity_matrix bytes_of
 table_is xs long t =
-    tabulate-is 968 _ xs 0 long (λ k l. sym (look_is xs k (rw long l)) ∙ eqb-true _ _ (every-at 968 (λ k. eqb (look (pieces xs) k) (byte-by k)) t k l)
-    ∙ numberOf-same 8 _ _ (λ j m. ap (λ (x : ℕ). bit_of 88 x ((8 * k + j) / 88)) (column-is ((8 * k + j) % 88) (omega arith))))
+    tabulate_is 968 _ xs 0 long (λ k l. sym (look_is xs k (rw long l)) ∙ eqb-true _ _ (every_at 968 (λ k. eqb (look (pieces xs) k) (byte_by k)) t k l)
+    ∙ number_of_same 8 _ _ (λ j m. ap (λ (x : ℕ). bit_of 88 x ((8 * k + j) / 88)) (column_is ((8 * k + j) % 88) (omega arith))))

@@ -9,58 +9,58 @@ use mir.Syntax.{w8}
 use mir.Val.{Fits}
 use Rattle.fields.specs.Places.{at, all_below}
 use Rattle.fields.specs.Steps.Buffers.{Placed}
-use Rattle.fields.proofs.Lists.{tabulate-at, tabulate-length}
+use Rattle.fields.proofs.Lists.{tabulate_at, tabulate_length}
 use Rattle.fields.proofs.Places.Tests.{below_all}
-use Rattle.fields.proofs.Places.Placing.{Placing, placing-next, placing-end}
+use Rattle.fields.proofs.Places.Placing.{Placing, placing_next, placing_end}
 use Rattle.words.specs.Bits.{bit_of, bit_at, bytes_of}
-use Rattle.words.specs.InnerWords.{withParity}
+use Rattle.words.specs.InnerWords.{with_parity}
 use Rattle.words.proofs.Bits.Bytes.{bytes_same}
-use Rattle.inner_words.specs.Steps.BitSliced.{parityPlaces, byteOf64, parityBytes}
-use Rattle.inner_words.proofs.Interleaving.InterleavedBits.{parity-cases}
-use Rattle.inner_words.proofs.Interleaving.BitSliced.{places-bits}
-use Rattle.inner_words.proofs.Interleaving.EightBytes.{byte-bit}
+use Rattle.inner_words.specs.Steps.BitSliced.{parity_places, byte_of64, parity_bytes}
+use Rattle.inner_words.proofs.Interleaving.InterleavedBits.{parity_cases}
+use Rattle.inner_words.proofs.Interleaving.BitSliced.{places_bits}
+use Rattle.inner_words.proofs.Interleaving.EightBytes.{byte_bit}
 
 -- ---- their bytes
 
 module _ (cells : List ℕ) where
-  parity-bytes-length : length (parityBytes cells) ≡ 704
-  unfolding parityBytes
-  parity-bytes-length = tabulate-length 704 _
+  parity_bytes_length : length (parity_bytes cells) ≡ 704
+  unfolding parity_bytes
+  parity_bytes_length = tabulate_length 704 _
 
-  parity-byte : (m : ℕ) → m < 704 → at (parityBytes cells) m ≡ byteOf64 (at cells (m / 8)) (m % 8)
-  unfolding parityBytes
-  parity-byte m h = tabulate-at 704 _ m 0 h
+  parity_byte : (m : ℕ) → m < 704 → at (parity_bytes cells) m ≡ byte_of64 (at cells (m / 8)) (m % 8)
+  unfolding parity_bytes
+  parity_byte m h = tabulate_at 704 _ m 0 h
 
-  module _ (before after : List ℕ) (m : ℕ) (so_far : Placing 15616 (parityBytes cells) m before after) where
-    pub storing-next : (r : ℕ) → m < 704 → length before ≡ 16320 → r ≡ byteOf64 (get_or cells (m / 8) 0) (m % 8) →
-        Placing 15616 (parityBytes cells) (m + 1) before (set after (15616 + m) r)
-    storing-next r h long e =
-        placing-next so_far (omega (arith, parity-bytes-length)) (omega (arith, parity-bytes-length)) (e ∙ sym (parity-byte m h))
+  module _ (before after : List ℕ) (m : ℕ) (so_far : Placing 15616 (parity_bytes cells) m before after) where
+    pub storing_next : (r : ℕ) → m < 704 → length before ≡ 16320 → r ≡ byte_of64 (get_or cells (m / 8) 0) (m % 8) →
+        Placing 15616 (parity_bytes cells) (m + 1) before (set after (15616 + m) r)
+    storing_next r h long e =
+        placing_next so_far (omega (arith, parity_bytes_length)) (omega (arith, parity_bytes_length)) (e ∙ sym (parity_byte m h))
 
-    pub storing-end : 704 ≤ m → Placed 15616 (parityBytes cells) before after
-    storing-end h = placing-end so_far (omega (arith, parity-bytes-length))
+    pub storing_end : 704 ≤ m → Placed 15616 (parity_bytes cells) before after
+    storing_end h = placing_end so_far (omega (arith, parity_bytes_length))
 
 -- ---- the frame with its parity places
 
 module _ (before after : List ℕ) where
-  stored-bit : Placed 15616 (parityBytes (parityPlaces before)) before after → (i : ℕ) → i < 130560 → withParity (bit_at before) i ≡ bit_at after i
+  stored_bit : Placed 15616 (parity_bytes (parity_places before)) before after → (i : ℕ) → i < 130560 → with_parity (bit_at before) i ≡ bit_at after i
   unfolding bit_at
-  stored-bit stored i l =
-      let cells = parityPlaces before in
+  stored_bit stored i l =
+      let cells = parity_places before in
       let p = i / 64 - 1952 in
       let m = i / 8 - 15616 in
-      parity-cases (λ x. x ≡ bit_at after i) (bit_at before) i (λ h. ap (λ (x : ℕ). bit_of 8 x (i % 8)) (sym (stored.below (i / 8) (omega arith))))
+      parity_cases (λ x. x ≡ bit_at after i) (bit_at before) i (λ h. ap (λ (x : ℕ). bit_of 8 x (i % 8)) (sym (stored.below (i / 8) (omega arith))))
       (λ h. let e : i / 8 ≡ 15616 + m = omega arith in
       let q : m / 8 ≡ p = omega arith in
       let r : 8 * (m % 8) + i % 8 ≡ i % 64 = omega arith in
-      let byte : at after (i / 8) ≡ byteOf64 (at cells p) (m % 8) =
-      ap (at after) e ∙ stored.inside m (omega (arith, parity-bytes-length cells)) ∙ parity-byte cells m (omega arith)
-      ∙ ap (λ (j : ℕ). byteOf64 (at cells j) (m % 8)) q in
-      sym (ap (λ (x : ℕ). bit_of 8 x (i % 8)) byte ∙ byte-bit (at cells p) (m % 8) (i % 8) (omega arith)
-      ∙ ap (bit_of 64 (at cells p)) r ∙ places-bits before (i % 64) (omega arith) p (omega arith)))
+      let byte : at after (i / 8) ≡ byte_of64 (at cells p) (m % 8) =
+      ap (at after) e ∙ stored.inside m (omega (arith, parity_bytes_length cells)) ∙ parity_byte cells m (omega arith)
+      ∙ ap (λ (j : ℕ). byte_of64 (at cells j) (m % 8)) q in
+      sym (ap (λ (x : ℕ). bit_of 8 x (i % 8)) byte ∙ byte_bit (at cells p) (m % 8) (i % 8) (omega arith)
+      ∙ ap (bit_of 64 (at cells p)) r ∙ places_bits before (i % 64) (omega arith) p (omega arith)))
 
-  pub encoded : (cells : List ℕ) → cells ≡ parityPlaces before → Placed 15616 (parityBytes cells) before after → length before ≡ 16320 →
-      ((i : ℕ) → Fits w8 (get_or after i 0)) → after ≡ bytes_of 16320 (withParity (bit_at before))
+  pub encoded : (cells : List ℕ) → cells ≡ parity_places before → Placed 15616 (parity_bytes cells) before after → length before ≡ 16320 →
+      ((i : ℕ) → Fits w8 (get_or after i 0)) → after ≡ bytes_of 16320 (with_parity (bit_at before))
   encoded cells e stored long small =
       let below : all_below 256 after ≡ true = below_all 256 after (λ i l. omega (arith, small i)) in
-      sym (bytes_same 16320 (withParity (bit_at before)) after (stored.long ∙ long) below (stored-bit (rw e at stored)))
+      sym (bytes_same 16320 (with_parity (bit_at before)) after (stored.long ∙ long) below (stored_bit (rw e at stored)))

@@ -8,7 +8,7 @@ use mir.Syntax.{w64}
 use mir.Val.{Fits}
 use Rattle.fields.specs.Places.{sum_to, differs}
 use Rattle.words.specs.Bits.{bit_of}
-use Rattle.words.proofs.Bits.Numbers.{bitOf-lt, masked-bit}
+use Rattle.words.proofs.Bits.Numbers.{bit_of_lt, masked_bit}
 use Rattle.inner_words.specs.Steps.Candidates.{ones}
 
 -- a bit is 1 where it differs from 0
@@ -24,21 +24,21 @@ pub record Ones (x k n : ℕ) : Type 0 where
   pub value : n ≡ sum_to k (bit_of 64 x)
   pub few : n ≤ k
 
-pub ones-start : {x : ℕ} → Ones x 0 0
+pub ones_start : {x : ℕ} → Ones x 0 0
 unfolding sum_to
-ones-start = record { within = zero-le; value = refl; few = zero-le }
+ones_start = record { within = zero-le; value = refl; few = zero-le }
 
 module _ {x k n : ℕ} (s : Ones x k n) (l : k < 64) where
-  here-is : bit_and (x / 2 ^ (63 - k)) 1 ≡ bit_of 64 x k
-  here-is = masked-bit 64 x k (63 - k) (omega arith)
+  here_is : bit_and (x / 2 ^ (63 - k)) 1 ≡ bit_of 64 x k
+  here_is = masked_bit 64 x k (63 - k) (omega arith)
 
-  pub ones-fits : Fits w64 (n + bit_and (x / 2 ^ (63 - k)) 1)
-  ones-fits = record { fits = omega (arith, s.few, here-is, bitOf-lt 64 x k) }
+  pub ones_fits : Fits w64 (n + bit_and (x / 2 ^ (63 - k)) 1)
+  ones_fits = record { fits = omega (arith, s.few, here_is, bit_of_lt 64 x k) }
 
-  pub ones-next : Ones x (k + 1) (n + bit_and (x / 2 ^ (63 - k)) 1)
+  pub ones_next : Ones x (k + 1) (n + bit_and (x / 2 ^ (63 - k)) 1)
   unfolding sum_to
-  ones-next = record { within = omega arith; value = rw (add-one, here-is, s.value); few = omega (arith, s.few, here-is, bitOf-lt 64 x k) }
+  ones_next = record { within = omega arith; value = rw (add-one, here_is, s.value); few = omega (arith, s.few, here_is, bit_of_lt 64 x k) }
 
-pub ones-end : {x k n : ℕ} → Ones x k n → 64 ≤ k → n ≡ ones x
+pub ones_end : {x k n : ℕ} → Ones x k n → 64 ≤ k → n ≡ ones x
 unfolding ones
-ones-end {x} {k} s h = let e : k ≡ 64 = omega (arith, s.within) in rw e at s.value
+ones_end {x} {k} s h = let e : k ≡ 64 = omega (arith, s.within) in rw e at s.value

@@ -14,123 +14,123 @@ use lib.Pow.{pow_mono}
 use mir.Syntax.{w64}
 use mir.Val.{Fits}
 use Rattle.fields.specs.Places.{at}
-use Rattle.fields.proofs.Lists.{tabulate-same}
-use Rattle.fields.proofs.Places.Differences.{apart-self}
+use Rattle.fields.proofs.Lists.{tabulate_same}
+use Rattle.fields.proofs.Places.Differences.{apart_self}
 use Rattle.words.specs.Bits.{bit_of, number_of, bit_at}
-use Rattle.words.specs.InnerCode.{isInner}
+use Rattle.words.specs.InnerCode.{is_inner}
 use Rattle.words.specs.Nearest.{is_some, nearest}
-use Rattle.words.specs.InnerWords.{innerWord, innerRestored, innerPass, isLost}
-use Rattle.words.proofs.Bits.Numbers.{bitOf-lt, bitOf-zero, masked-bit, numberOf-lt, numberOf-same}
-use Rattle.words.proofs.Codes.InnerWords.{inner-is}
+use Rattle.words.specs.InnerWords.{inner_word, inner_restored, inner_pass, is_lost}
+use Rattle.words.proofs.Bits.Numbers.{bit_of_lt, bit_of_zero, masked_bit, number_of_lt, number_of_same}
+use Rattle.words.proofs.Codes.InnerWords.{inner_is}
 use Rattle.words.proofs.Codes.Proved.{codes}
-use Rattle.inner_words.specs.Steps.InnerResidues.{residuesOf, WordResidues}
-use Rattle.inner_words.specs.Steps.Passes.{wrongWords, lostWords, WordRestored, WordNearer, OneWord, EachWord, InnerPassed}
-use Rattle.inner_words.proofs.Interleaving.InterleavedBits.{bit-to-place, inner-word-length}
-use Rattle.inner_words.proofs.Remainders.ResidueCodes.{whole-residues, residues-kept}
-use Rattle.inner_words.proofs.Passes.WrongWords.{wrong-lt, wrong-other, wrong-not, wrong-no, wrong-bit}
+use Rattle.inner_words.specs.Steps.InnerResidues.{residues_of, WordResidues}
+use Rattle.inner_words.specs.Steps.Passes.{wrong_words, lost_words, WordRestored, WordNearer, OneWord, EachWord, InnerPassed}
+use Rattle.inner_words.proofs.Interleaving.InterleavedBits.{bit_to_place, inner_word_length}
+use Rattle.inner_words.proofs.Remainders.ResidueCodes.{whole_residues, residues_kept}
+use Rattle.inner_words.proofs.Passes.WrongWords.{wrong_lt, wrong_other, wrong_not, wrong_no, wrong_bit}
 
 -- ---- an inner word
 
 module _ (w : List ℕ) where
-  pub restored-none : nearest isInner 2 8 w ≡ none → innerRestored w ≡ w
-  unfolding innerRestored
-  restored-none e = rw e
+  pub restored_none : nearest is_inner 2 8 w ≡ none → inner_restored w ≡ w
+  unfolding inner_restored
+  restored_none e = rw e
 
-  pub restored-some : (c : List ℕ) → nearest isInner 2 8 w ≡ some c → innerRestored w ≡ c
-  unfolding innerRestored
-  restored-some c e = rw e
+  pub restored_some : (c : List ℕ) → nearest is_inner 2 8 w ≡ some c → inner_restored w ≡ c
+  unfolding inner_restored
+  restored_some c e = rw e
 
   -- a code word is the nearest one to itself
-  code-nearest : isInner w ≡ true → nearest isInner 2 8 w ≡ some w
-  code-nearest h = let l = (inner-is w h).long in codes.inner-nearest.complete w w l l h (omega (arith, apart-self w))
+  code_nearest : is_inner w ≡ true → nearest is_inner 2 8 w ≡ some w
+  code_nearest h = let l = (inner_is w h).long in codes.inner_nearest.complete w w l l h (omega (arith, apart_self w))
 
-  pub restored-code : isInner w ≡ true → innerRestored w ≡ w
-  restored-code h = restored-some w (code-nearest h)
+  pub restored_code : is_inner w ≡ true → inner_restored w ≡ w
+  restored_code h = restored_some w (code_nearest h)
 
   -- a word without a code word within eight places is none
-  pub lost-wrong : nearest isInner 2 8 w ≡ none → isInner w ≡ false
-  lost-wrong e = go (isInner w) refl
+  pub lost_wrong : nearest is_inner 2 8 w ≡ none → is_inner w ≡ false
+  lost_wrong e = go (is_inner w) refl
     where
-      go : (t : Bool) → isInner w ≡ t → t ≡ false
+      go : (t : Bool) → is_inner w ≡ t → t ≡ false
       go false h = refl
-      go true h = absurd (omega (arith, ap {B = ℕ} (λ (o : Option (List ℕ)). get_or (map (λ (c : List ℕ). 1) o) 0) (sym (code-nearest h) ∙ e)))
+      go true h = absurd (omega (arith, ap {B = ℕ} (λ (o : Option (List ℕ)). get_or (map (λ (c : List ℕ). 1) o) 0) (sym (code_nearest h) ∙ e)))
 
-pub restored-length : (w : List ℕ) → length w ≡ 2040 → length (innerRestored w) ≡ 2040
-unfolding innerRestored
-restored-length w long = go (nearest isInner 2 8 w) refl
+pub restored_length : (w : List ℕ) → length w ≡ 2040 → length (inner_restored w) ≡ 2040
+unfolding inner_restored
+restored_length w long = go (nearest is_inner 2 8 w) refl
   where
-    go : (o : Option (List ℕ)) → nearest isInner 2 8 w ≡ o → length (get_or o w) ≡ 2040
+    go : (o : Option (List ℕ)) → nearest is_inner 2 8 w ≡ o → length (get_or o w) ≡ 2040
     go none e = long
-    go (some c) e = (codes.inner-nearest.sound w c long e).0
+    go (some c) e = (codes.inner_nearest.sound w c long e).0
 
 -- what an inner word is restored to is a code word just where there is one within eight places
-pub restored-is : (w : List ℕ) → length w ≡ 2040 → isInner (innerRestored w) ≡ is_some (nearest isInner 2 8 w)
-restored-is w long = go (nearest isInner 2 8 w) refl
+pub restored_is : (w : List ℕ) → length w ≡ 2040 → is_inner (inner_restored w) ≡ is_some (nearest is_inner 2 8 w)
+restored_is w long = go (nearest is_inner 2 8 w) refl
   where
-    go : (o : Option (List ℕ)) → nearest isInner 2 8 w ≡ o → isInner (innerRestored w) ≡ is_some o
-    go none e = ap isInner (restored-none w e) ∙ lost-wrong w e
-    go (some c) e = ap isInner (restored-some w c e) ∙ (codes.inner-nearest.sound w c long e).1
+    go : (o : Option (List ℕ)) → nearest is_inner 2 8 w ≡ o → is_inner (inner_restored w) ≡ is_some o
+    go none e = ap is_inner (restored_none w e) ∙ lost_wrong w e
+    go (some c) e = ap is_inner (restored_some w c e) ∙ (codes.inner_nearest.sound w c long e).1
 
-pub nearer-self : (w : List ℕ) → WordNearer w w
-nearer-self w = record { same = refl; kept = λ e. refl }
+pub nearer_self : (w : List ℕ) → WordNearer w w
+nearer_self w = record { same = refl; kept = λ e. refl }
 
 -- ---- one inner word of a block
 
 -- 1 for an inner word that is no code word
-abbrev pub wrongAt : List ℕ → ℕ → ℕ
-wrongAt block k = cond (isInner (innerWord (bit_at block) k)) 0 1
+abbrev pub wrong_at : List ℕ → ℕ → ℕ
+wrong_at block k = cond (is_inner (inner_word (bit_at block) k)) 0 1
 
 -- bits that change outside inner word k leave the other inner words
-pub word-other : (before after : List ℕ) (k : ℕ) → ((i : ℕ) → i < 130560 → (i % 64 ≡ k → ⊥) → bit_at after i ≡ bit_at before i) → (j : ℕ) → j < 64 → (j ≡ k → ⊥) →
-    innerWord (bit_at after) j ≡ innerWord (bit_at before) j
-unfolding innerWord
-word-other before after k others j h n = tabulate-same 2040 _ _ (λ p l. others (64 * p + j) (omega arith) (λ e. n (omega arith)))
+pub word_other : (before after : List ℕ) (k : ℕ) → ((i : ℕ) → i < 130560 → (i % 64 ≡ k → ⊥) → bit_at after i ≡ bit_at before i) → (j : ℕ) → j < 64 → (j ≡ k → ⊥) →
+    inner_word (bit_at after) j ≡ inner_word (bit_at before) j
+unfolding inner_word
+word_other before after k others j h n = tabulate_same 2040 _ _ (λ p l. others (64 * p + j) (omega arith) (λ e. n (omega arith)))
 
-pub word-stays : {P : List ℕ → List ℕ → Type 0} {block : List ℕ} {k bit : ℕ} → bit ≡ wrongAt block k →
-    P (innerWord (bit_at block) k) (innerWord (bit_at block) k) → OneWord P k block block bit
-word-stays told p = record { long = refl; told = told; word = p; others = λ j h n. refl }
+pub word_stays : {P : List ℕ → List ℕ → Type 0} {block : List ℕ} {k bit : ℕ} → bit ≡ wrong_at block k →
+    P (inner_word (bit_at block) k) (inner_word (bit_at block) k) → OneWord P k block block bit
+word_stays told p = record { long = refl; told = told; word = p; others = λ j h n. refl }
 
 -- the bit of inner word k among those that are wrong is set, or is not
-pub wrong-set : (k x : ℕ) → bit_and (x / 2 ^ (63 - k)) 1 ≡ 1 → k < 64 → bit_of 64 x k ≡ 1
-wrong-set k x e l = sym (masked-bit 64 x k (63 - k) (omega arith)) ∙ e
+pub wrong_set : (k x : ℕ) → bit_and (x / 2 ^ (63 - k)) 1 ≡ 1 → k < 64 → bit_of 64 x k ≡ 1
+wrong_set k x e l = sym (masked_bit 64 x k (63 - k) (omega arith)) ∙ e
 
-wrong-unset : (k x : ℕ) → (bit_and (x / 2 ^ (63 - k)) 1 ≡ 1 → ⊥) → k < 64 → bit_of 64 x k ≡ 0
-wrong-unset k x n l = omega (arith, masked-bit 64 x k (63 - k) (omega arith), bitOf-lt 64 x k)
+wrong_unset : (k x : ℕ) → (bit_and (x / 2 ^ (63 - k)) 1 ≡ 1 → ⊥) → k < 64 → bit_of 64 x k ≡ 0
+wrong_unset k x n l = omega (arith, masked_bit 64 x k (63 - k) (omega arith), bit_of_lt 64 x k)
 
-module _ (block : List ℕ) (k x : ℕ) (told : bit_of 64 x k ≡ wrongAt block k) (l : k < 64) where
+module _ (block : List ℕ) (k x : ℕ) (told : bit_of 64 x k ≡ wrong_at block k) (l : k < 64) where
   abbrev w : List ℕ
-  w = innerWord (bit_at block) k
+  w = inner_word (bit_at block) k
 
-  pub wrong-residues : (residues : List ℕ) → (bit_of 64 x k ≡ 1 → WordResidues residues k block) → bit_and (x / 2 ^ (63 - k)) 1 ≡ 1 →
+  pub wrong_residues : (residues : List ℕ) → (bit_of 64 x k ≡ 1 → WordResidues residues k block) → bit_and (x / 2 ^ (63 - k)) 1 ≡ 1 →
       WordResidues residues k block
-  wrong-residues residues R e = R (wrong-set k x e l)
+  wrong_residues residues R e = R (wrong_set k x e l)
 
   pub wrong_stays : bit_and (x / 2 ^ (63 - k)) 1 ≡ 1 → (after : List ℕ) (r : Bool) → (r ≡ false → after ≡ block) → r ≡ false → OneWord WordNearer k block after 1
-  wrong_stays e after r same f = rw (same f) (word-stays (sym (wrong-set k x e l) ∙ told) (nearer-self w))
+  wrong_stays e after r same f = rw (same f) (word_stays (sym (wrong_set k x e l) ∙ told) (nearer_self w))
 
   -- a word that is not among those that are wrong is a code word
   module _ (n : bit_and (x / 2 ^ (63 - k)) 1 ≡ 1 → ⊥) where
-    right : 0 ≡ wrongAt block k
-    right = sym (wrong-unset k x n l) ∙ told
+    right : 0 ≡ wrong_at block k
+    right = sym (wrong_unset k x n l) ∙ told
 
-    pub right-nearer : OneWord WordNearer k block block 0
-    right-nearer = word-stays right (nearer-self w)
+    pub right_nearer : OneWord WordNearer k block block 0
+    right_nearer = word_stays right (nearer_self w)
 
-    pub right-restored : OneWord WordRestored k block block 0
-    right-restored = word-stays right (record { is = sym (restored-code w (wrong-not (isInner w) (sym right))) })
+    pub right_restored : OneWord WordRestored k block block 0
+    right_restored = word_stays right (record { is = sym (restored_code w (wrong_not (is_inner w) (sym right))) })
 
 -- an inner word that is restored to a code word has come nearer
-pub restored-nearer : (k : ℕ) (before after : List ℕ) (r : Bool) → (r ≡ true → OneWord WordRestored k before after 0) → r ≡ true →
+pub restored_nearer : (k : ℕ) (before after : List ℕ) (r : Bool) → (r ≡ true → OneWord WordRestored k before after 0) → r ≡ true →
     OneWord WordNearer k before after 0
-restored-nearer k before after r corrected t =
+restored_nearer k before after r corrected t =
     let o = corrected t in
-    let v = innerWord (bit_at after) k in
-    let code : isInner v ≡ true = wrong-not (isInner v) (sym o.told) in
+    let v = inner_word (bit_at after) k in
+    let code : is_inner v ≡ true = wrong_not (is_inner v) (sym o.told) in
     record {
       long = o.long;
       told = o.told;
       word = record {
-        same = restored-code v code ∙ o.word.is;
+        same = restored_code v code ∙ o.word.is;
         kept = λ e. absurd (omega (arith, ap {B = ℕ} (λ (t : Bool). cond t 0 1) (sym code ∙ e)));
       };
       others = o.others;
@@ -143,9 +143,9 @@ restored-nearer k before after r corrected t =
 pub record Going (P : List ℕ → List ℕ → Type 0) (before : List ℕ) (k left : ℕ) (after : List ℕ) : Type 0 where
   pub within : k ≤ 64
   pub long : length after ≡ length before
-  pub value : left ≡ number_of k (wrongAt after)
-  pub done : (j : ℕ) → j < k → P (innerWord (bit_at before) j) (innerWord (bit_at after) j)
-  pub ahead : (j : ℕ) → k ≤ j → j < 64 → innerWord (bit_at after) j ≡ innerWord (bit_at before) j
+  pub value : left ≡ number_of k (wrong_at after)
+  pub done : (j : ℕ) → j < k → P (inner_word (bit_at before) j) (inner_word (bit_at after) j)
+  pub ahead : (j : ℕ) → k ≤ j → j < 64 → inner_word (bit_at after) j ≡ inner_word (bit_at before) j
 
 module _ {P : List ℕ → List ℕ → Type 0} where
   pub going_start : {before : List ℕ} → Going P before 0 0 before
@@ -155,23 +155,23 @@ module _ {P : List ℕ → List ℕ → Type 0} where
 
   module _ {before after : List ℕ} {k left : ℕ} (s : Going P before k left after) where
     -- the wrong words were found before, and so were their residues
-    pub going-wrong : {x : ℕ} → x ≡ wrongWords (bit_at before) → k < 64 → bit_of 64 x k ≡ wrongAt after k
-    going-wrong e h = rw (e, s.ahead k (le_refl k) h) (wrong-bit (bit_at before) k h)
+    pub going_wrong : {x : ℕ} → x ≡ wrong_words (bit_at before) → k < 64 → bit_of 64 x k ≡ wrong_at after k
+    going_wrong e h = rw (e, s.ahead k (le_refl k) h) (wrong_bit (bit_at before) k h)
 
-    pub going-residues : {residues : List ℕ} (x : ℕ) → k < 64 → ((k : ℕ) → k < 64 → bit_of 64 x k ≡ 1 → WordResidues residues k before) → bit_of 64 x k ≡ 1 →
+    pub going_residues : {residues : List ℕ} (x : ℕ) → k < 64 → ((k : ℕ) → k < 64 → bit_of 64 x k ≡ 1 → WordResidues residues k before) → bit_of 64 x k ≡ 1 →
         WordResidues residues k after
-    going-residues x h R set = residues-kept (s.ahead k (le_refl k) h) (R k h set)
+    going_residues x h R set = residues_kept (s.ahead k (le_refl k) h) (R k h set)
 
-    going-lt : k < 64 → left < 2 ^ 63
-    going-lt l =
-        omega (arith, s.value, numberOf-lt (wrongAt after) (λ j. wrong-lt (isInner (innerWord (bit_at after) j))) k, pow_mono {i = k} {j = 63} (omega arith))
+    going_lt : k < 64 → left < 2 ^ 63
+    going_lt l =
+        omega (arith, s.value, number_of_lt (wrong_at after) (λ j. wrong_lt (is_inner (inner_word (bit_at after) j))) k, pow_mono {i = k} {j = 63} (omega arith))
 
-    pub going-twice : k < 64 → Fits w64 (2 * left)
-    going-twice l = record { fits = omega (arith, going-lt l) }
+    pub going_twice : k < 64 → Fits w64 (2 * left)
+    going_twice l = record { fits = omega (arith, going_lt l) }
 
     module _ {next : List ℕ} {bit : ℕ} (h : k < 64) (w : OneWord P k after next bit) where
-      pub going-fits : Fits w64 (2 * left + bit)
-      going-fits = record { fits = omega (arith, going-lt h, w.told, wrong-lt (isInner (innerWord (bit_at next) k))) }
+      pub going_fits : Fits w64 (2 * left + bit)
+      going_fits = record { fits = omega (arith, going_lt h, w.told, wrong_lt (is_inner (inner_word (bit_at next) k))) }
 
       pub going_next : Going P before (k + 1) (2 * left + bit) next
       unfolding number_of
@@ -180,66 +180,66 @@ module _ {P : List ℕ → List ℕ → Type 0} where
             within = omega arith;
             long = w.long ∙ s.long;
             value = rw (add-one) (ap₂ (λ (x y : ℕ). 2 * x + y)
-                (s.value ∙ numberOf-same k _ _ (λ j l. ap (λ (v : List ℕ). cond (isInner v) 0 1) (sym (w.others j (omega arith) (λ e. omega arith))))) w.told);
+                (s.value ∙ number_of_same k _ _ (λ j l. ap (λ (v : List ℕ). cond (is_inner v) 0 1) (sym (w.others j (omega arith) (λ e. omega arith))))) w.told);
             done = λ j l. here j l (ℕ_discrete j k);
             ahead = λ j l b. w.others j b (λ e. omega arith) ∙ s.ahead j (omega arith) b;
           }
         where
-          here : (j : ℕ) → j < k + 1 → Dec (j ≡ k) → P (innerWord (bit_at before) j) (innerWord (bit_at next) j)
+          here : (j : ℕ) → j < k + 1 → Dec (j ≡ k) → P (inner_word (bit_at before) j) (inner_word (bit_at next) j)
           here j l (yes e) = rw (e, ← s.ahead k (le_refl k) h) w.word
           here j l (no n) = rw (w.others j (omega arith) n) (s.done j (omega arith))
 
-    pub going-left : 64 ≤ k → left ≡ wrongWords (bit_at after)
-    unfolding wrongWords
-    going-left h = let e : k ≡ 64 = omega (arith, s.within) in rw e at s.value
+    pub going_left : 64 ≤ k → left ≡ wrong_words (bit_at after)
+    unfolding wrong_words
+    going_left h = let e : k ≡ 64 = omega (arith, s.within) in rw e at s.value
 
     pub going_end : 64 ≤ k → EachWord P before after
     going_end h = record { long = s.long; word = λ j l. s.done j (omega arith) }
 
 -- ---- one way after the other
 
-pub nearer-twice : (before mid after : List ℕ) → EachWord WordNearer before mid → EachWord WordNearer mid after → EachWord WordNearer before after
-nearer-twice before mid after m n =
+pub nearer_twice : (before mid after : List ℕ) → EachWord WordNearer before mid → EachWord WordNearer mid after → EachWord WordNearer before after
+nearer_twice before mid after m n =
     record {
       long = n.long ∙ m.long;
       word = λ k l. record {
         same = (n.word k l).same ∙ (m.word k l).same;
-        kept = λ e. let q = (n.word k l).kept e in q ∙ (m.word k l).kept (ap isInner (sym q) ∙ e);
+        kept = λ e. let q = (n.word k l).kept e in q ∙ (m.word k l).kept (ap is_inner (sym q) ∙ e);
       };
     }
 
 -- a word that is left wrong is as it was, and has the residues that it had
-pub left-residues : (residues before after : List ℕ) (x : ℕ) → EachWord WordNearer before after → x ≡ wrongWords (bit_at after) →
-    residues ≡ residuesOf before (5 + 11 * 185) → (k : ℕ) → k < 64 → bit_of 64 x k ≡ 1 → WordResidues residues k after
-left-residues residues before after x n told e k l q =
-    residues-kept ((n.word k l).kept (wrong-no (isInner (innerWord (bit_at after) k)) (sym (wrong-bit (bit_at after) k l) ∙ rw told at q)))
-    (whole-residues residues before e k l)
+pub left_residues : (residues before after : List ℕ) (x : ℕ) → EachWord WordNearer before after → x ≡ wrong_words (bit_at after) →
+    residues ≡ residues_of before (5 + 11 * 185) → (k : ℕ) → k < 64 → bit_of 64 x k ≡ 1 → WordResidues residues k after
+left_residues residues before after x n told e k l q =
+    residues_kept ((n.word k l).kept (wrong_no (is_inner (inner_word (bit_at after) k)) (sym (wrong_bit (bit_at after) k l) ∙ rw told at q)))
+    (whole_residues residues before e k l)
 
 -- where no word is wrong each is restored
-pub none-restored : (block : List ℕ) (x : ℕ) → x ≡ wrongWords (bit_at block) → x ≡ 0 → EachWord WordRestored block block
-none-restored block x told e =
+pub none_restored : (block : List ℕ) (x : ℕ) → x ≡ wrong_words (bit_at block) → x ≡ 0 → EachWord WordRestored block block
+none_restored block x told e =
     record {
       long = refl;
       word = λ k l.
-          let w = innerWord (bit_at block) k in
-          let right : wrongAt block k ≡ 0 = sym (wrong-bit (bit_at block) k l) ∙ ap (λ (y : ℕ). bit_of 64 y k) (sym told ∙ e) ∙ bitOf-zero 64 k in
-          record { is = sym (restored-code w (wrong-not (isInner w) right)) };
+          let w = inner_word (bit_at block) k in
+          let right : wrong_at block k ≡ 0 = sym (wrong_bit (bit_at block) k l) ∙ ap (λ (y : ℕ). bit_of 64 y k) (sym told ∙ e) ∙ bit_of_zero 64 k in
+          record { is = sym (restored_code w (wrong_not (is_inner w) right)) };
     }
 
 -- what is left wrong was left as received
-pub pass-restored : (before after : List ℕ) (x : ℕ) → EachWord WordRestored before after → x ≡ wrongWords (bit_at after) → InnerPassed before after x
-unfolding innerPass wrongWords lostWords isLost
-pass-restored before after x r told =
+pub pass_restored : (before after : List ℕ) (x : ℕ) → EachWord WordRestored before after → x ≡ wrong_words (bit_at after) → InnerPassed before after x
+unfolding inner_pass wrong_words lost_words is_lost
+pass_restored before after x r told =
     record {
       long = r.long;
-      bits = λ i b. bit-to-place (bit_at after) i b ∙ ap (λ (w : List ℕ). at w (i / 64)) (r.word (i % 64) (omega arith)).is;
-      lost = told ∙ numberOf-same 64 _ _ (λ k l.
-          let w = innerWord (bit_at before) k in
-          ap (λ (t : Bool). cond t 0 1) (ap isInner (r.word k l).is ∙ restored-is w (inner-word-length (bit_at before) k)) ∙ wrong-other (is_some (nearest isInner 2 8 w)));
+      bits = λ i b. bit_to_place (bit_at after) i b ∙ ap (λ (w : List ℕ). at w (i / 64)) (r.word (i % 64) (omega arith)).is;
+      lost = told ∙ number_of_same 64 _ _ (λ k l.
+          let w = inner_word (bit_at before) k in
+          ap (λ (t : Bool). cond t 0 1) (ap is_inner (r.word k l).is ∙ restored_is w (inner_word_length (bit_at before) k)) ∙ wrong_other (is_some (nearest is_inner 2 8 w)));
       wrong = told;
     }
 
 -- what has come nearer, and is restored then, is restored
-pub nearer-restored : (before mid after : List ℕ) → EachWord WordNearer before mid → EachWord WordRestored mid after → EachWord WordRestored before after
-nearer-restored before mid after n r =
+pub nearer_restored : (before mid after : List ℕ) → EachWord WordNearer before mid → EachWord WordRestored mid after → EachWord WordRestored before after
+nearer_restored before mid after n r =
     record { long = r.long ∙ n.long; word = λ k l. record { is = (r.word k l).is ∙ (n.word k l).same } }

@@ -16,37 +16,37 @@ use mir.Val.{Fits}
 use Rattle.fields.specs.Elements.{scale}
 use Rattle.fields.specs.Places.{at, sum_to}
 use Rattle.words.specs.Bits.{bit_of}
-use Rattle.words.proofs.Bits.Numbers.{bitOf-lt, bitOf-zero, numberOf-same, numberOf-bits}
-use Rattle.words.proofs.Codes.Horner.{scale_one, scale-zero}
+use Rattle.words.proofs.Bits.Numbers.{bit_of_lt, bit_of_zero, number_of_same, number_of_bits_lem}
+use Rattle.words.proofs.Codes.Horner.{scale_one, scale_zero}
 use Rattle.inner_words.specs.declared.candidates.Above.{Above}
-use Rattle.inner_words.specs.Steps.Candidates.{above, Raised, flipsIn, tooMany}
-use Rattle.inner_words.proofs.Interleaving.BitSliced.{bit-or, bit-product}
+use Rattle.inner_words.specs.Steps.Candidates.{above, Raised, flips_in, too_many}
+use Rattle.inner_words.proofs.Interleaving.BitSliced.{bit_or_lem, bit_product}
 
 -- ---- a number above j
 
-pub above-lt : (j n : ℕ) → above j n < 2
+pub above_lt : (j n : ℕ) → above j n < 2
 unfolding above
-above-lt j n = go (ltb j n)
+above_lt j n = go (ltb j n)
   where
     go : (t : Bool) → cond t 1 0 < 2
     go true = lit< tt
     go false = lit< tt
 
-pub above-not : (j n : ℕ) → above j n ≡ 0 → n ≤ j
+pub above_not : (j n : ℕ) → above j n ≡ 0 → n ≤ j
 unfolding above
-above-not j n e = go (dec_le n j)
+above_not j n e = go (dec_le n j)
   where
     go : Dec (n ≤ j) → n ≤ j
     go (yes h) = h
     go (no g) = absurd (omega (arith, rw (lt-ltb j n (omega arith)) at e))
 
-above-is : (j n : ℕ) → j < n → above j n ≡ 1
+above_is : (j n : ℕ) → j < n → above j n ≡ 1
 unfolding above
-above-is j n h = rw (lt-ltb j n h)
+above_is j n h = rw (lt-ltb j n h)
 
-above-none : (j n : ℕ) → n ≤ j → above j n ≡ 0
+above_none : (j n : ℕ) → n ≤ j → above j n ≡ 0
 unfolding above
-above-none j n h = rw (le-ltb j n h)
+above_none j n h = rw (le-ltb j n h)
 
 -- one more, or none
 above_zero : (n b : ℕ) → b < 2 → bit_or (above 0 n) b ≡ above 0 (n + b)
@@ -54,24 +54,24 @@ above_zero n zero h = or_zero_r (above 0 n) ∙ ap (above 0) (sym (add-zero n))
 above_zero n (suc zero) h = go (dec_lt 0 n)
   where
     go : Dec (0 < n) → bit_or (above 0 n) 1 ≡ above 0 (n + 1)
-    go (yes l) = rw (above-is 0 n l, above-is 0 (n + 1) (omega arith))
-    go (no l) = rw (above-none 0 n (omega arith), above-is 0 (n + 1) (omega arith))
+    go (yes l) = rw (above_is 0 n l, above_is 0 (n + 1) (omega arith))
+    go (no l) = rw (above_none 0 n (omega arith), above_is 0 (n + 1) (omega arith))
 above_zero n (suc (suc b)) h = absurd (omega arith)
 
-above-next : (j n b : ℕ) → b < 2 → bit_or (above (suc j) n) (scale (above j n) b) ≡ above (suc j) (n + b)
-above-next j n zero h = ap (bit_or (above (suc j) n)) (scale-zero (above j n)) ∙ or_zero_r (above (suc j) n) ∙ ap (above (suc j)) (sym (add-zero n))
-above-next j n (suc zero) h = ap (bit_or (above (suc j) n)) (scale_one (above j n) (above-lt j n)) ∙ go (dec_lt j n) (dec_lt (suc j) n)
+above_next : (j n b : ℕ) → b < 2 → bit_or (above (suc j) n) (scale (above j n) b) ≡ above (suc j) (n + b)
+above_next j n zero h = ap (bit_or (above (suc j) n)) (scale_zero (above j n)) ∙ or_zero_r (above (suc j) n) ∙ ap (above (suc j)) (sym (add-zero n))
+above_next j n (suc zero) h = ap (bit_or (above (suc j) n)) (scale_one (above j n) (above_lt j n)) ∙ go (dec_lt j n) (dec_lt (suc j) n)
   where
     go : Dec (j < n) → Dec (suc j < n) → bit_or (above (suc j) n) (above j n) ≡ above (suc j) (n + 1)
-    go (yes l) (yes m) = rw (above-is j n l, above-is (suc j) n m, above-is (suc j) (n + 1) (omega arith))
-    go (yes l) (no m) = rw (above-is j n l, above-none (suc j) n (omega arith), above-is (suc j) (n + 1) (omega arith))
-    go (no l) m = rw (above-none j n (omega arith), above-none (suc j) n (omega arith), above-none (suc j) (n + 1) (omega arith))
-above-next j n (suc (suc b)) h = absurd (omega arith)
+    go (yes l) (yes m) = rw (above_is j n l, above_is (suc j) n m, above_is (suc j) (n + 1) (omega arith))
+    go (yes l) (no m) = rw (above_is j n l, above_none (suc j) n (omega arith), above_is (suc j) (n + 1) (omega arith))
+    go (no l) m = rw (above_none j n (omega arith), above_none (suc j) n (omega arith), above_none (suc j) (n + 1) (omega arith))
+above_next j n (suc (suc b)) h = absurd (omega arith)
 
 -- ---- one place more
 
-pub raised-none : (s : Above) (x : ℕ) → x ≡ 0 → Raised s x s
-raised-none s x e =
+pub raised_none : (s : Above) (x : ℕ) → x ≡ 0 → Raised s x s
+raised_none s x e =
     record {
       at0 = rw e (sym (or_zero_r s.r0));
       at1 = kept s.r1 s.r0;
@@ -99,10 +99,10 @@ pub record Has (n k : ℕ) (s : Above) : Type 0 where
   pub has7 : bit_of 64 s.r7 k ≡ above 7 n
   pub has8 : bit_of 64 s.r8 k ≡ above 8 n
 
-has-next : (n k x : ℕ) (s r : Above) → Has n k s → Raised s x r → Has (n + bit_of 64 x k) k r
-has-next n k x s r h g =
+has_next : (n k x : ℕ) (s r : Above) → Has n k s → Raised s x r → Has (n + bit_of 64 x k) k r
+has_next n k x s r h g =
     record {
-      has0 = ap (λ (y : ℕ). bit_of 64 y k) g.at0 ∙ bit-or 64 k s.r0 x ∙ ap (λ (y : ℕ). bit_or y (bit_of 64 x k)) h.has0 ∙ above_zero n (bit_of 64 x k) (bitOf-lt 64 x k);
+      has0 = ap (λ (y : ℕ). bit_of 64 y k) g.at0 ∙ bit_or_lem 64 k s.r0 x ∙ ap (λ (y : ℕ). bit_or y (bit_of 64 x k)) h.has0 ∙ above_zero n (bit_of 64 x k) (bit_of_lt 64 x k);
       has1 = moved 0 s.r0 s.r1 r.r1 h.has0 h.has1 g.at1;
       has2 = moved 1 s.r1 s.r2 r.r2 h.has1 h.has2 g.at2;
       has3 = moved 2 s.r2 s.r3 r.r3 h.has2 h.has3 g.at3;
@@ -115,8 +115,8 @@ has-next n k x s r h g =
   where
     moved : (j a b c : ℕ) → bit_of 64 a k ≡ above j n → bit_of 64 b k ≡ above (suc j) n → c ≡ bit_or b (bit_and a x) → bit_of 64 c k ≡ above (suc j) (n + bit_of 64 x k)
     moved j a b c ea eb ec =
-        ap (λ (y : ℕ). bit_of 64 y k) ec ∙ bit-or 64 k b (bit_and a x) ∙ ap₂ bit_or eb (bit-product 64 k a x ∙ ap (λ (y : ℕ). scale y (bit_of 64 x k)) ea)
-        ∙ above-next j n (bit_of 64 x k) (bitOf-lt 64 x k)
+        ap (λ (y : ℕ). bit_of 64 y k) ec ∙ bit_or_lem 64 k b (bit_and a x) ∙ ap₂ bit_or eb (bit_product 64 k a x ∙ ap (λ (y : ℕ). scale y (bit_of 64 x k)) ea)
+        ∙ above_next j n (bit_of 64 x k) (bit_of_lt 64 x k)
 
 -- ---- all places
 
@@ -126,25 +126,25 @@ pub record Raising (flips : List ℕ) (p : ℕ) (s : Above) : Type 0 where
   pub each : (k : ℕ) → Has (sum_to p (λ q. bit_of 64 (at flips q) k)) k s
   pub top : s.r8 < 2 ^ 64
 
-pub raising-start : {flips : List ℕ} → Raising flips 0 (record { r0 = 0; r1 = 0; r2 = 0; r3 = 0; r4 = 0; r5 = 0; r6 = 0; r7 = 0; r8 = 0 })
+pub raising_start : {flips : List ℕ} → Raising flips 0 (record { r0 = 0; r1 = 0; r2 = 0; r3 = 0; r4 = 0; r5 = 0; r6 = 0; r7 = 0; r8 = 0 })
 unfolding sum_to above
-raising-start = record {
+raising_start = record {
   within = zero-le;
-  each = λ k. record { has0 = bitOf-zero 64 k; has1 = bitOf-zero 64 k; has2 = bitOf-zero 64 k; has3 = bitOf-zero 64 k; has4 = bitOf-zero 64 k; has5 = bitOf-zero 64 k; has6 = bitOf-zero 64 k; has7 = bitOf-zero 64 k; has8 = bitOf-zero 64 k };
+  each = λ k. record { has0 = bit_of_zero 64 k; has1 = bit_of_zero 64 k; has2 = bit_of_zero 64 k; has3 = bit_of_zero 64 k; has4 = bit_of_zero 64 k; has5 = bit_of_zero 64 k; has6 = bit_of_zero 64 k; has7 = bit_of_zero 64 k; has8 = bit_of_zero 64 k };
   top = lit< tt;
 }
 
-pub raising-next : {flips : List ℕ} {p : ℕ} {s r : Above} → Raising flips p s → p < 2040 → ((i : ℕ) → Fits w64 (get_or flips i 0)) → Raised s (at flips p) r → Raising flips (p + 1) r
+pub raising_next : {flips : List ℕ} {p : ℕ} {s r : Above} → Raising flips p s → p < 2040 → ((i : ℕ) → Fits w64 (get_or flips i 0)) → Raised s (at flips p) r → Raising flips (p + 1) r
 unfolding sum_to
-raising-next {flips} {p} {s} {r} so_far h small g =
+raising_next {flips} {p} {s} {r} so_far h small g =
     record {
       within = omega arith;
-      each = λ k. rw add-one (has-next (sum_to p (λ q. bit_of 64 (at flips q) k)) k (at flips p) s r (so_far.each k) g);
+      each = λ k. rw add-one (has_next (sum_to p (λ q. bit_of 64 (at flips q) k)) k (at flips p) s r (so_far.each k) g);
       top = rw g.at8 (or_lt 64 s.r8 (bit_and s.r7 (at flips p)) so_far.top (omega (arith, and_le_r s.r7 (at flips p), small p)));
     }
 
-pub raising-end : {flips : List ℕ} {p : ℕ} {s : Above} → Raising flips p s → 2040 ≤ p → s.r8 ≡ tooMany flips
-unfolding tooMany flipsIn
-raising-end {flips} {p} {s} so_far h =
+pub raising_end : {flips : List ℕ} {p : ℕ} {s : Above} → Raising flips p s → 2040 ≤ p → s.r8 ≡ too_many flips
+unfolding too_many flips_in
+raising_end {flips} {p} {s} so_far h =
     let e : p ≡ 2040 = omega (arith, so_far.within) in
-    sym (numberOf-bits 64 s.r8 so_far.top) ∙ numberOf-same 64 _ _ (λ k l. rw e at (so_far.each k).has8)
+    sym (number_of_bits_lem 64 s.r8 so_far.top) ∙ number_of_same 64 _ _ (λ k l. rw e at (so_far.each k).has8)

@@ -1,20 +1,20 @@
 -- `inner_words::store` meets its contract. Assumes nothing.
 use Prim.Native.Nat.{◌-◌}
 use borrow.Author.Rules.{rules}
-use Rattle.fields.proofs.Places.Placing.{Placing, placing-start}
-use Rattle.inner_words.specs.Steps.BitSliced.{parityBytes}
-use Rattle.inner_words.proofs.ParityPlaces.Stored.{storing-next, storing-end}
+use Rattle.fields.proofs.Places.Placing.{Placing, placing_start}
+use Rattle.inner_words.specs.Steps.BitSliced.{parity_bytes}
+use Rattle.inner_words.proofs.ParityPlaces.Stored.{storing_next, storing_end}
 use Rattle.inner_words.proofs.store.Statement.{statement}
 use Rattle.inner_words.proofs.store.Tie as tie
 
 abbrev invariant-loop : tie.invariant-loop
-invariant-loop cells out₀ m₀ out m = Placing 15616 (parityBytes cells) m out₀ out
+invariant-loop cells out₀ m₀ out m = Placing 15616 (parity_bytes cells) m out₀ out
 
 abbrev decreases-loop : tie.decreases-loop
 decreases-loop cells out₀ m₀ out m = 704 - m
 
 loop-holds : tie.Need-loop-init invariant-loop decreases-loop
-loop-holds c = search (rules, placing-start)
+loop-holds c = search (rules, placing_start)
 
 mul-byte : tie.Need-overflow-mul-byte invariant-loop decreases-loop
 mul-byte c = search rules
@@ -38,13 +38,13 @@ loop-less : tie.Need-loop-smaller invariant-loop decreases-loop
 loop-less c = search rules
 
 loop-again : tie.Need-loop-preserved invariant-loop decreases-loop
-loop-again c = search (rules, storing-next)
+loop-again c = search (rules, storing_next)
 
 same_length : tie.Need-same-length invariant-loop decreases-loop
 same_length c = search rules
 
 returns : tie.Need-returns invariant-loop decreases-loop
-returns c = search (rules, storing-end)
+returns c = search (rules, storing_end)
 
 pub store_spec : {M : Type 1} → statement M
 store_spec =

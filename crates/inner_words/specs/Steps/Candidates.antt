@@ -3,10 +3,10 @@ use Rattle.std.specs.Prelude.{◌≡◌, cond, List, ℕ, ◌/◌, ◌%◌, ◌<
 use Rattle.std.specs.Int.Bits.{bit_and, bit_or}
 use Rattle.fields.specs.Elements.{xor}
 use Rattle.fields.specs.Places.{at, sum_to}
-use Rattle.lanes.specs.Steps.Sliced.{orTo}
+use Rattle.lanes.specs.Steps.Sliced.{or_to}
 use Rattle.words.specs.Bits.{bit_of, number_of, bit_at, bytes_of}
 use Rattle.inner_words.specs.declared.candidates.Above.{Above}
-use Rattle.inner_words.specs.Steps.InnerResidues.{residuesOf, sum_at}
+use Rattle.inner_words.specs.Steps.InnerResidues.{residues_of, sum_at}
 
 -- the places of the candidates are inverted in the inner words that the mask has a 1 for
 pub record Flipped (flips : List ℕ) (mask : ℕ) (before after : List ℕ) : Type 0 where
@@ -14,8 +14,8 @@ pub record Flipped (flips : List ℕ) (mask : ℕ) (before after : List ℕ) : T
   pub bits : (i : ℕ) → i < 130560 → bit_at after i ≡ xor (bit_at before i) (bit_of 64 (bit_and (at flips (i / 64)) mask) (i % 64))
 
 -- in how many places inner word k is to be inverted
-unfoldable pub flipsIn : List ℕ → ℕ → ℕ
-flipsIn flips k = sum_to 2040 (λ p. bit_of 64 (at flips p) k)
+unfoldable pub flips_in : List ℕ → ℕ → ℕ
+flips_in flips k = sum_to 2040 (λ p. bit_of 64 (at flips p) k)
 
 -- 1 for a number above j
 unfoldable pub above : ℕ → ℕ → ℕ
@@ -34,20 +34,20 @@ pub record Raised (s : Above) (x : ℕ) (r : Above) : Type 0 where
   pub at8 : r.r8 ≡ bit_or s.r8 (bit_and s.r7 x)
 
 -- 1 where more than eight places of an inner word are to be inverted
-unfoldable pub tooMany : List ℕ → ℕ
-tooMany flips = number_of 64 (λ k. above 8 (flipsIn flips k))
+unfoldable pub too_many : List ℕ → ℕ
+too_many flips = number_of 64 (λ k. above 8 (flips_in flips k))
 
 -- the candidates as a block: a 1 in each place that is to be inverted
-unfoldable pub flipBit : List ℕ → ℕ → ℕ
-flipBit flips i = bit_of 64 (at flips (i / 64)) (i % 64)
+unfoldable pub flip_bit : List ℕ → ℕ → ℕ
+flip_bit flips i = bit_of 64 (at flips (i / 64)) (i % 64)
 
 pub record AsBlock (flips block : List ℕ) : Type 0 where
   pub long : length block ≡ 16320
-  pub bits : (i : ℕ) → i < 130560 → bit_at block i ≡ flipBit flips i
+  pub bits : (i : ℕ) → i < 130560 → bit_at block i ≡ flip_bit flips i
 
 -- 1 where a residue of the inner word plus that of its places is not zero, or more than eight places are to be inverted
 unfoldable pub failing : List ℕ → List ℕ → ℕ
-failing residues flips = bit_or (orTo 88 (sum_at residues (residuesOf (bytes_of 16320 (flipBit flips)) 2040))) (tooMany flips)
+failing residues flips = bit_or (or_to 88 (sum_at residues (residues_of (bytes_of 16320 (flip_bit flips)) 2040))) (too_many flips)
 
 -- how many of 64 bits are 1
 unfoldable pub ones : ℕ → ℕ

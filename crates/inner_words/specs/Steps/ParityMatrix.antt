@@ -3,7 +3,7 @@ use Rattle.std.specs.Prelude.{List, [], ◌∷◌, ℕ, ◌+◌, ◌*◌, ◌/�
 use Rattle.fields.specs.Lists.{tabulate}
 use Rattle.fields.specs.Elements.{scale, doubled}
 use Rattle.fields.specs.Places.{at}
-use Rattle.decoding.specs.Steps.Decoder.{xorTo}
+use Rattle.decoding.specs.Steps.Decoder.{xor_to}
 use Rattle.words.specs.Bits.{bit_of, number_of, bit_at, bytes_of}
 use Rattle.words.specs.InnerCode.{value_of, divisor}
 
@@ -17,19 +17,19 @@ unfoldable pub column : ℕ → ℕ
 column c = value_of (doubled 88 divisor) (at shares (c / 11)) 12 (2 ^ (c % 11))
 
 -- for each parity bit q the 88 bits that pick the coefficients whose sum it is, one after the other
-unfoldable pub parityMatrix : List ℕ
-parityMatrix = bytes_of 968 (λ i. bit_of 88 (column (i % 88)) (i / 88))
+unfoldable pub parity_matrix : List ℕ
+parity_matrix = bytes_of 968 (λ i. bit_of 88 (column (i % 88)) (i / 88))
 
 -- of the four numbers from 4 g on, the sum of those at which v has a 1, the highest of four bits first; these sums for all g and v
-unfoldable pub fourSum : List ℕ → ℕ → ℕ → ℕ
-fourSum xs g v = xorTo 4 (λ t. scale (bit_of 4 v t) (at xs (4 * g + t)))
+unfoldable pub four_sum : List ℕ → ℕ → ℕ → ℕ
+four_sum xs g v = xor_to 4 (λ t. scale (bit_of 4 v t) (at xs (4 * g + t)))
 
-unfoldable pub fourSums : List ℕ → List ℕ
-fourSums xs = tabulate 352 (λ i. fourSum xs (i / 16) (i % 16))
+unfoldable pub four_sums : List ℕ → List ℕ
+four_sums xs = tabulate 352 (λ i. four_sum xs (i / 16) (i % 16))
 
 -- parity place q, four numbers at a time; and all parity places
-unfoldable pub paritySum : List ℕ → List ℕ → ℕ → ℕ
-paritySum sums matrix q = xorTo 22 (λ g. at sums (16 * g + number_of 4 (λ t. bit_at matrix (88 * q + 4 * g + t))))
+unfoldable pub parity_sum : List ℕ → List ℕ → ℕ → ℕ
+parity_sum sums matrix q = xor_to 22 (λ g. at sums (16 * g + number_of 4 (λ t. bit_at matrix (88 * q + 4 * g + t))))
 
-unfoldable pub paritySums : List ℕ → List ℕ
-paritySums xs = tabulate 88 (paritySum (fourSums xs) parityMatrix)
+unfoldable pub parity_sums : List ℕ → List ℕ
+parity_sums xs = tabulate 88 (parity_sum (four_sums xs) parity_matrix)

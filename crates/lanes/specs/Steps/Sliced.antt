@@ -8,8 +8,8 @@ abbrev pub cells : Lanes → List ℕ
 cells s = s.r0 ∷ s.r1 ∷ s.r2 ∷ s.r3 ∷ s.r4 ∷ s.r5 ∷ s.r6 ∷ s.r7 ∷ s.r8 ∷ s.r9 ∷ s.r10 ∷ []
 
 -- the bit of inner word k in a number
-unfoldable pub laneBit : ℕ → ℕ → ℕ
-laneBit k x = x / 2 ^ (63 - k) % 2
+unfoldable pub lane_bit : ℕ → ℕ → ℕ
+lane_bit k x = x / 2 ^ (63 - k) % 2
 
 -- the bit of inner word k where the first of eight bytes is the lowest, not the highest
 unfoldable pub turned : ℕ → ℕ
@@ -18,13 +18,13 @@ turned k = 8 * (7 - k / 8) + k % 8
 -- the number whose bits, the lowest first, are those of inner word k in some numbers
 unfoldable pub lane : ℕ → List ℕ → ℕ
 lane k [] = 0
-lane k (x ∷ s) = laneBit k x + 2 * lane k s
+lane k (x ∷ s) = lane_bit k x + 2 * lane k s
 
 -- the element of inner word k
 abbrev pub element : ℕ → Lanes → ℕ
 element k x = lane k (cells x)
 
 -- a bit is 1 where it is 1 in some of f 0, .. f (n - 1)
-unfoldable pub orTo : ℕ → (ℕ → ℕ) → ℕ
-orTo zero f = 0
-orTo (suc n) f = bit_or (orTo n f) (f n)
+unfoldable pub or_to : ℕ → (ℕ → ℕ) → ℕ
+or_to zero f = 0
+or_to (suc n) f = bit_or (or_to n f) (f n)

@@ -1,6 +1,6 @@
 -- `logging::count_in` meets its contract. Assumes nothing.
 use borrow.Author.Rules.{rules}
-use Rattle.logging.proofs.Order.{count-inside, count-outside}
+use Rattle.logging.proofs.Order.{count_inside, count_outside}
 use Rattle.logging.proofs.count_in.Statement.{statement}
 use Rattle.logging.proofs.count_in.Tie as tie
 
@@ -14,10 +14,10 @@ wide-requires : tie.Need-wide-requires
 wide-requires c κs = search rules
 
 returns : tie.Need-returns
-returns c = search (rules, count-inside)
+returns c = search (rules, count_inside)
 
 returns-2 : tie.Need-returns-2
-returns-2 c = search (rules, count-outside)
+returns-2 c = search (rules, count_outside)
 
 pub count-in-spec : {M : Type 1} → statement M
 count-in-spec = tie.close (tie.spec mul_wide element-copy-out-wide wide-requires returns returns-2)

@@ -1,6 +1,6 @@
 -- `logging::is_before` meets its contract. Assumes nothing.
 use borrow.Author.Rules.{rules}
-use Rattle.logging.proofs.Order.{before-count, before-data, before-number}
+use Rattle.logging.proofs.Order.{before_count, before_data, before_number}
 use Rattle.logging.proofs.is_before.Statement.{statement}
 use Rattle.logging.proofs.is_before.Tie as tie
 
@@ -17,13 +17,13 @@ count-in-requires-2 : tie.Need-count-in-requires-2
 count-in-requires-2 c κs = search rules
 
 returns : tie.Need-returns
-returns c = search (rules, before-count)
+returns c = search (rules, before_count)
 
 returns-2 : tie.Need-returns-2
-returns-2 c = search (rules, before-data)
+returns-2 c = search (rules, before_data)
 
 returns-3 : tie.Need-returns-3
-returns-3 c = search (rules, before-number)
+returns-3 c = search (rules, before_number)
 
 pub is-before-spec : {M : Type 1} → statement M
 is-before-spec =

@@ -1,7 +1,7 @@
 -- `logging::worst_words` meets its contract. Assumes nothing.
 use Prim.Native.Nat.{◌-◌}
 use borrow.Author.Rules.{rules}
-use Rattle.logging.proofs.Listing.{Listed, listed_start, listed_next, listed-end}
+use Rattle.logging.proofs.Listing.{Listed, listed_start, listed_next, listed_end}
 use Rattle.logging.proofs.worst_words.Statement.{statement}
 use Rattle.logging.proofs.worst_words.Tie as tie
 
@@ -39,7 +39,7 @@ loop-again : tie.Need-loop-preserved invariant-loop decreases-loop
 loop-again c = search (rules, listed_next)
 
 returns : tie.Need-returns invariant-loop decreases-loop
-returns c = search (rules, listed-end)
+returns c = search (rules, listed_end)
 
 pub worst-words-spec : {M : Type 1} → statement M
 worst-words-spec =

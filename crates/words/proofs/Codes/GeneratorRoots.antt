@@ -11,13 +11,13 @@ use Rattle.fields.specs.Elements.{xor, times, power}
 use Rattle.fields.specs.Field.{Field}
 use Rattle.fields.specs.Lists.{tabulate}
 use Rattle.fields.specs.Places.{at, horner, value}
-use Rattle.fields.proofs.Doubling.{two-le}
-use Rattle.fields.proofs.Lists.{tabulate-at, tabulate-length, tabulate-lt}
-use Rattle.fields.proofs.Xor.{xor_self, xor_zero_l, xor_zero_r, additive-zero}
-use Rattle.decoding.proofs.Algebra.Values.{value-lt}
-use Rattle.words.specs.ReedSolomon.{withRoot, generatorOf}
-use Rattle.words.proofs.Codes.Horner.{Additive, iter, iter-sum, horner-same, horner-sum, horner-front}
-use Rattle.words.proofs.Codes.Division.{value-times}
+use Rattle.fields.proofs.Doubling.{two_le}
+use Rattle.fields.proofs.Lists.{tabulate_at, tabulate_length, tabulate_lt}
+use Rattle.fields.proofs.Xor.{xor_self, xor_zero_l, xor_zero_r, additive_zero}
+use Rattle.decoding.proofs.Algebra.Values.{value_lt}
+use Rattle.words.specs.ReedSolomon.{with_root, generator_of}
+use Rattle.words.proofs.Codes.Horner.{Additive, iter, iter_sum, horner_same, horner_sum, horner_front}
+use Rattle.words.proofs.Codes.Division.{value_times}
 
 module _ (m p : ℕ) (F : Field m p) where
   -- x + r times a polynomial of n + 1 coefficients, at x: x times its value, and r times its value
@@ -25,78 +25,78 @@ module _ (m p : ℕ) (F : Field m p) where
     abbrev f : ℕ → ℕ
     f v = times m p v x
 
-    f-sum : Additive f
-    f-sum u v = F.sum-times u v x
+    f_sum : Additive f
+    f_sum u v = F.sum_times u v x
 
-    moved-lt : (i : ℕ) → at (0 ∷ g) i < 2 ^ m
-    moved-lt zero = pow_pos m
-    moved-lt (suc i) = elements i
+    moved_lt : (i : ℕ) → at (0 ∷ g) i < 2 ^ m
+    moved_lt zero = pow_pos m
+    moved_lt (suc i) = elements i
 
     moved_value : horner f (at (0 ∷ g)) (suc (suc n)) ≡ horner f (at g) (suc n)
     moved_value =
-        horner-front f f-sum (at (0 ∷ g)) (suc n)
-        ∙ ap (λ (v : ℕ). xor v (horner f (at g) (suc n))) (additive-zero (iter f (suc n)) (iter-sum f f-sum (suc n))) ∙ xor_zero_l _
+        horner_front f f_sum (at (0 ∷ g)) (suc n)
+        ∙ ap (λ (v : ℕ). xor v (horner f (at g) (suc n))) (additive_zero (iter f (suc n)) (iter_sum f f_sum (suc n))) ∙ xor_zero_l _
 
-    raised-value : horner f (at g) (suc (suc n)) ≡ f (horner f (at g) (suc n))
+    raised_value : horner f (at g) (suc (suc n)) ≡ f (horner f (at g) (suc n))
     unfolding horner
-    raised-value =
+    raised_value =
         let past : at g (suc n) ≡ 0 = get_or-eq_default g 0 {n = suc n} (omega arith) in
         ap (xor (f (horner f (at g) (suc n)))) past ∙ xor_zero_r _
 
-    with-root-value : value m p x (at (withRoot m p r g)) (suc (suc n)) ≡ xor (times m p (value m p x (at g) (suc n)) x) (times m p r (value m p x (at g) (suc n)))
-    unfolding withRoot
-    with-root-value =
-        horner-same f (at (withRoot m p r g)) (λ i. xor (at g i) (times m p r (at (0 ∷ g) i))) (suc (suc n)) (λ i l. tabulate-at (suc (length g)) _ i 0 (omega arith))
-        ∙ horner-sum f f-sum (at g) (λ i. times m p r (at (0 ∷ g) i)) (suc (suc n))
-        ∙ ap₂ xor raised-value (value-times m p F x hx r hr (at (0 ∷ g)) moved-lt (suc (suc n)) ∙ ap (times m p r) moved_value)
+    with_root_value : value m p x (at (with_root m p r g)) (suc (suc n)) ≡ xor (times m p (value m p x (at g) (suc n)) x) (times m p r (value m p x (at g) (suc n)))
+    unfolding with_root
+    with_root_value =
+        horner_same f (at (with_root m p r g)) (λ i. xor (at g i) (times m p r (at (0 ∷ g) i))) (suc (suc n)) (λ i l. tabulate_at (suc (length g)) _ i 0 (omega arith))
+        ∙ horner_sum f f_sum (at g) (λ i. times m p r (at (0 ∷ g) i)) (suc (suc n))
+        ∙ ap₂ xor raised_value (value_times m p F x hx r hr (at (0 ∷ g)) moved_lt (suc (suc n)) ∙ ap (times m p r) moved_value)
 
   -- ---- the generator: its degree, elements, the leading coefficient 1, and zero at the roots
 
   module _ (first : ℕ) where
-    pub generator-length : (n : ℕ) → length (generatorOf m p first n) ≡ suc n
-    unfolding generatorOf withRoot
-    generator-length zero = refl
-    generator-length (suc n) = tabulate-length (suc (length (generatorOf m p first n))) _ ∙ ap suc (generator-length n)
+    pub generator_length : (n : ℕ) → length (generator_of m p first n) ≡ suc n
+    unfolding generator_of with_root
+    generator_length zero = refl
+    generator_length (suc n) = tabulate_length (suc (length (generator_of m p first n))) _ ∙ ap suc (generator_length n)
 
-    pub generator-elements : (n i : ℕ) → at (generatorOf m p first n) i < 2 ^ m
-    unfolding generatorOf withRoot
-    generator-elements zero zero = omega (arith, two-le m F.positive)
-    generator-elements zero (suc i) = pow_pos m
-    generator-elements (suc n) i =
-        tabulate-lt (2 ^ m) _ _ (pow_pos m) (λ i. F.sum_lt _ _ (generator-elements n i) (F.times-lt _ _ (F.power-lt (first + n)))) i
+    pub generator_elements : (n i : ℕ) → at (generator_of m p first n) i < 2 ^ m
+    unfolding generator_of with_root
+    generator_elements zero zero = omega (arith, two_le m F.positive)
+    generator_elements zero (suc i) = pow_pos m
+    generator_elements (suc n) i =
+        tabulate_lt (2 ^ m) _ _ (pow_pos m) (λ i. F.sum_lt _ _ (generator_elements n i) (F.times_lt _ _ (F.power_lt (first + n)))) i
 
-    pub generator-monic : (n : ℕ) → at (generatorOf m p first n) 0 ≡ 1
-    unfolding generatorOf withRoot tabulate
-    generator-monic zero = refl
-    generator-monic (suc n) = ap₂ xor (generator-monic n) (F.times_zero (power m p (first + n))) ∙ xor_zero_r 1
+    pub generator_monic : (n : ℕ) → at (generator_of m p first n) 0 ≡ 1
+    unfolding generator_of with_root tabulate
+    generator_monic zero = refl
+    generator_monic (suc n) = ap₂ xor (generator_monic n) (F.times_zero (power m p (first + n))) ∙ xor_zero_r 1
 
-    pub generator-vanishes : (n j : ℕ) → j < n → value m p (power m p (first + j)) (at (generatorOf m p first n)) (suc n) ≡ 0
-    unfolding generatorOf
-    generator-vanishes zero j l = absurd (not-suc-le-zero l)
-    generator-vanishes (suc n) j l = go (ℕ_discrete j n) (generator-vanishes n j)
+    pub generator_vanishes : (n j : ℕ) → j < n → value m p (power m p (first + j)) (at (generator_of m p first n)) (suc n) ≡ 0
+    unfolding generator_of
+    generator_vanishes zero j l = absurd (not-suc-le-zero l)
+    generator_vanishes (suc n) j l = go (ℕ_discrete j n) (generator_vanishes n j)
       where
         x : ℕ
         x = power m p (first + j)
 
         x_lt : power m p (first + j) < 2 ^ m
-        x_lt = F.power-lt (first + j)
+        x_lt = F.power_lt (first + j)
 
         r : ℕ
         r = power m p (first + n)
 
         v : ℕ
-        v = value m p (power m p (first + j)) (at (generatorOf m p first n)) (suc n)
+        v = value m p (power m p (first + j)) (at (generator_of m p first n)) (suc n)
 
-        v-lt : v < 2 ^ m
-        v-lt = value-lt m p F (power m p (first + j)) (at (generatorOf m p first n)) (generator-elements n) (suc n)
+        v_lt : v < 2 ^ m
+        v_lt = value_lt m p F (power m p (first + j)) (at (generator_of m p first n)) (generator_elements n) (suc n)
 
-        is : value m p x (at (generatorOf m p first (suc n))) (suc (suc n)) ≡ xor (times m p v x) (times m p r v)
-        is = with-root-value (generatorOf m p first n) n (generator-length n) (generator-elements n) x r x_lt (F.power-lt (first + n))
+        is : value m p x (at (generator_of m p first (suc n))) (suc (suc n)) ≡ xor (times m p v x) (times m p r v)
+        is = with_root_value (generator_of m p first n) n (generator_length n) (generator_elements n) x r x_lt (F.power_lt (first + n))
 
-        go : Dec (j ≡ n) → (j < n → v ≡ 0) → value m p x (at (generatorOf m p first (suc n))) (suc (suc n)) ≡ 0
+        go : Dec (j ≡ n) → (j < n → v ≡ 0) → value m p x (at (generator_of m p first (suc n))) (suc (suc n)) ≡ 0
         go (yes e) before =
             is ∙ ap (λ (k : ℕ). xor (times m p v x) (times m p (power m p (first + k)) v)) (sym e)
-            ∙ ap (λ (y : ℕ). xor y (times m p x v)) (F.times-comm v x v-lt x_lt) ∙ xor_self _
+            ∙ ap (λ (y : ℕ). xor y (times m p x v)) (F.times_comm v x v_lt x_lt) ∙ xor_self _
         go (no e) before =
             let z : v ≡ 0 = before (omega arith) in
-            is ∙ ap₂ xor (F.times-comm v x v-lt x_lt ∙ ap (times m p x) z ∙ F.times_zero x) (ap (times m p r) z ∙ F.times_zero r) ∙ xor_self 0
+            is ∙ ap₂ xor (F.times_comm v x v_lt x_lt ∙ ap (times m p x) z ∙ F.times_zero x) (ap (times m p r) z ∙ F.times_zero r) ∙ xor_self 0

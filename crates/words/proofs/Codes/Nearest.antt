@@ -12,9 +12,9 @@ use borrow.Author.Tests.{leb-true, leb-false}
 use lib.Dec.{leb}
 use lib.ListN.{length}
 use Rattle.fields.specs.Places.{at, all_below, apart}
-use Rattle.fields.proofs.Places.Tests.{below-lt}
-use Rattle.fields.proofs.Places.Counting.{apart-two}
-use Rattle.words.specs.Nearest.{or_else, first_at, first_word, nearestBy, DecodesBy, nearest, Decodes}
+use Rattle.fields.proofs.Places.Tests.{below_lt}
+use Rattle.fields.proofs.Places.Counting.{apart_two}
+use Rattle.words.specs.Nearest.{or_else, first_at, first_word, nearest_by, DecodesBy, nearest, Decodes}
 
 -- ---- the search through all words
 
@@ -24,10 +24,10 @@ module _ {A : Type 0} where
   or_some none b x e P f g = g e
   or_some (some a) b x e P f g = f e
 
-  or-none : (a b : Option A) → or_else a b ≡ none → (a ≡ none) × (b ≡ none)
+  or_none : (a b : Option A) → or_else a b ≡ none → (a ≡ none) × (b ≡ none)
   unfolding or_else
-  or-none none b e = (refl, e)
-  or-none (some a) b e = (e, cc)
+  or_none none b e = (refl, e)
+  or_none (some a) b e = (e, cc)
 
   at_some : (q : ℕ) (f : ℕ → Option A) (x : A) → first_at q f ≡ some x → (s : ℕ) × (f s ≡ some x)
   unfolding first_at
@@ -37,7 +37,7 @@ module _ {A : Type 0} where
   at_none : (q : ℕ) (f : ℕ → Option A) → first_at q f ≡ none → (s : ℕ) → s < q → f s ≡ none
   unfolding first_at
   at_none zero f e s h = absurd (not-suc-le-zero h)
-  at_none (suc q) f e s h = go (or-none (first_at q f) (f q) e) (at_none q f) (ℕ_discrete s q)
+  at_none (suc q) f e s h = go (or_none (first_at q f) (f q) e) (at_none q f) (ℕ_discrete s q)
     where
       go : (first_at q f ≡ none) × (f q ≡ none) → (first_at q f ≡ none → (s : ℕ) → s < q → f s ≡ none) → Dec (s ≡ q) → f s ≡ none
       go p ih (yes i) = rw i p.1
@@ -66,9 +66,9 @@ module _ (cost : List ℕ → List ℕ → ℕ) (is_code : List ℕ → Bool) (q
     pub code : is_code c ≡ true
     pub within : cost w c ≤ t
 
-  by-some : (w c : List ℕ) → nearestBy cost is_code q t w ≡ some c → Cheap w c
-  unfolding nearestBy
-  by-some w c e =
+  by_some : (w c : List ℕ) → nearest_by cost is_code q t w ≡ some c → Cheap w c
+  unfolding nearest_by
+  by_some w c e =
       let r = word_some q (length w) (λ c. cond (is_code c && leb (cost w c) t) (some c) none) c e in
       go r.0 r.1 (is_code r.0) (leb (cost w r.0) t) refl refl r.2
     where
@@ -79,57 +79,57 @@ module _ (cost : List ℕ → List ℕ → ℕ) (is_code : List ℕ → Bool) (q
       go d l true false i b e = let z : ◌≡◌ {A = ℕ} 0 1 = cc in absurd (omega arith)
       go d l false b i b' e = let z : ◌≡◌ {A = ℕ} 0 1 = cc in absurd (omega arith)
 
-  by-none : (w c : List ℕ) → nearestBy cost is_code q t w ≡ none → length c ≡ length w → all_below q c ≡ true → is_code c ≡ true → t < cost w c
-  unfolding nearestBy
-  by-none w c e l b i =
+  by_none : (w c : List ℕ) → nearest_by cost is_code q t w ≡ none → length c ≡ length w → all_below q c ≡ true → is_code c ≡ true → t < cost w c
+  unfolding nearest_by
+  by_none w c e l b i =
       go (leb (cost w c) t) refl
-      (rw i at (word_none q c (λ c. cond (is_code c && leb (cost w c) t) (some c) none) (rw l e) (below-lt q c b)))
+      (rw i at (word_none q c (λ c. cond (is_code c && leb (cost w c) t) (some c) none) (rw l e) (below_lt q c b)))
     where
       go : (x : Bool) → leb (cost w c) t ≡ x → cond (leb (cost w c) t) (some c) none ≡ none → t < cost w c
       go true x h = let z : ◌≡◌ {A = ℕ} 0 1 = cc in omega arith
       go false x h = leb-false (cost w c) t x
 
   -- where every code word costs more than t, none is found
-  pub by-lost : (w : List ℕ) → ((c : List ℕ) → is_code c ≡ true → length c ≡ length w → t < cost w c) → nearestBy cost is_code q t w ≡ none
-  by-lost w h = go (nearestBy cost is_code q t w) refl
+  pub by_lost : (w : List ℕ) → ((c : List ℕ) → is_code c ≡ true → length c ≡ length w → t < cost w c) → nearest_by cost is_code q t w ≡ none
+  by_lost w h = go (nearest_by cost is_code q t w) refl
     where
-      go : (o : Option (List ℕ)) → nearestBy cost is_code q t w ≡ o → o ≡ none
+      go : (o : Option (List ℕ)) → nearest_by cost is_code q t w ≡ o → o ≡ none
       go none e = refl
-      go (some d) e = let m = by-some w d e in absurd (omega (arith, h d m.code m.as_long, m.within))
+      go (some d) e = let m = by_some w d e in absurd (omega (arith, h d m.code m.as_long, m.within))
 
   -- code words have symbols below q, and two that a word of length n becomes cheaply enough are the same
   module _ (n : ℕ) (below : (c : List ℕ) → is_code c ≡ true → all_below q c ≡ true)
       (only : (w c d : List ℕ) → length w ≡ n → Cheap w c → Cheap w d → c ≡ d) where
     -- the code word that is cheap enough is the one that is found
-    by-is : (w c : List ℕ) → length w ≡ n → Cheap w c → nearestBy cost is_code q t w ≡ some c
-    by-is w c l m = go (nearestBy cost is_code q t w) refl
+    by_is : (w c : List ℕ) → length w ≡ n → Cheap w c → nearest_by cost is_code q t w ≡ some c
+    by_is w c l m = go (nearest_by cost is_code q t w) refl
       where
-        go : (o : Option (List ℕ)) → nearestBy cost is_code q t w ≡ o → o ≡ some c
-        go none e = absurd (omega (arith, by-none w c e m.as_long (below c m.code) m.code, m.within))
-        go (some d) e = ap some (only w d c l (by-some w d e) m)
+        go : (o : Option (List ℕ)) → nearest_by cost is_code q t w ≡ o → o ≡ some c
+        go none e = absurd (omega (arith, by_none w c e m.as_long (below c m.code) m.code, m.within))
+        go (some d) e = ap some (only w d c l (by_some w d e) m)
 
-    pub decodes-by : DecodesBy cost is_code q t n
-    decodes-by =
+    pub decodes_by : DecodesBy cost is_code q t n
+    decodes_by =
         record {
-          sound = λ w c l e. let k = by-some w c e in (k.as_long ∙ l, k.code, k.within);
-          complete = λ w c l m i a. by-is w c l (record { as_long = m ∙ sym l; code = i; within = a });
-          none-means-none = λ w c l e m i. by-none w c e (m ∙ sym l) (below c i) i;
+          sound = λ w c l e. let k = by_some w c e in (k.as_long ∙ l, k.code, k.within);
+          complete = λ w c l m i a. by_is w c l (record { as_long = m ∙ sym l; code = i; within = a });
+          none_means_none = λ w c l e m i. by_none w c e (m ∙ sym l) (below c i) i;
         }
 
 -- ---- the radius t: the cost is the distance
 
 module _ (is_code : List ℕ → Bool) (q t : ℕ) where
   -- the first code word among all words that differs in at most t places
-  pub nearest-first : (w : List ℕ) → nearest is_code q t w ≡ first_word q (length w) (λ c. cond (is_code c && leb (apart w c) t) (some c) none)
-  unfolding nearestBy
-  nearest-first w = refl
+  pub nearest_first : (w : List ℕ) → nearest is_code q t w ≡ first_word q (length w) (λ c. cond (is_code c && leb (apart w c) t) (some c) none)
+  unfolding nearest_by
+  nearest_first w = refl
 
-  pub nearest-lost : (w : List ℕ) → ((c : List ℕ) → is_code c ≡ true → length c ≡ length w → t < apart w c) → nearest is_code q t w ≡ none
-  nearest-lost = by-lost apart is_code q t
+  pub nearest_lost : (w : List ℕ) → ((c : List ℕ) → is_code c ≡ true → length c ≡ length w → t < apart w c) → nearest is_code q t w ≡ none
+  nearest_lost = by_lost apart is_code q t
 
   -- code words of length n that differ in at most t + t places are the same
   pub decodes : (n : ℕ) → ((c : List ℕ) → is_code c ≡ true → all_below q c ≡ true) →
       ((c d : List ℕ) → is_code c ≡ true → is_code d ≡ true → length c ≡ n → length d ≡ n → apart c d ≤ t + t → c ≡ d) → Decodes is_code q t n
   decodes n below far =
-      decodes-by apart is_code q t n below
-      (λ w c d l k m. far c d k.code m.code (k.as_long ∙ l) (m.as_long ∙ l) (omega (arith, apart-two w c d k.as_long, k.within, m.within)))
+      decodes_by apart is_code q t n below
+      (λ w c d l k m. far c d k.code m.code (k.as_long ∙ l) (m.as_long ∙ l) (omega (arith, apart_two w c d k.as_long, k.within, m.within)))

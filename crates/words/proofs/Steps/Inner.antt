@@ -16,29 +16,29 @@ use lib.Seq.{get_or-set_same, get_or-set_other}
 use mir.Syntax.{w16, w64}
 use mir.Val.{Fits}
 use Rattle.fields.specs.Steps.Buffers.{copied}
-use Rattle.fields.specs.Elements.{xor, powersB, exponentsB}
-use Rattle.fields.specs.Steps.ByTables.{tableProduct, tablePower}
+use Rattle.fields.specs.Elements.{xor, powers_b, exponents_b}
+use Rattle.fields.specs.Steps.ByTables.{table_product, table_power}
 use Rattle.fields.specs.Lists.{tabulate}
 use Rattle.fields.specs.Places.{at, every, all_below, differs}
-use Rattle.fields.proofs.Instances.{field-b}
-use Rattle.fields.proofs.Lists.{tabulate-at, tabulate-same}
-use Rattle.fields.proofs.Xor.{xor_zero_r, xor_assoc, xor-high, xor-bit}
-use Rattle.fields.proofs.Places.Filling.{Filled, filled_next, filled-end}
-use Rattle.fields.proofs.Places.Tests.{every-at, every-false}
-use Rattle.decoding.specs.Steps.Decoder.{Tables, locator, xorTo, errorAt, Decoded, withErrors}
-use Rattle.decoding.proofs.Steps.Symbols.{copied-same}
-use Rattle.decoding.proofs.Algebra.Tables.{powers-length, tables-b}
+use Rattle.fields.proofs.Instances.{field_b}
+use Rattle.fields.proofs.Lists.{tabulate_at, tabulate_same}
+use Rattle.fields.proofs.Xor.{xor_zero_r, xor_assoc, xor_high, xor_bit}
+use Rattle.fields.proofs.Places.Filling.{Filled, filled_next, filled_end}
+use Rattle.fields.proofs.Places.Tests.{every_at, every_false}
+use Rattle.decoding.specs.Steps.Decoder.{Tables, locator, xor_to, error_at, Decoded, with_errors}
+use Rattle.decoding.proofs.Steps.Symbols.{copied_same}
+use Rattle.decoding.proofs.Algebra.Tables.{powers_length, tables_b}
 use Rattle.words.specs.Bits.{bit_of, bit_at, bits_of}
 use Rattle.words.specs.InnerCode.{divisor, remainder}
 use Rattle.words.specs.Steps.Limbs.{number, Represents}
-use Rattle.words.specs.Steps.InnerDecoding.{powersValue, oddSyndromes, plusTerm, Syndromes, isBit, isBinary, flips, ErrorsOf, InnerErrors, inverted, explains}
-use Rattle.words.proofs.Decoding.Inner.{flip-at}
+use Rattle.words.specs.Steps.InnerDecoding.{powers_value, odd_syndromes, plus_term, Syndromes, is_bit, is_binary, flips, ErrorsOf, InnerErrors, inverted, explains}
+use Rattle.words.proofs.Decoding.Inner.{flip_at}
 
 -- coefficient k of 88, the highest first: where it is one of the 48 low ones, and where it is not
 module _ (h l k : ℕ) (split : l < 2 ^ 48) (bound : k < 88) where
-  pub coefficient-low : 88 - 1 - k < 48 → l / 2 ^ (88 - 1 - k) % 2 ≡ bit_of 88 (number h l) k
+  pub coefficient_low : 88 - 1 - k < 48 → l / 2 ^ (88 - 1 - k) % 2 ≡ bit_of 88 (number h l) k
   unfolding number bit_of
-  coefficient-low low =
+  coefficient_low low =
       let x = h * 2 ^ 48 + l in
       let e = 88 - 1 - k in
       let n = 47 - e in
@@ -49,9 +49,9 @@ module _ (h l k : ℕ) (split : l < 2 ^ 48) (bound : k < 88) where
       ap (λ (z : ℕ). z / 2 ^ e % 2) (sym u ∙ ap (λ (z : ℕ). x % 2 ^ z) (sym sum)) ∙ ap (λ (z : ℕ). z % 2) part
       ∙ mod-mod-pow (x / 2 ^ e) n 1 ∙ ap (λ (z : ℕ). x / 2 ^ z % 2) same
 
-  pub coefficient-high : 48 ≤ 88 - 1 - k → h / 2 ^ (88 - 1 - k - 48) % 2 ≡ bit_of 88 (number h l) k
+  pub coefficient_high : 48 ≤ 88 - 1 - k → h / 2 ^ (88 - 1 - k - 48) % 2 ≡ bit_of 88 (number h l) k
   unfolding number bit_of
-  coefficient-high high =
+  coefficient_high high =
       let x = h * 2 ^ 48 + l in
       let e = 88 - 1 - k - 48 in
       let same : 48 + e ≡ 88 - suc k = omega arith in
@@ -59,51 +59,51 @@ module _ (h l k : ℕ) (split : l < 2 ^ 48) (bound : k < 88) where
       ap (λ (z : ℕ). z / 2 ^ e % 2) (sym u) ∙ ap (λ (z : ℕ). z % 2) (shr-shr x 48 e ∙ ap (λ (z : ℕ). x / 2 ^ z) same)
 
 -- exponents, and bits times powers, are numbers of 16 bits
-pub exponent-fits : (j i : ℕ) → j < 8 → i < 88 → (2 * j + 1) * i < 65536
-exponent-fits j i hj hi = let l : (2 * j + 1) * i ≤ 15 * i = mul-le-mul_right i (omega arith) in omega arith
+pub exponent_fits : (j i : ℕ) → j < 8 → i < 88 → (2 * j + 1) * i < 65536
+exponent_fits j i hj hi = let l : (2 * j + 1) * i ≤ 15 * i = mul-le-mul_right i (omega arith) in omega arith
 
 pub term_fits : (c x : ℕ) → c < 2 → x < 65536 → c * x < 65536
 term_fits c x hc hx = let l : c * x ≤ 1 * x = mul-le-mul_right x (omega arith) in omega arith
 
 -- the value at a^(2j+1), with that of the term c z^i added
-unfoldable pub termAdded : List ℕ → List ℕ → ℕ → ℕ → ℕ → ℕ
-termAdded es w c i j = xor (at w j) (c * tablePower es ((2 * j + 1) * i))
+unfoldable pub term_added : List ℕ → List ℕ → ℕ → ℕ → ℕ → ℕ
+term_added es w c i j = xor (at w j) (c * table_power es ((2 * j + 1) * i))
 
-module _ (es w out : List ℕ) (c i j : ℕ) (so_far : Filled 8 (termAdded es w c i) j out) where
-  pub term-next : (x r : ℕ) → j < 8 → x ≡ tablePower es ((2 * j + 1) * i) → r ≡ xor (get_or w j 0) (c * x) → Filled 8 (termAdded es w c i) (j + 1) (set out j r)
-  unfolding termAdded
-  term-next x r l ex er = filled_next so_far l (rw ex at er)
+module _ (es w out : List ℕ) (c i j : ℕ) (so_far : Filled 8 (term_added es w c i) j out) where
+  pub term_next : (x r : ℕ) → j < 8 → x ≡ table_power es ((2 * j + 1) * i) → r ≡ xor (get_or w j 0) (c * x) → Filled 8 (term_added es w c i) (j + 1) (set out j r)
+  unfolding term_added
+  term_next x r l ex er = filled_next so_far l (rw ex at er)
 
-  pub term-end : 8 ≤ j → out ≡ plusTerm es w c i
-  unfolding termAdded plusTerm
-  term-end l = filled-end so_far l
+  pub term_end : 8 ≤ j → out ≡ plus_term es w c i
+  unfolding term_added plus_term
+  term_end l = filled_end so_far l
 
 -- the values of the terms below z^k of the polynomial r
-unfoldable pub oddUpTo : List ℕ → ℕ → ℕ → List ℕ
-oddUpTo es r k = tabulate 8 (λ j. xorTo k (λ i. bit_of 88 r (87 - i) * tablePower es ((2 * j + 1) * i)))
+unfoldable pub odd_up_to : List ℕ → ℕ → ℕ → List ℕ
+odd_up_to es r k = tabulate 8 (λ j. xor_to k (λ i. bit_of 88 r (87 - i) * table_power es ((2 * j + 1) * i)))
 
 module _ (es : List ℕ) (r : ℕ) where
-  pub odd-none : replicate 8 0 ≡ oddUpTo es r 0
-  unfolding oddUpTo tabulate xorTo
-  odd-none = refl
+  pub odd_none : replicate 8 0 ≡ odd_up_to es r 0
+  unfolding odd_up_to tabulate xor_to
+  odd_none = refl
 
-  module _ (i : ℕ) (w : List ℕ) (so_far : w ≡ oddUpTo es r i) where
-    pub odd-next : (c : ℕ) (s : List ℕ) → c ≡ bit_of 88 r (88 - 1 - i) → s ≡ plusTerm es w c i → s ≡ oddUpTo es r (i + 1)
-    unfolding oddUpTo plusTerm xorTo
-    odd-next c s ec e =
-        rw (add-one, ← ec) (e ∙ tabulate-same 8 _ _ (λ j l. ap (λ (x : ℕ). xor x (c * tablePower es ((2 * j + 1) * i))) (ap (λ (v : List ℕ). at v j) so_far ∙ tabulate-at 8 _ j 0 l)))
+  module _ (i : ℕ) (w : List ℕ) (so_far : w ≡ odd_up_to es r i) where
+    pub odd_next : (c : ℕ) (s : List ℕ) → c ≡ bit_of 88 r (88 - 1 - i) → s ≡ plus_term es w c i → s ≡ odd_up_to es r (i + 1)
+    unfolding odd_up_to plus_term xor_to
+    odd_next c s ec e =
+        rw (add-one, ← ec) (e ∙ tabulate_same 8 _ _ (λ j l. ap (λ (x : ℕ). xor x (c * table_power es ((2 * j + 1) * i))) (ap (λ (v : List ℕ). at v j) so_far ∙ tabulate_at 8 _ j 0 l)))
 
-    pub odd-end : i ≤ 88 → 88 ≤ i → w ≡ oddSyndromes es r
-    unfolding oddUpTo oddSyndromes powersValue
-    odd-end l h = let q : i ≡ 88 = omega arith in rw q at so_far
+    pub odd_end : i ≤ 88 → 88 ≤ i → w ≡ odd_syndromes es r
+    unfolding odd_up_to odd_syndromes powers_value
+    odd_end l h = let q : i ≡ 88 = omega arith in rw q at so_far
 
 -- the syndromes at a^(2i+1) and a^(2i+2), stored
-pub syndromes-none : (es ls w t : List ℕ) → length t ≡ 16 → Syndromes es ls w 0 t
-syndromes-none es ls w t e = record { long = e; odd = λ j h. absurd (not-suc-le-zero h); even = λ j h. absurd (not-suc-le-zero h) }
+pub syndromes_none : (es ls w t : List ℕ) → length t ≡ 16 → Syndromes es ls w 0 t
+syndromes_none es ls w t e = record { long = e; odd = λ j h. absurd (not-suc-le-zero h); even = λ j h. absurd (not-suc-le-zero h) }
 
-pub syndromes-next : (es ls w : List ℕ) (i : ℕ) (t : List ℕ) → Syndromes es ls w i t → i < 8 → (y z : ℕ) → y ≡ get_or w i 0 →
-    z ≡ tableProduct es ls (get_or (set t (2 * i) y) i 0) (get_or (set t (2 * i) y) i 0) → Syndromes es ls w (i + 1) (set (set t (2 * i) y) (2 * i + 1) z)
-syndromes-next es ls w i t so_far l y z ey ez =
+pub syndromes_next : (es ls w : List ℕ) (i : ℕ) (t : List ℕ) → Syndromes es ls w i t → i < 8 → (y z : ℕ) → y ≡ get_or w i 0 →
+    z ≡ table_product es ls (get_or (set t (2 * i) y) i 0) (get_or (set t (2 * i) y) i 0) → Syndromes es ls w (i + 1) (set (set t (2 * i) y) (2 * i + 1) z)
+syndromes_next es ls w i t so_far l y z ey ez =
     record { long = length-set u (2 * i + 1) z ∙ same_length; odd = λ j h. odd j (ℕ_discrete j i) h; even = λ j h. even j (ℕ_discrete j i) h }
   where
     u : List ℕ
@@ -123,103 +123,103 @@ syndromes-next es ls w i t so_far l y z ey ez =
     odd j (no n) h = kept (2 * j) (λ q. omega arith) (λ q. omega arith) ∙ so_far.odd j (omega arith)
 
     even : (j : ℕ) → Dec (j ≡ i) → j < i + 1 →
-        get_or (set u (2 * i + 1) z) (2 * j + 1) 0 ≡ tableProduct es ls (get_or (set u (2 * i + 1) z) j 0) (get_or (set u (2 * i + 1) z) j 0)
+        get_or (set u (2 * i + 1) z) (2 * j + 1) 0 ≡ table_product es ls (get_or (set u (2 * i + 1) z) j 0) (get_or (set u (2 * i + 1) z) j 0)
     even j (yes e) h = rw (e, stored i (λ q. omega arith)) (get_or-set_same u (2 * i + 1) z 0 (omega (arith, same_length)) ∙ ez)
     even j (no n) h = rw (kept j (λ q. omega arith) (λ q. omega arith)) (kept (2 * j + 1) (λ q. omega arith) (λ q. omega arith) ∙ so_far.even j (omega arith))
 
-pub syndromes-end : (es ls w v : List ℕ) (i : ℕ) (t : List ℕ) → w ≡ v → Syndromes es ls w i t → i ≤ 8 → 8 ≤ i → Syndromes es ls v 8 t
-syndromes-end es ls w v i t q so_far l h = let e : i ≡ 8 = omega arith in rw (q, e) at so_far
+pub syndromes_end : (es ls w v : List ℕ) (i : ℕ) (t : List ℕ) → w ≡ v → Syndromes es ls w i t → i ≤ 8 → 8 ≤ i → Syndromes es ls v 8 t
+syndromes_end es ls w v i t q so_far l h = let e : i ≡ 8 = omega arith in rw (q, e) at so_far
 
 -- an error's value tested
 module _ (value x : ℕ) where
-  pub bit-none : value ≡ 0 → true ≡ isBit value x
-  unfolding isBit
-  bit-none e = rw (eq-eqb value 0 e)
+  pub bit_none : value ≡ 0 → true ≡ is_bit value x
+  unfolding is_bit
+  bit_none e = rw (eq-eqb value 0 e)
 
-  pub bit-some : (value ≡ 0 → ⊥) → eqb value x ≡ isBit value x
-  unfolding isBit
-  bit-some n = rw (ne_eqb value 0 n)
+  pub bit_some : (value ≡ 0 → ⊥) → eqb value x ≡ is_bit value x
+  unfolding is_bit
+  bit_some n = rw (ne_eqb value 0 n)
 
 -- the first k of the errors' values are those of wrong places
-unfoldable pub binaryUpTo : List ℕ → List ℕ → List ℕ → ℕ → Bool
-binaryUpTo es places values k = isBinary es places values k
+unfoldable pub binary_up_to : List ℕ → List ℕ → List ℕ → ℕ → Bool
+binary_up_to es places values k = is_binary es places values k
 
-pub binary-none : (es places values : List ℕ) → binaryUpTo es places values 0 ≡ true
-unfolding binaryUpTo isBinary every
-binary-none es places values = refl
+pub binary_none : (es places values : List ℕ) → binary_up_to es places values 0 ≡ true
+unfolding binary_up_to is_binary every
+binary_none es places values = refl
 
-module _ (es places values : List ℕ) (n k i x v : ℕ) (ei : i ≡ at places k) (ex : x ≡ locator es 2040 i) (ev : v ≡ at values k) (t : Bool) (et : t ≡ isBit v x) where
-  pub binary-not : k < n → not t ≡ true → false ≡ isBinary es places values n
-  unfolding isBinary
-  binary-not h e = sym (every-false n (λ l. isBit (at values l) (locator es 2040 (at places l))) k h (rw (← ei, ← ev, ← ex, ← et) (not-true t e)))
+module _ (es places values : List ℕ) (n k i x v : ℕ) (ei : i ≡ at places k) (ex : x ≡ locator es 2040 i) (ev : v ≡ at values k) (t : Bool) (et : t ≡ is_bit v x) where
+  pub binary_not : k < n → not t ≡ true → false ≡ is_binary es places values n
+  unfolding is_binary
+  binary_not h e = sym (every_false n (λ l. is_bit (at values l) (locator es 2040 (at places l))) k h (rw (← ei, ← ev, ← ex, ← et) (not-true t e)))
 
-  pub binary-next : binaryUpTo es places values k ≡ true → not t ≡ false → binaryUpTo es places values (k + 1) ≡ true
-  unfolding binaryUpTo isBinary every
-  binary-next so_far e = rw (add-one, so_far, ← ei, ← ev, ← ex, ← et) (not-false t e)
+  pub binary_next : binary_up_to es places values k ≡ true → not t ≡ false → binary_up_to es places values (k + 1) ≡ true
+  unfolding binary_up_to is_binary every
+  binary_next so_far e = rw (add-one, so_far, ← ei, ← ev, ← ex, ← et) (not-false t e)
 
-pub binary-end : (es places values : List ℕ) (n k : ℕ) → binaryUpTo es places values k ≡ true → k ≤ n → n ≤ k → true ≡ isBinary es places values n
-unfolding binaryUpTo
-binary-end es places values n k so_far l h = let e : k ≡ n = omega arith in sym (rw e at so_far)
+pub binary_end : (es places values : List ℕ) (n k : ℕ) → binary_up_to es places values k ≡ true → k ≤ n → n ≤ k → true ≡ is_binary es places values n
+unfolding binary_up_to
+binary_end es places values n k so_far l h = let e : k ≡ n = omega arith in sym (rw e at so_far)
 
 -- the errors of a word
-module _ (es ls : List ℕ) (exp : es ≡ powersB) (log : ls ≡ exponentsB) where
-  pub tables-given : Tables es ls
-  tables-given = rw (exp, log) tables-b
+module _ (es ls : List ℕ) (exp : es ≡ powers_b) (log : ls ≡ exponents_b) where
+  pub tables_given : Tables es ls
+  tables_given = rw (exp, log) tables_b
 
   -- the field has locators for all places of a word
-  pub places-fit : (n : ℕ) → n ≤ 2047 → n ≤ length es
-  places-fit n h = rw (exp, powers-length 11 2053 field-b) h
+  pub places_fit : (n : ℕ) → n ≤ 2047 → n ≤ length es
+  places_fit n h = rw (exp, powers_length 11 2053 field_b) h
 
-  pub powers-fit : (n : ℕ) → 2047 ≤ n → length es ≤ n
-  powers-fit n h = rw (exp, powers-length 11 2053 field-b) h
+  pub powers_fit : (n : ℕ) → 2047 ≤ n → length es ≤ n
+  powers_fit n h = rw (exp, powers_length 11 2053 field_b) h
 
-  pub powers-are : length es ≡ 2047
-  powers-are = rw (exp, powers-length 11 2053 field-b)
+  pub powers_are : length es ≡ 2047
+  powers_are = rw (exp, powers_length 11 2053 field_b)
 
-  pub errors-are : (odd t places values : List ℕ) (count : ℕ) (left : List ℕ) → Syndromes es ls odd 8 t →
+  pub errors_are : (odd t places values : List ℕ) (count : ℕ) (left : List ℕ) → Syndromes es ls odd 8 t →
       Decoded es ls t 2040 places values count left → length left ≡ 16 → ErrorsOf odd places values count left
-  errors-are odd t places values count left S D n =
-      record { t = t; syndromes = rw (exp, log) at S; decoded = rw (exp, log) at D; left-long = n }
+  errors_are odd t places values count left S D n =
+      record { t = t; syndromes = rw (exp, log) at S; decoded = rw (exp, log) at D; left_long = n }
 
-  pub word-errors : (w : List ℕ) (h l : ℕ) (odd places values : List ℕ) (count : ℕ) (left : List ℕ) → Represents h l (remainder 88 divisor (bit_at w) 2040) →
-      odd ≡ oddSyndromes es (number h l) → ErrorsOf odd places values count left → InnerErrors w places values count left
-  word-errors w h l odd places values count left r e E = record { found = rw (e, exp, r.value) at E }
+  pub word_errors : (w : List ℕ) (h l : ℕ) (odd places values : List ℕ) (count : ℕ) (left : List ℕ) → Represents h l (remainder 88 divisor (bit_at w) 2040) →
+      odd ≡ odd_syndromes es (number h l) → ErrorsOf odd places values count left → InnerErrors w places values count left
+  word_errors w h l odd places values count left r e E = record { found = rw (e, exp, r.value) at E }
 
 module _ (es places values : List ℕ) (count : ℕ) (left : List ℕ) (t : Bool) (tested : t ≡ all_below 1 left) where
-  pub explains-rest : t ≡ true → (b : Bool) → b ≡ isBinary es places values count → b ≡ explains es places values count left
+  pub explains_rest : t ≡ true → (b : Bool) → b ≡ is_binary es places values count → b ≡ explains es places values count left
   unfolding explains
-  explains-rest e b q = rw (← tested, e) q
+  explains_rest e b q = rw (← tested, e) q
 
-  pub explains-not : t ≡ false → false ≡ explains es places values count left
+  pub explains_not : t ≡ false → false ≡ explains es places values count left
   unfolding explains
-  explains-not e = rw (← tested, e)
+  explains_not e = rw (← tested, e)
 
 -- a place inverted
-bits-sum : (n x y j : ℕ) → bit_of n (xor x y) j ≡ xor (bit_of n x j) (bit_of n y j)
+bits_sum : (n x y j : ℕ) → bit_of n (xor x y) j ≡ xor (bit_of n x j) (bit_of n y j)
 unfolding bit_of
-bits-sum n x y j = rw (xor-high, xor-bit)
+bits_sum n x y j = rw (xor_high, xor_bit)
 
 -- the byte with a 1 at place a
 one_place : every 8 (λ a. every 8 (λ b. eqb (bit_of 8 (128 / 2 ^ a) b) (cond (eqb a b) 1 0))) ≡ true
 unfolding every bit_of
 one_place = refl
 
-place-one : (a b : ℕ) → a < 8 → b < 8 → bit_of 8 (128 / 2 ^ a) b ≡ cond (eqb a b) 1 0
-place-one a b ha hb =
-    eqb-true _ _ (every-at 8 (λ b. eqb (bit_of 8 (128 / 2 ^ a) b) (cond (eqb a b) 1 0)) (every-at 8 (λ a. every 8 (λ b. eqb (bit_of 8 (128 / 2 ^ a) b) (cond (eqb a b) 1 0))) one_place a ha) b hb)
+place_one : (a b : ℕ) → a < 8 → b < 8 → bit_of 8 (128 / 2 ^ a) b ≡ cond (eqb a b) 1 0
+place_one a b ha hb =
+    eqb-true _ _ (every_at 8 (λ b. eqb (bit_of 8 (128 / 2 ^ a) b) (cond (eqb a b) 1 0)) (every_at 8 (λ a. every 8 (λ b. eqb (bit_of 8 (128 / 2 ^ a) b) (cond (eqb a b) 1 0))) one_place a ha) b hb)
 
-none-flipped : (t : Bool) (x : ℕ) → x ≡ xor x (cond t 0 0)
-none-flipped true x = sym (xor_zero_r x)
-none-flipped false x = sym (xor_zero_r x)
+none_flipped : (t : Bool) (x : ℕ) → x ≡ xor x (cond t 0 0)
+none_flipped true x = sym (xor_zero_r x)
+none_flipped false x = sym (xor_zero_r x)
 
 module _ (out : List ℕ) (i value : ℕ) where
-  pub flip-none : value ≡ 0 → (l : ℕ) → l < 8 * length out → bit_at out l ≡ xor (bit_at out l) (cond (eqb i l) (differs value 0) 0)
+  pub flip_none : value ≡ 0 → (l : ℕ) → l < 8 * length out → bit_at out l ≡ xor (bit_at out l) (cond (eqb i l) (differs value 0) 0)
   unfolding differs
-  flip-none e l h = rw (eq-eqb value 0 e) (none-flipped (eqb i l) (bit_at out l))
+  flip_none e l h = rw (eq-eqb value 0 e) (none_flipped (eqb i l) (bit_at out l))
 
   module _ (some : value ≡ 0 → ⊥) where
-    pub flip-past : length out ≤ i / 8 → (l : ℕ) → l < 8 * length out → bit_at out l ≡ xor (bit_at out l) (cond (eqb i l) (differs value 0) 0)
-    flip-past p l h = rw (ne_eqb i l (λ e. omega arith)) (sym (xor_zero_r (bit_at out l)))
+    pub flip_past : length out ≤ i / 8 → (l : ℕ) → l < 8 * length out → bit_at out l ≡ xor (bit_at out l) (cond (eqb i l) (differs value 0) 0)
+    flip_past p l h = rw (ne_eqb i l (λ e. omega arith)) (sym (xor_zero_r (bit_at out l)))
 
     pub flip_one : i / 8 < length out → (l : ℕ) → l < 8 * length out →
         bit_at (set out (i / 8) (bit_xor (get_or out (i / 8) 0) (128 / 2 ^ (i % 8)))) l ≡ xor (bit_at out l) (cond (eqb i l) (differs value 0) 0)
@@ -236,20 +236,20 @@ module _ (out : List ℕ) (i value : ℕ) where
         go : Dec (l / 8 ≡ i / 8) → bit_of 8 (get_or (set out (i / 8) v) (l / 8) 0) (l % 8) ≡ xor (bit_of 8 (get_or out (l / 8) 0) (l % 8)) (cond (eqb i l) 1 0)
         go (yes e) =
             rw (e, get_or-set_same out (i / 8) v 0 p)
-            (bits-sum 8 (get_or out (i / 8) 0) (128 / 2 ^ (i % 8)) (l % 8)
-            ∙ ap (xor (bit_of 8 (get_or out (i / 8) 0) (l % 8))) (place-one (i % 8) (l % 8) (omega arith) (omega arith) ∙ within e (ℕ_discrete (i % 8) (l % 8))))
+            (bits_sum 8 (get_or out (i / 8) 0) (128 / 2 ^ (i % 8)) (l % 8)
+            ∙ ap (xor (bit_of 8 (get_or out (i / 8) 0) (l % 8))) (place_one (i % 8) (l % 8) (omega arith) (omega arith) ∙ within e (ℕ_discrete (i % 8) (l % 8))))
         go (no n) = rw (get_or-set_other out (i / 8) (l / 8) v 0 n, ne_eqb i l (λ e. n (omega arith))) (sym (xor_zero_r _))
 
 -- the bit at which a place stands
 module _ (step i first : ℕ) (small : step ≤ 64) (known : Fits w16 i) where
-  step-lt : step * i ≤ 64 * 65535
-  step-lt = let l : step * i ≤ 64 * i = mul-le-mul_right i small in omega (arith, known)
+  step_lt : step * i ≤ 64 * 65535
+  step_lt = let l : step * i ≤ 64 * i = mul-le-mul_right i small in omega (arith, known)
 
   pub step_fits : Fits w64 (step * i)
-  step_fits = record { fits = omega (arith, step-lt) }
+  step_fits = record { fits = omega (arith, step_lt) }
 
-  pub place-fits : first < 64 → Fits w64 (step * i + first)
-  place-fits h = record { fits = omega (arith, step-lt) }
+  pub place_fits : first < 64 → Fits w64 (step * i + first)
+  place_fits h = record { fits = omega (arith, step_lt) }
 
 -- the bytes before, with the first k of the errors added
 pub record Inverted (step first : ℕ) (before places values : List ℕ) (k : ℕ) (out : List ℕ) : Type 0 where
@@ -257,39 +257,39 @@ pub record Inverted (step first : ℕ) (before places values : List ℕ) (k : �
   pub bits : (l : ℕ) → l < 8 * length before → bit_at out l ≡ xor (bit_at before l) (inverted step first places values k l)
 
 module _ (step first : ℕ) (before places values : List ℕ) where
-  pub inverted-none : Inverted step first before places values 0 before
-  unfolding inverted xorTo
-  inverted-none = record { long = refl; bits = λ l h. sym (xor_zero_r (bit_at before l)) }
+  pub inverted_none : Inverted step first before places values 0 before
+  unfolding inverted xor_to
+  inverted_none = record { long = refl; bits = λ l h. sym (xor_zero_r (bit_at before l)) }
 
   module _ (k : ℕ) (out : List ℕ) (so_far : Inverted step first before places values k out) where
-    pub inverted-next : (i : ℕ) → i ≡ step * get_or places k 0 + first → (next : List ℕ) → length next ≡ length out →
+    pub inverted_next : (i : ℕ) → i ≡ step * get_or places k 0 + first → (next : List ℕ) → length next ≡ length out →
         ((l : ℕ) → l < 8 * length out → bit_at next l ≡ xor (bit_at out l) (cond (eqb i l) (differs (get_or values k 0) 0) 0)) →
         Inverted step first before places values (k + 1) next
-    unfolding inverted xorTo
-    inverted-next i e next same one =
+    unfolding inverted xor_to
+    inverted_next i e next same one =
         record {
           long = same ∙ so_far.long;
           bits = λ l b. one l (rw so_far.long b)
               ∙ ap (λ (x : ℕ). xor x (cond (eqb i l) (differs (get_or values k 0) 0) 0)) (so_far.bits l b) ∙ xor_assoc _ _ _ ∙ rw (add-one, e);
         }
 
-    pub inverted-end : (n : ℕ) → k ≤ n → n ≤ k → (l : ℕ) → l < 8 * length before → bit_at out l ≡ xor (bit_at before l) (inverted step first places values n l)
-    inverted-end n l h = let e : k ≡ n = omega arith in rw e at so_far.bits
+    pub inverted_end : (n : ℕ) → k ≤ n → n ≤ k → (l : ℕ) → l < 8 * length before → bit_at out l ≡ xor (bit_at before l) (inverted step first places values n l)
+    inverted_end n l h = let e : k ≡ n = omega arith in rw e at so_far.bits
 
 -- a step of 1 from bit 0 on: the errors of the word itself
-inverted-errors : (places values : List ℕ) (n l : ℕ) → n ≤ 8 → inverted 1 0 places values n l ≡ errorAt places (flips values) n l
-unfolding inverted errorAt xorTo
-inverted-errors places values zero l h = refl
-inverted-errors places values (suc n) l h =
+inverted_errors : (places values : List ℕ) (n l : ℕ) → n ≤ 8 → inverted 1 0 places values n l ≡ error_at places (flips values) n l
+unfolding inverted error_at xor_to
+inverted_errors places values zero l h = refl
+inverted_errors places values (suc n) l h =
     let e : 1 * at places n + 0 ≡ at places n = omega arith in
-    ap₂ xor (inverted-errors places values n l (omega arith)) (rw (e, flip-at values n (omega arith)))
+    ap₂ xor (inverted_errors places values n l (omega arith)) (rw (e, flip_at values n (omega arith)))
 
-pub corrected-word : (w buffer places values put out : List ℕ) (n : ℕ) → n ≤ 8 → length buffer ≡ length w → put ≡ copied w buffer → length out ≡ length put →
+pub corrected_word : (w buffer places values put out : List ℕ) (n : ℕ) → n ≤ 8 → length buffer ≡ length w → put ≡ copied w buffer → length out ≡ length put →
     ((l : ℕ) → l < 8 * length put → bit_at out l ≡ xor (bit_at put l) (inverted 1 0 places values n l)) →
-    bits_of out ≡ withErrors (bit_at w) places (flips values) n (8 * length w)
-unfolding bits_of withErrors
-corrected-word w buffer places values put out n few room e same bits =
-    let is : put ≡ w = e ∙ copied-same w buffer room in
+    bits_of out ≡ with_errors (bit_at w) places (flips values) n (8 * length w)
+unfolding bits_of with_errors
+corrected_word w buffer places values put out n few room e same bits =
+    let is : put ≡ w = e ∙ copied_same w buffer room in
     let long : length out ≡ length w = same ∙ ap length is in
-    rw long (tabulate-same (8 * length w) (bit_at out) _ (λ l h.
-    bits l (rw is h) ∙ ap₂ xor (ap (λ (x : List ℕ). bit_at x l) is) (inverted-errors places values n l few)))
+    rw long (tabulate_same (8 * length w) (bit_at out) _ (λ l h.
+    bits l (rw is h) ∙ ap₂ xor (ap (λ (x : List ℕ). bit_at x l) is) (inverted_errors places values n l few)))

@@ -6,25 +6,25 @@ use borrow.Author.Tests.{le-leb, lt-leb, not-false, not-true}
 use Rattle.words.specs.Answers.{refusal, within}
 
 module _ (low high n : ℕ) (fits symbols : Bool) where
-  pub refused-short : n < low → 6 ≡ refusal (within low high n) fits symbols
+  pub refused_short : n < low → 6 ≡ refusal (within low high n) fits symbols
   unfolding refusal within
-  refused-short h = rw (lt-leb low n h)
+  refused_short h = rw (lt-leb low n h)
 
   module _ (enough : low ≤ n) where
-    pub refused-long : high < n → 6 ≡ refusal (within low high n) fits symbols
+    pub refused_long : high < n → 6 ≡ refusal (within low high n) fits symbols
     unfolding refusal within
-    refused-long h = rw (le-leb low n enough, lt-leb n high h)
+    refused_long h = rw (le-leb low n enough, lt-leb n high h)
 
     module _ (few : n ≤ high) where
-      pub refused-space : not fits ≡ true → 3 ≡ refusal (within low high n) fits symbols
+      pub refused_space : not fits ≡ true → 3 ≡ refusal (within low high n) fits symbols
       unfolding refusal within
-      refused-space e = rw (le-leb low n enough, le-leb n high few, not-true fits e)
+      refused_space e = rw (le-leb low n enough, le-leb n high few, not-true fits e)
 
       module _ (space : not fits ≡ false) (b : Bool) (tested : b ≡ symbols) where
-        pub refused-symbol : b ≡ false → 7 ≡ refusal (within low high n) fits symbols
+        pub refused_symbol : b ≡ false → 7 ≡ refusal (within low high n) fits symbols
         unfolding refusal within
-        refused-symbol e = rw (le-leb low n enough, le-leb n high few, not-false fits space, ← tested, e)
+        refused_symbol e = rw (le-leb low n enough, le-leb n high few, not-false fits space, ← tested, e)
 
-        pub not-refused : b ≡ true → 0 ≡ refusal (within low high n) fits symbols
+        pub not_refused : b ≡ true → 0 ≡ refusal (within low high n) fits symbols
         unfolding refusal within
-        not-refused e = rw (le-leb low n enough, le-leb n high few, not-false fits space, ← tested, e)
+        not_refused e = rw (le-leb low n enough, le-leb n high few, not-false fits space, ← tested, e)

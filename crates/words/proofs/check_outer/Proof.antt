@@ -1,6 +1,6 @@
 -- `words::check_outer` meets its contract. Assumes nothing.
 use borrow.Author.Rules.{rules}
-use Rattle.words.proofs.Steps.Entries.{outer-refused, word-parity, word-symbols, outer-accepted, outer-no-code}
+use Rattle.words.proofs.Steps.Entries.{outer_refused, word_parity, word_symbols, outer_accepted, outer_no_code}
 use Rattle.words.proofs.check_outer.Statement.{statement}
 use Rattle.words.proofs.check_outer.Tie as tie
 
@@ -8,7 +8,7 @@ refusal-requires : tie.Need-refusal-requires
 refusal-requires c κs = search rules
 
 returns : tie.Need-returns
-returns c = search (rules, outer-refused)
+returns c = search (rules, outer_refused)
 
 exp-a-requires : tie.Need-exp-a-requires
 exp-a-requires c κs = search rules
@@ -23,7 +23,7 @@ slice-aggregate-remainder : tie.Need-slice-aggregate-remainder
 slice-aggregate-remainder c = search rules
 
 remainder-requires : tie.Need-remainder-requires
-remainder-requires c κs = search (rules, word-parity, word-symbols)
+remainder-requires c κs = search (rules, word_parity, word_symbols)
 
 slice-aggregate-root-values : tie.Need-slice-aggregate-root-values
 slice-aggregate-root-values c = search rules
@@ -41,10 +41,10 @@ all-below-requires : tie.Need-all-below-requires
 all-below-requires c κs = search rules
 
 returns-2 : tie.Need-returns-2
-returns-2 c = search (rules, outer-accepted)
+returns-2 c = search (rules, outer_accepted)
 
 returns-3 : tie.Need-returns-3
-returns-3 c = search (rules, outer-no-code)
+returns-3 c = search (rules, outer_no_code)
 
 pub check-outer-spec : {M : Type 1} → statement M
 check-outer-spec =

@@ -3,15 +3,15 @@ use Prim.Native.Nat.{ℕ, ◌≤◌}
 use native.Mathlib.Omega.{arith}
 use lib.ListN.{get_or}
 use borrow.Author.Rules.{rules}
-use Rattle.words.proofs.Steps.InnerCorrection.{correct-inner-length, correct-inner-space, correct-inner-none, correct-inner-found}
+use Rattle.words.proofs.Steps.InnerCorrection.{correct_inner_length, correct_inner_space, correct_inner_none, correct_inner_found}
 use Rattle.words.proofs.correct_inner.Statement.{statement}
 use Rattle.words.proofs.correct_inner.Tie as tie
 
 returns : tie.Need-returns
-returns c = search (rules, correct-inner-length)
+returns c = search (rules, correct_inner_length)
 
 returns-2 : tie.Need-returns-2
-returns-2 c = search (rules, correct-inner-space)
+returns-2 c = search (rules, correct_inner_space)
 
 exp-b-requires : tie.Need-exp-b-requires
 exp-b-requires c κs = search rules
@@ -35,7 +35,7 @@ explains-requires : tie.Need-explains-requires
 explains-requires c κs = search rules
 
 returns-3 : tie.Need-returns-3
-returns-3 c = search (rules, correct-inner-none)
+returns-3 c = search (rules, correct_inner_none)
 
 correct-requires : tie.Need-correct-requires
 correct-requires c κs = search rules
@@ -52,7 +52,7 @@ same_length c = search rules
 returns-4 : tie.Need-returns-4
 returns-4 c =
     let bytes : (k : ℕ) → get_or c.before.before.before.before.correct.new.1.1.0 k 0 ≤ 255 = λ k. omega (arith, c.before.before.slice-known2.given k) in
-    search (rules, correct-inner-found, bytes)
+    search (rules, correct_inner_found, bytes)
 
 pub correct-inner-spec : {M : Type 1} → statement M
 correct-inner-spec =

@@ -1,7 +1,7 @@
 -- `words::correct_outer` meets its contract. Assumes nothing.
 use borrow.Author.Rules.{rules}
-use Rattle.words.proofs.Steps.Entries.{word-least, word-most, word-parity, word-symbols}
-use Rattle.words.proofs.Steps.Corrections.{correct-outer-refused, correct-outer-fits}
+use Rattle.words.proofs.Steps.Entries.{word_least, word_most, word_parity, word_symbols}
+use Rattle.words.proofs.Steps.Corrections.{correct_outer_refused, correct_outer_fits}
 use Rattle.words.proofs.correct_outer.Statement.{statement}
 use Rattle.words.proofs.correct_outer.Tie as tie
 
@@ -9,7 +9,7 @@ refusal-requires : tie.Need-refusal-requires
 refusal-requires c κs = search rules
 
 returns : tie.Need-returns
-returns c = search (rules, correct-outer-refused)
+returns c = search (rules, correct_outer_refused)
 
 table-requires : tie.Need-table-requires
 table-requires c κs = search rules
@@ -18,10 +18,10 @@ slice-aggregate-remainder : tie.Need-slice-aggregate-remainder
 slice-aggregate-remainder c = search rules
 
 remainder-requires : tie.Need-remainder-requires
-remainder-requires c κs = search (rules, word-parity, word-symbols)
+remainder-requires c κs = search (rules, word_parity, word_symbols)
 
 correct-from-requires : tie.Need-correct-from-requires
-correct-from-requires c κs = search (rules, word-least, word-most, word-symbols, correct-outer-fits)
+correct-from-requires c κs = search (rules, word_least, word_most, word_symbols, correct_outer_fits)
 
 same_length : tie.Need-same-length
 same_length c = search rules

@@ -17,10 +17,10 @@ unfoldable pub residue : ℕ → ℕ → ℕ
 residue p k = remainder 88 p (bit_of 92 (k * 2 ^ 88)) 92
 
 -- past a table's end
-abbrev pub zeroPolynomial : Polynomial
-zeroPolynomial = record { high = 0; low = 0 }
+abbrev pub zero_polynomial : Polynomial
+zero_polynomial = record { high = 0; low = 0 }
 
 -- the first n of the table's sixteen entries: entry k is the remainder of k z^88
 pub record Residues (p n : ℕ) (t : List Polynomial) : Type 0 where
   pub long : length t ≡ 16
-  pub entry : (k : ℕ) → k < n → Represents (get_or t k zeroPolynomial).high (get_or t k zeroPolynomial).low (residue p k)
+  pub entry : (k : ℕ) → k < n → Represents (get_or t k zero_polynomial).high (get_or t k zero_polynomial).low (residue p k)

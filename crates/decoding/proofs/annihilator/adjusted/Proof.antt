@@ -1,6 +1,6 @@
 -- `decoding::annihilator::adjusted` meets its contract. Assumes nothing.
 use borrow.Author.Rules.{rules}
-use Rattle.decoding.proofs.Steps.BerlekampMassey.{adjusted-same, adjusted-new}
+use Rattle.decoding.proofs.Steps.BerlekampMassey.{adjusted_same, adjusted_new}
 use Rattle.decoding.proofs.annihilator.adjusted.Statement.{statement}
 use Rattle.decoding.proofs.annihilator.adjusted.Tie as tie
 
@@ -23,7 +23,7 @@ mul-if1 : tie.Need-overflow-mul-if1
 mul-if1 c = search rules
 
 returns : tie.Need-returns
-returns c = search (rules, adjusted-same)
+returns c = search (rules, adjusted_same)
 
 add-t12 : tie.Need-overflow-add-t12
 add-t12 c = search rules
@@ -35,7 +35,7 @@ add-t14 : tie.Need-overflow-add-t14
 add-t14 c = search rules
 
 returns-2 : tie.Need-returns-2
-returns-2 c = search (rules, adjusted-new)
+returns-2 c = search (rules, adjusted_new)
 
 pub adjusted-spec : {M : Type 1} → statement M
 adjusted-spec =

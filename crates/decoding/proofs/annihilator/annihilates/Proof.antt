@@ -1,7 +1,7 @@
 -- `decoding::annihilator::annihilates` meets its contract. Assumes nothing.
 use Prim.Native.Nat.{◌-◌}
 use borrow.Author.Rules.{rules}
-use Rattle.decoding.proofs.Steps.BerlekampMassey.{Tested, tested-not, tested-none, tested-next, tested-end}
+use Rattle.decoding.proofs.Steps.BerlekampMassey.{Tested, tested_not, tested_none, tested_next, tested_end}
 use Rattle.decoding.proofs.annihilator.annihilates.Statement.{statement}
 use Rattle.decoding.proofs.annihilator.annihilates.Tie as tie
 
@@ -21,10 +21,10 @@ symbol-requires : tie.Need-symbol-requires invariant-loop decreases-loop
 symbol-requires c κs = search rules
 
 returns : tie.Need-returns invariant-loop decreases-loop
-returns c = search (rules, tested-not)
+returns c = search (rules, tested_not)
 
 loop-holds : tie.Need-loop-init invariant-loop decreases-loop
-loop-holds c = search (rules, tested-none)
+loop-holds c = search (rules, tested_none)
 
 slice-aggregate-convolved : tie.Need-slice-aggregate-convolved invariant-loop decreases-loop
 slice-aggregate-convolved c = search rules
@@ -39,7 +39,7 @@ convolved-requires : tie.Need-convolved-requires invariant-loop decreases-loop
 convolved-requires c κs = search rules
 
 returns-2 : tie.Need-returns-2 invariant-loop decreases-loop
-returns-2 c = search (rules, tested-not)
+returns-2 c = search (rules, tested_not)
 
 add-j : tie.Need-overflow-add-j invariant-loop decreases-loop
 add-j c = search rules
@@ -48,10 +48,10 @@ loop-less : tie.Need-loop-smaller invariant-loop decreases-loop
 loop-less c = search rules
 
 loop-again : tie.Need-loop-preserved invariant-loop decreases-loop
-loop-again c = tested-next _ _ _ _ _ (search rules) _ (search rules) c.before.convolved.ensures (search rules)
+loop-again c = tested_next _ _ _ _ _ (search rules) _ (search rules) c.before.convolved.ensures (search rules)
 
 returns-3 : tie.Need-returns-3 invariant-loop decreases-loop
-returns-3 c = search (rules, tested-end)
+returns-3 c = search (rules, tested_end)
 
 pub annihilates-spec : {M : Type 1} → statement M
 annihilates-spec =

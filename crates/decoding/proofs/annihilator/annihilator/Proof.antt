@@ -1,6 +1,6 @@
 -- `decoding::annihilator::annihilator` meets its contract. Assumes nothing.
 use borrow.Author.Rules.{rules}
-use Rattle.decoding.proofs.Steps.BerlekampMassey.{reversed-elements}
+use Rattle.decoding.proofs.Steps.BerlekampMassey.{reversed_elements}
 use Rattle.decoding.proofs.annihilator.annihilator.Statement.{statement}
 use Rattle.decoding.proofs.annihilator.annihilator.Tie as tie
 
@@ -11,7 +11,7 @@ reversed-requires : tie.Need-reversed-requires
 reversed-requires c κs = search rules
 
 annihilates-requires : tie.Need-annihilates-requires
-annihilates-requires c κs = search (rules, reversed-elements)
+annihilates-requires c κs = search (rules, reversed_elements)
 
 returns : tie.Need-returns
 returns c = search (rules, c.before.annihilates.ensures)

@@ -1,6 +1,6 @@
 -- `decoding::annihilator::berlekamp_massey_step` meets its contract. Assumes nothing.
 use borrow.Author.Rules.{rules}
-use Rattle.decoding.proofs.Steps.BerlekampMassey.{step_same, step-new}
+use Rattle.decoding.proofs.Steps.BerlekampMassey.{step_same, step_new}
 use Rattle.decoding.proofs.annihilator.berlekamp_massey_step.Statement.{statement}
 use Rattle.decoding.proofs.annihilator.berlekamp_massey_step.Tie as tie
 
@@ -20,7 +20,7 @@ adjusted-requires : tie.Need-adjusted-requires
 adjusted-requires c κs = search rules
 
 returns-2 : tie.Need-returns-2
-returns-2 c = search (rules, step-new)
+returns-2 c = search (rules, step_new)
 
 pub berlekamp-massey-step-spec : {M : Type 1} → statement M
 berlekamp-massey-step-spec =

@@ -1,6 +1,6 @@
 -- `decoding::annihilator::cell_cleared` meets its contract. Assumes nothing.
 use borrow.Author.Rules.{rules}
-use Rattle.decoding.proofs.Steps.Elimination.{cleared-is, cleared-same}
+use Rattle.decoding.proofs.Steps.Elimination.{cleared_is, cleared_same}
 use Rattle.decoding.proofs.annihilator.cell_cleared.Statement.{statement}
 use Rattle.decoding.proofs.annihilator.cell_cleared.Tie as tie
 
@@ -23,7 +23,7 @@ product-requires : tie.Need-product-requires
 product-requires c κs = search rules
 
 returns : tie.Need-returns
-returns c = search (rules, cleared-same)
+returns c = search (rules, cleared_same)
 
 plus-scaled-requires : tie.Need-plus-scaled-requires
 plus-scaled-requires c κs = search rules
@@ -32,7 +32,7 @@ plus-scaled-requires-2 : tie.Need-plus-scaled-requires-2
 plus-scaled-requires-2 c κs = search rules
 
 returns-2 : tie.Need-returns-2
-returns-2 c = search (rules, cleared-is)
+returns-2 c = search (rules, cleared_is)
 
 pub cell-cleared-spec : {M : Type 1} → statement M
 cell-cleared-spec =

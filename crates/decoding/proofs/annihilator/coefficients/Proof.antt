@@ -2,7 +2,7 @@
 use Prim.Native.Nat.{◌+◌, ◌-◌}
 use lib.ListN.{get_or}
 use borrow.Author.Rules.{rules}
-use Rattle.fields.proofs.Places.Filling.{Filled, filled-start, filled_next, filled-end}
+use Rattle.fields.proofs.Places.Filling.{Filled, filled_start, filled_next, filled_end}
 use Rattle.decoding.proofs.annihilator.coefficients.Statement.{statement}
 use Rattle.decoding.proofs.annihilator.coefficients.Tie as tie
 
@@ -13,7 +13,7 @@ abbrev decreases-loop : tie.decreases-loop
 decreases-loop u v₀ k₀ v k = 9 - k
 
 loop-holds : tie.Need-loop-init invariant-loop decreases-loop
-loop-holds c = search (rules, filled-start)
+loop-holds c = search (rules, filled_start)
 
 add-v : tie.Need-overflow-add-v invariant-loop decreases-loop
 add-v c = search rules
@@ -40,7 +40,7 @@ loop-again : tie.Need-loop-preserved invariant-loop decreases-loop
 loop-again c = search (rules, filled_next)
 
 returns : tie.Need-returns invariant-loop decreases-loop
-returns c = search (rules, filled-end)
+returns c = search (rules, filled_end)
 
 pub coefficients-spec : {M : Type 1} → statement M
 coefficients-spec =

@@ -3,7 +3,7 @@ use mathlib.Core.Path.{◌≡◌}
 use Prim.Native.Nat.{◌-◌, ◌≤◌}
 use borrow.Author.Rules.{rules}
 use Rattle.decoding.specs.Steps.Annihilator.{convolved}
-use Rattle.decoding.proofs.Steps.BerlekampMassey.{convolved-none, convolved-next, convolved-end}
+use Rattle.decoding.proofs.Steps.BerlekampMassey.{convolved_none, convolved_next, convolved_end}
 use Rattle.decoding.proofs.annihilator.convolved.Statement.{statement}
 use Rattle.decoding.proofs.annihilator.convolved.Tie as tie
 
@@ -14,7 +14,7 @@ abbrev decreases-loop : tie.decreases-loop
 decreases-loop exp log c t n count v₀ i₀ v i = count - i
 
 loop-holds : tie.Need-loop-init invariant-loop decreases-loop
-loop-holds c = search (rules, convolved-none)
+loop-holds c = search (rules, convolved_none)
 
 symbol-requires : tie.Need-symbol-requires invariant-loop decreases-loop
 symbol-requires c κs = search rules
@@ -41,10 +41,10 @@ loop-less : tie.Need-loop-smaller invariant-loop decreases-loop
 loop-less c = search rules
 
 loop-again : tie.Need-loop-preserved invariant-loop decreases-loop
-loop-again c = search (rules, convolved-next)
+loop-again c = search (rules, convolved_next)
 
 returns : tie.Need-returns invariant-loop decreases-loop
-returns c = search (rules, convolved-end)
+returns c = search (rules, convolved_end)
 
 pub convolved-spec : {M : Type 1} → statement M
 convolved-spec =

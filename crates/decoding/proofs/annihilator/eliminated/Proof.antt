@@ -1,7 +1,7 @@
 -- `decoding::annihilator::eliminated` meets its contract. Assumes nothing.
 use Prim.Native.Nat.{◌-◌}
 use borrow.Author.Rules.{rules}
-use Rattle.decoding.proofs.Decoding.Elimination.{Pivots, pivots-start, pivots-zeros, pivots-end, row-annihilates, pivots-next}
+use Rattle.decoding.proofs.Decoding.Elimination.{Pivots, pivots_start, pivots_zeros, pivots_end, row_annihilates, pivots_next}
 use Rattle.decoding.proofs.annihilator.eliminated.Statement.{statement}
 use Rattle.decoding.proofs.annihilator.eliminated.Tie as tie
 
@@ -12,7 +12,7 @@ abbrev decreases-loop : tie.decreases-loop
 decreases-loop exp log t pivots₀ d₀ pivots d = 9 - d
 
 loop-holds : tie.Need-loop-init invariant-loop decreases-loop
-loop-holds c = search (rules, pivots-start)
+loop-holds c = search (rules, pivots_start)
 
 power-row-requires : tie.Need-power-row-requires invariant-loop decreases-loop
 power-row-requires c κs = search rules
@@ -21,7 +21,7 @@ sub-reduced : tie.Need-overflow-sub-reduced invariant-loop decreases-loop
 sub-reduced c = search rules
 
 reduced-requires : tie.Need-reduced-requires invariant-loop decreases-loop
-reduced-requires c κs = search (rules, pivots-zeros)
+reduced-requires c κs = search (rules, pivots_zeros)
 
 first-nonzero-requires : tie.Need-first-nonzero-requires invariant-loop decreases-loop
 first-nonzero-requires c κs = search rules
@@ -30,7 +30,7 @@ coefficients-requires : tie.Need-coefficients-requires invariant-loop decreases-
 coefficients-requires c κs = search rules
 
 returns : tie.Need-returns invariant-loop decreases-loop
-returns c = search (rules, row-annihilates)
+returns c = search (rules, row_annihilates)
 
 mul-pivots : tie.Need-overflow-mul-pivots invariant-loop decreases-loop
 mul-pivots c = search rules
@@ -45,10 +45,10 @@ loop-less : tie.Need-loop-smaller invariant-loop decreases-loop
 loop-less c = search rules
 
 loop-again : tie.Need-loop-preserved invariant-loop decreases-loop
-loop-again c = search (rules, pivots-next)
+loop-again c = search (rules, pivots_next)
 
 returns-2 : tie.Need-returns-2 invariant-loop decreases-loop
-returns-2 c = search (rules, pivots-end)
+returns-2 c = search (rules, pivots_end)
 
 pub eliminated-spec : {M : Type 1} → statement M
 eliminated-spec =

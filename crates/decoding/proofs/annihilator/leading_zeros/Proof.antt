@@ -1,7 +1,7 @@
 -- `decoding::annihilator::leading_zeros` meets its contract. Assumes nothing.
 use Prim.Native.Nat.{◌-◌}
 use borrow.Author.Rules.{rules}
-use Rattle.decoding.proofs.Steps.Elimination.{ZeroBelow, zero-none, zero-next, zero-end}
+use Rattle.decoding.proofs.Steps.Elimination.{ZeroBelow, zero_none, zero_next, zero_end}
 use Rattle.decoding.proofs.annihilator.leading_zeros.Statement.{statement}
 use Rattle.decoding.proofs.annihilator.leading_zeros.Tie as tie
 
@@ -12,7 +12,7 @@ abbrev decreases-loop : tie.decreases-loop
 decreases-loop polynomial k₀ k = 9 - k
 
 loop-holds : tie.Need-loop-init invariant-loop decreases-loop
-loop-holds c = search (rules, zero-none)
+loop-holds c = search (rules, zero_none)
 
 mul-if1 : tie.Need-overflow-mul-if1 invariant-loop decreases-loop
 mul-if1 c = search rules
@@ -30,10 +30,10 @@ loop-less : tie.Need-loop-smaller invariant-loop decreases-loop
 loop-less c = search rules
 
 loop-again : tie.Need-loop-preserved invariant-loop decreases-loop
-loop-again c = search (rules, zero-next)
+loop-again c = search (rules, zero_next)
 
 returns-2 : tie.Need-returns-2 invariant-loop decreases-loop
-returns-2 c = search (rules, zero-end)
+returns-2 c = search (rules, zero_end)
 
 pub leading-zeros-spec : {M : Type 1} → statement M
 leading-zeros-spec =

@@ -3,7 +3,7 @@ use Prim.Native.Nat.{◌-◌, ◌≤◌}
 use native.Mathlib.Omega.{arith}
 use borrow.Author.Rules.{rules}
 use Rattle.decoding.specs.Steps.Annihilator.{PlusPart}
-use Rattle.decoding.proofs.Steps.Elimination.{plus_none, plus-next, plus-end}
+use Rattle.decoding.proofs.Steps.Elimination.{plus_none, plus_next, plus_end}
 use Rattle.decoding.proofs.annihilator.plus_scaled.Statement.{statement}
 use Rattle.decoding.proofs.annihilator.plus_scaled.Tie as tie
 
@@ -47,10 +47,10 @@ loop-less : tie.Need-loop-smaller invariant-loop decreases-loop
 loop-less c = search rules
 
 loop-again : tie.Need-loop-preserved invariant-loop decreases-loop
-loop-again c = (omega arith, omega arith, plus-next _ _ _ _ _ _ _ _ c.before.before.before.before.loop.invariant.2 _ _ (omega arith) (omega arith) c.before.product.ensures.0 c.sum.ensures)
+loop-again c = (omega arith, omega arith, plus_next _ _ _ _ _ _ _ _ c.before.before.before.before.loop.invariant.2 _ _ (omega arith) (omega arith) c.before.product.ensures.0 c.sum.ensures)
 
 returns : tie.Need-returns invariant-loop decreases-loop
-returns c = search (rules, plus-end)
+returns c = search (rules, plus_end)
 
 pub plus-scaled-spec : {M : Type 1} → statement M
 plus-scaled-spec =

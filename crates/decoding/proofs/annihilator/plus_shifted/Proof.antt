@@ -3,13 +3,13 @@ use mathlib.Core.Path.{◌≡◌}
 use Prim.Native.Nat.{◌-◌, ◌≤◌}
 use lib.ListN.{length}
 use borrow.Author.Rules.{rules}
-use Rattle.decoding.specs.Steps.Annihilator.{plusShifted}
+use Rattle.decoding.specs.Steps.Annihilator.{plus_shifted}
 use Rattle.decoding.proofs.Steps.BerlekampMassey.{shifted_none, shifted_next, shifted_end}
 use Rattle.decoding.proofs.annihilator.plus_shifted.Statement.{statement}
 use Rattle.decoding.proofs.annihilator.plus_shifted.Tie as tie
 
 abbrev invariant-loop : tie.invariant-loop
-invariant-loop exp log f s p r₀ k₀ r k = (k ≤ 9 - s) × (length r ≡ 9) × (r ≡ plusShifted exp log r₀ f p s k)
+invariant-loop exp log f s p r₀ k₀ r k = (k ≤ 9 - s) × (length r ≡ 9) × (r ≡ plus_shifted exp log r₀ f p s k)
 
 abbrev decreases-loop : tie.decreases-loop
 decreases-loop exp log f s p r₀ k₀ r k = 9 - s - k

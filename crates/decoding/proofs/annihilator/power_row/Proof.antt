@@ -1,7 +1,7 @@
 -- `decoding::annihilator::power_row` meets its contract. Assumes nothing.
 use Prim.Native.Nat.{◌-◌}
 use borrow.Author.Rules.{rules}
-use Rattle.decoding.proofs.Steps.Elimination.{PowerRow, power-start, power-next, power-end}
+use Rattle.decoding.proofs.Steps.Elimination.{PowerRow, power_start, power_next, power_end}
 use Rattle.decoding.proofs.annihilator.power_row.Statement.{statement}
 use Rattle.decoding.proofs.annihilator.power_row.Tie as tie
 
@@ -12,7 +12,7 @@ abbrev decreases-loop : tie.decreases-loop
 decreases-loop exp log d t cells₀ i₀ cells i = 8 - i
 
 loop-holds : tie.Need-loop-init invariant-loop decreases-loop
-loop-holds c = search (rules, power-start)
+loop-holds c = search (rules, power_start)
 
 add-product : tie.Need-overflow-add-product invariant-loop decreases-loop
 add-product c = search rules
@@ -39,7 +39,7 @@ loop-less : tie.Need-loop-smaller invariant-loop decreases-loop
 loop-less c = search rules
 
 loop-again : tie.Need-loop-preserved invariant-loop decreases-loop
-loop-again c = search (rules, power-next)
+loop-again c = search (rules, power_next)
 
 sub_cells : tie.Need-overflow-sub-cells invariant-loop decreases-loop
 sub_cells c = search rules
@@ -54,7 +54,7 @@ array-write-cells-2 : tie.Need-array-write-cells-2 invariant-loop decreases-loop
 array-write-cells-2 c = search rules
 
 returns : tie.Need-returns invariant-loop decreases-loop
-returns c = search (rules, power-end)
+returns c = search (rules, power_end)
 
 pub power-row-spec : {M : Type 1} → statement M
 power-row-spec =

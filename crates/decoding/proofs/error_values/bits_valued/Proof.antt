@@ -1,6 +1,6 @@
 -- `decoding::error_values::bits_valued` meets its contract. Assumes nothing.
 use borrow.Author.Rules.{rules}
-use Rattle.decoding.proofs.Decoding.Flips.{flips-right}
+use Rattle.decoding.proofs.Decoding.Flips.{flips_right}
 use Rattle.decoding.proofs.error_values.bits_valued.Statement.{statement}
 use Rattle.decoding.proofs.error_values.bits_valued.Tie as tie
 
@@ -14,7 +14,7 @@ all-below-requires : tie.Need-all-below-requires
 all-below-requires c κs = search rules
 
 returns : tie.Need-returns
-returns c = search (rules, flips-right)
+returns c = search (rules, flips_right)
 
 valued-requires : tie.Need-valued-requires
 valued-requires c κs = search rules

@@ -2,14 +2,14 @@
 use mathlib.Core.Path.{◌≡◌}
 use Prim.Native.Nat.{◌-◌, ◌≤◌}
 use borrow.Author.Rules.{rules}
-use Rattle.decoding.specs.Steps.ErrorValues.{filteredBy, filterFactor}
-use Rattle.decoding.proofs.Steps.Errors.{filter_none, filter-next, factor-none, factor-next, value_found}
+use Rattle.decoding.specs.Steps.ErrorValues.{filtered_by, filter_factor}
+use Rattle.decoding.proofs.Steps.Errors.{filter_none, filter_next, factor_none, factor_next, value_found}
 use Rattle.decoding.proofs.error_values.error_value.Statement.{statement}
 use Rattle.decoding.proofs.error_values.error_value.Tie as tie
 
 abbrev invariant-loop : tie.invariant-loop
 invariant-loop exp log n k places x f₀ i₀ f i =
-    (i ≤ k) × (f.sequence ≡ filteredBy exp log n places.at f₀.sequence i) × (f.factor ≡ filterFactor exp log n places.at x i)
+    (i ≤ k) × (f.sequence ≡ filtered_by exp log n places.at f₀.sequence i) × (f.factor ≡ filter_factor exp log n places.at x i)
 
 abbrev decreases-loop : tie.decreases-loop
 decreases-loop exp log n k places x f₀ i₀ f i = k - i
@@ -27,7 +27,7 @@ locator-requires : tie.Need-locator-requires invariant-loop decreases-loop
 locator-requires c κs = search rules
 
 loop-holds : tie.Need-loop-init invariant-loop decreases-loop
-loop-holds c = search (rules, filter_none, factor-none)
+loop-holds c = search (rules, filter_none, factor_none)
 
 mul-locator-2 : tie.Need-overflow-mul-locator-2 invariant-loop decreases-loop
 mul-locator-2 c = search rules
@@ -51,7 +51,7 @@ loop-less : tie.Need-loop-smaller invariant-loop decreases-loop
 loop-less c = search rules
 
 loop-again : tie.Need-loop-preserved invariant-loop decreases-loop
-loop-again c = (search rules, search (rules, filter-next), search (rules, factor-next))
+loop-again c = (search rules, search (rules, filter_next), search (rules, factor_next))
 
 element-copy-out-product : tie.Need-element-copy-out-product invariant-loop decreases-loop
 element-copy-out-product c = search rules

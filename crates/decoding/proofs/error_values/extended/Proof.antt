@@ -1,6 +1,6 @@
 -- `decoding::error_values::extended` meets its contract. Assumes nothing.
 use borrow.Author.Rules.{rules}
-use Rattle.decoding.proofs.Steps.Errors.{factor-made}
+use Rattle.decoding.proofs.Steps.Errors.{factor_made}
 use Rattle.decoding.proofs.error_values.extended.Statement.{statement}
 use Rattle.decoding.proofs.error_values.extended.Tie as tie
 
@@ -14,7 +14,7 @@ product-requires : tie.Need-product-requires
 product-requires c κs = search rules
 
 returns : tie.Need-returns
-returns c = search (rules, factor-made)
+returns c = search (rules, factor_made)
 
 pub extended-spec : {M : Type 1} → statement M
 extended-spec = tie.close (tie.spec filtered-requires sum-requires product-requires returns)

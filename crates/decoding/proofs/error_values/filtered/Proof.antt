@@ -1,19 +1,19 @@
 -- `decoding::error_values::filtered` meets its contract. Assumes nothing.
 use Prim.Native.Nat.{◌-◌}
 use borrow.Author.Rules.{rules}
-use Rattle.fields.proofs.Places.Filling.{Filled, filled-start}
-use Rattle.decoding.proofs.Steps.Errors.{filteredEntry, filtered-next, filtered-end}
+use Rattle.fields.proofs.Places.Filling.{Filled, filled_start}
+use Rattle.decoding.proofs.Steps.Errors.{filtered_entry, filtered_next, filtered_end}
 use Rattle.decoding.proofs.error_values.filtered.Statement.{statement}
 use Rattle.decoding.proofs.error_values.filtered.Tie as tie
 
 abbrev invariant-loop : tie.invariant-loop
-invariant-loop exp log x t s₀ j₀ s j = Filled 16 (filteredEntry exp log x t) j s
+invariant-loop exp log x t s₀ j₀ s j = Filled 16 (filtered_entry exp log x t) j s
 
 abbrev decreases-loop : tie.decreases-loop
 decreases-loop exp log x t s₀ j₀ s j = 16 - j
 
 loop-holds : tie.Need-loop-init invariant-loop decreases-loop
-loop-holds c = search (rules, filled-start)
+loop-holds c = search (rules, filled_start)
 
 slice-aggregate-symbol : tie.Need-slice-aggregate-symbol invariant-loop decreases-loop
 slice-aggregate-symbol c = search rules
@@ -49,10 +49,10 @@ loop-less : tie.Need-loop-smaller invariant-loop decreases-loop
 loop-less c = search rules
 
 loop-again : tie.Need-loop-preserved invariant-loop decreases-loop
-loop-again c = search (rules, filtered-next)
+loop-again c = search (rules, filtered_next)
 
 returns : tie.Need-returns invariant-loop decreases-loop
-returns c = search (rules, filtered-end)
+returns c = search (rules, filtered_end)
 
 pub filtered-spec : {M : Type 1} → statement M
 filtered-spec =

@@ -1,6 +1,6 @@
 -- `decoding::error_values::flipped` meets its contract. Assumes nothing.
 use borrow.Author.Rules.{rules}
-use Rattle.decoding.proofs.Steps.Flips.{flipped-made}
+use Rattle.decoding.proofs.Steps.Flips.{flipped_made}
 use Rattle.decoding.proofs.error_values.flipped.Statement.{statement}
 use Rattle.decoding.proofs.error_values.flipped.Tie as tie
 
@@ -35,7 +35,7 @@ array-write-values : tie.Need-array-write-values
 array-write-values c = search rules
 
 returns : tie.Need-returns
-returns c = search (rules, flipped-made)
+returns c = search (rules, flipped_made)
 
 pub flipped-spec : {M : Type 1} → statement M
 flipped-spec =

@@ -1,7 +1,7 @@
 -- `decoding::error_values::less_powers` meets its contract. Assumes nothing.
 use Prim.Native.Nat.{◌-◌}
 use borrow.Author.Rules.{rules}
-use Rattle.decoding.proofs.Steps.Flips.{LessPowers, powers-none, powers-next, powers-end}
+use Rattle.decoding.proofs.Steps.Flips.{LessPowers, powers_none, powers_next, powers_end}
 use Rattle.decoding.proofs.error_values.less_powers.Statement.{statement}
 use Rattle.decoding.proofs.error_values.less_powers.Tie as tie
 
@@ -12,7 +12,7 @@ abbrev decreases-loop : tie.decreases-loop
 decreases-loop exp e t s₀ k₀ j₀ s k j = 16 - j
 
 loop-holds : tie.Need-loop-init invariant-loop decreases-loop
-loop-holds c = search (rules, powers-none)
+loop-holds c = search (rules, powers_none)
 
 mul-sum : tie.Need-overflow-mul-sum invariant-loop decreases-loop
 mul-sum c = search rules
@@ -45,10 +45,10 @@ loop-less : tie.Need-loop-smaller invariant-loop decreases-loop
 loop-less c = search rules
 
 loop-again : tie.Need-loop-preserved invariant-loop decreases-loop
-loop-again c = search (rules, powers-next)
+loop-again c = search (rules, powers_next)
 
 returns : tie.Need-returns invariant-loop decreases-loop
-returns c = search (rules, powers-end)
+returns c = search (rules, powers_end)
 
 pub less-powers-spec : {M : Type 1} → statement M
 less-powers-spec =

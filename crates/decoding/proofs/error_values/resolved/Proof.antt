@@ -1,6 +1,6 @@
 -- `decoding::error_values::resolved` meets its contract. Assumes nothing.
 use borrow.Author.Rules.{rules}
-use Rattle.decoding.proofs.Steps.Errors.{resolved-made}
+use Rattle.decoding.proofs.Steps.Errors.{resolved_made}
 use Rattle.decoding.proofs.error_values.resolved.Statement.{statement}
 use Rattle.decoding.proofs.error_values.resolved.Tie as tie
 
@@ -29,7 +29,7 @@ array-write-values : tie.Need-array-write-values
 array-write-values c = search rules
 
 returns : tie.Need-returns
-returns c = search (rules, resolved-made)
+returns c = search (rules, resolved_made)
 
 pub resolved-spec : {M : Type 1} → statement M
 resolved-spec =

@@ -1,6 +1,6 @@
 -- `decoding::power_tables::add_block` meets its contract. Assumes nothing.
 use borrow.Author.Rules.{rules}
-use Rattle.decoding.proofs.Steps.PowerTables.{sums-stored}
+use Rattle.decoding.proofs.Steps.PowerTables.{sums_stored}
 use Rattle.decoding.proofs.power_tables.add_block.Statement.{statement}
 use Rattle.decoding.proofs.power_tables.add_block.Tie as tie
 
@@ -20,7 +20,7 @@ same_length : tie.Need-same-length
 same_length c = search rules
 
 returns : tie.Need-returns
-returns c = search (rules, sums-stored)
+returns c = search (rules, sums_stored)
 
 pub add-block-spec : {M : Type 1} → statement M
 add-block-spec =

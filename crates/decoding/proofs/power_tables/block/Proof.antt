@@ -1,6 +1,6 @@
 -- `decoding::power_tables::block` meets its contract. Assumes nothing.
 use borrow.Author.Rules.{rules}
-use Rattle.decoding.proofs.Steps.PowerTables.{block_none, block-some}
+use Rattle.decoding.proofs.Steps.PowerTables.{block_none, block_some}
 use Rattle.decoding.proofs.power_tables.block.Statement.{statement}
 use Rattle.decoding.proofs.power_tables.block.Tie as tie
 
@@ -38,7 +38,7 @@ kept-of-requires : tie.Need-kept-of-requires
 kept-of-requires c κs = search rules
 
 returns-2 : tie.Need-returns-2
-returns-2 c = block-some _ _ _ _ _ _ _ _ _ _ _ _ _ _ c.before.before.before.before.before.before.before.before.before.before.position.ensures.0 c.before.before.before.before.before.before.before.before.before.position2.ensures.0 c.before.before.before.before.before.before.before.before.position3.ensures.0 c.before.before.before.before.before.before.before.position4.ensures.0 c.before.before.before.before.before.before.position5.ensures.0 c.before.before.before.before.before.position6.ensures.0 c.before.before.before.before.position7.ensures.0 c.before.before.before.position8.ensures.0 _ c.kept_of.ensures
+returns-2 c = block_some _ _ _ _ _ _ _ _ _ _ _ _ _ _ c.before.before.before.before.before.before.before.before.before.before.position.ensures.0 c.before.before.before.before.before.before.before.before.before.position2.ensures.0 c.before.before.before.before.before.before.before.before.position3.ensures.0 c.before.before.before.before.before.before.before.position4.ensures.0 c.before.before.before.before.before.before.position5.ensures.0 c.before.before.before.before.before.position6.ensures.0 c.before.before.before.before.position7.ensures.0 c.before.before.before.position8.ensures.0 _ c.kept_of.ensures
 
 pub block_spec : {M : Type 1} → statement M
 block_spec =

@@ -1,20 +1,20 @@
 -- `decoding::power_tables::block_sums` meets its contract. Assumes nothing.
 use Prim.Native.Nat.{◌-◌}
 use borrow.Author.Rules.{rules}
-use Rattle.fields.proofs.Places.Filling.{Filled, filled-start, filled-end}
-use Rattle.decoding.specs.Steps.PowerTables.{blockSum}
+use Rattle.fields.proofs.Places.Filling.{Filled, filled_start, filled_end}
+use Rattle.decoding.specs.Steps.PowerTables.{block_sum}
 use Rattle.decoding.proofs.Steps.PowerTables.{sums_next}
 use Rattle.decoding.proofs.power_tables.block_sums.Statement.{statement}
 use Rattle.decoding.proofs.power_tables.block_sums.Tie as tie
 
 abbrev invariant-loop : tie.invariant-loop
-invariant-loop tables a b sums₀ l₀ sums l = Filled 40 (blockSum tables a b) l sums
+invariant-loop tables a b sums₀ l₀ sums l = Filled 40 (block_sum tables a b) l sums
 
 abbrev decreases-loop : tie.decreases-loop
 decreases-loop tables a b sums₀ l₀ sums l = 40 - l
 
 loop-holds : tie.Need-loop-init invariant-loop decreases-loop
-loop-holds c = search (rules, filled-start)
+loop-holds c = search (rules, filled_start)
 
 add-sum : tie.Need-overflow-add-sum invariant-loop decreases-loop
 add-sum c = search rules
@@ -53,7 +53,7 @@ loop-again : tie.Need-loop-preserved invariant-loop decreases-loop
 loop-again c = search (rules, sums_next)
 
 returns : tie.Need-returns invariant-loop decreases-loop
-returns c = search (rules, filled-end)
+returns c = search (rules, filled_end)
 
 pub block-sums-spec : {M : Type 1} → statement M
 block-sums-spec =

@@ -1,7 +1,7 @@
 -- `decoding::power_tables::empty_tables` meets its contract. Assumes nothing.
 use Prim.Native.Nat.{◌-◌}
 use borrow.Author.Rules.{rules}
-use Rattle.decoding.proofs.Steps.PowerTables.{Emptied, emptied-none, emptied-next, emptied-end}
+use Rattle.decoding.proofs.Steps.PowerTables.{Emptied, emptied_none, emptied_next, emptied_end}
 use Rattle.decoding.proofs.power_tables.empty_tables.Statement.{statement}
 use Rattle.decoding.proofs.power_tables.empty_tables.Tie as tie
 
@@ -12,7 +12,7 @@ abbrev decreases-loop : tie.decreases-loop
 decreases-loop tables₀ m₀ tables m = 2087 - m
 
 loop-holds : tie.Need-loop-init invariant-loop decreases-loop
-loop-holds c = search (rules, emptied-none)
+loop-holds c = search (rules, emptied_none)
 
 mul-tables : tie.Need-overflow-mul-tables invariant-loop decreases-loop
 mul-tables c = search rules
@@ -27,7 +27,7 @@ loop-less : tie.Need-loop-smaller invariant-loop decreases-loop
 loop-less c = search rules
 
 loop-again : tie.Need-loop-preserved invariant-loop decreases-loop
-loop-again c = search (rules, emptied-next)
+loop-again c = search (rules, emptied_next)
 
 sub-tables : tie.Need-overflow-sub-tables invariant-loop decreases-loop
 sub-tables c = search rules
@@ -42,7 +42,7 @@ same_length : tie.Need-same-length invariant-loop decreases-loop
 same_length c = search rules
 
 returns : tie.Need-returns invariant-loop decreases-loop
-returns c = search (rules, emptied-end)
+returns c = search (rules, emptied_end)
 
 pub empty-tables-spec : {M : Type 1} → statement M
 empty-tables-spec =

@@ -1,7 +1,7 @@
 -- `decoding::power_tables::far` meets its contract. Assumes nothing.
 use borrow.Author.Rules.{rules}
 use Rattle.decoding.specs.Steps.PowerTables.{far}
-use Rattle.decoding.proofs.Steps.PowerTables.{far-most}
+use Rattle.decoding.proofs.Steps.PowerTables.{far_most}
 use Rattle.decoding.proofs.power_tables.far.Statement.{statement}
 use Rattle.decoding.proofs.power_tables.far.Tie as tie
 
@@ -13,7 +13,7 @@ array-read-result c = search rules
 
 returns : tie.Need-returns
 unfolding far
-returns c = search (rules, far-most)
+returns c = search (rules, far_most)
 
 pub far-spec : {M : Type 1} → statement M
 far-spec = tie.close (tie.spec mul-result array-read-result returns)

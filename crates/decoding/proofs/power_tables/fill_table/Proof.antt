@@ -1,14 +1,14 @@
 -- `decoding::power_tables::fill_table` meets its contract. Assumes nothing.
 use borrow.Author.Rules.{rules}
-use Rattle.decoding.proofs.Steps.PowerTables.{powers-long, started-whole, table-long, table-count, table-end}
+use Rattle.decoding.proofs.Steps.PowerTables.{powers_long, started_whole, table_long, table_count, table_end}
 use Rattle.decoding.proofs.power_tables.fill_table.Statement.{statement}
 use Rattle.decoding.proofs.power_tables.fill_table.Tie as tie
 
 start-table-requires : tie.Need-start-table-requires
-start-table-requires c κs = search (rules, powers-long)
+start-table-requires c κs = search (rules, powers_long)
 
 finish-table-requires : tie.Need-finish-table-requires
-finish-table-requires c κs = search (rules, started-whole)
+finish-table-requires c κs = search (rules, started_whole)
 
 cast-tables : tie.Need-overflow-cast-tables
 cast-tables c = search rules
@@ -23,10 +23,10 @@ slice-write-tables : tie.Need-slice-write-tables
 slice-write-tables c = search rules
 
 same_length : tie.Need-same-length
-same_length c = search (rules, table-long)
+same_length c = search (rules, table_long)
 
 returns : tie.Need-returns
-returns c = search (rules, table-end, table-count)
+returns c = search (rules, table_end, table_count)
 
 pub fill-table-spec : {M : Type 1} → statement M
 fill-table-spec =

@@ -1,7 +1,7 @@
 -- `decoding::power_tables::finish_table` meets its contract. Assumes nothing.
 use Prim.Native.Nat.{◌-◌}
 use borrow.Author.Rules.{rules}
-use Rattle.decoding.proofs.Steps.PowerTables.{TableBlocks, blocks-none, blocks-next, blocks_end}
+use Rattle.decoding.proofs.Steps.PowerTables.{TableBlocks, blocks_none, blocks_next, blocks_end}
 use Rattle.decoding.proofs.power_tables.finish_table.Statement.{statement}
 use Rattle.decoding.proofs.power_tables.finish_table.Tie as tie
 
@@ -18,7 +18,7 @@ far-requires : tie.Need-far-requires invariant-loop decreases-loop
 far-requires c κs = search rules
 
 loop-holds : tie.Need-loop-init invariant-loop decreases-loop
-loop-holds c = search (rules, blocks-none)
+loop-holds c = search (rules, blocks_none)
 
 mul-add-block : tie.Need-overflow-mul-add-block invariant-loop decreases-loop
 mul-add-block c = search rules
@@ -36,7 +36,7 @@ loop-less : tie.Need-loop-smaller invariant-loop decreases-loop
 loop-less c = search rules
 
 loop-again : tie.Need-loop-preserved invariant-loop decreases-loop
-loop-again c = search (rules, blocks-next)
+loop-again c = search (rules, blocks_next)
 
 same_length : tie.Need-same-length invariant-loop decreases-loop
 same_length c = search rules

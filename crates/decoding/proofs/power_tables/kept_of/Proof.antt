@@ -3,19 +3,19 @@ use mathlib.Core.Path.{◌≡◌}
 use Prim.Native.Nat.{◌-◌, ◌≤◌}
 use native.Mathlib.Omega.{arith}
 use borrow.Author.Rules.{rules}
-use Rattle.decoding.specs.Steps.PowerTables.{eightAt, kept_to}
-use Rattle.decoding.proofs.Steps.PowerTables.{kept-none, kept_next, kept-end}
+use Rattle.decoding.specs.Steps.PowerTables.{eight_at, kept_to}
+use Rattle.decoding.proofs.Steps.PowerTables.{kept_none, kept_next, kept_end}
 use Rattle.decoding.proofs.power_tables.kept_of.Statement.{statement}
 use Rattle.decoding.proofs.power_tables.kept_of.Tie as tie
 
 abbrev invariant-loop : tie.invariant-loop
-invariant-loop tables a b c d e f g h x i p₀ l₀ p l = (l ≤ 40) × (p.count ≤ 8) × (p ≡ kept_to (eightAt tables a b c d e f g h) x i p₀ l)
+invariant-loop tables a b c d e f g h x i p₀ l₀ p l = (l ≤ 40) × (p.count ≤ 8) × (p ≡ kept_to (eight_at tables a b c d e f g h) x i p₀ l)
 
 abbrev decreases-loop : tie.decreases-loop
 decreases-loop tables a b c d e f g h x i p₀ l₀ p l = 40 - l
 
 loop-holds : tie.Need-loop-init invariant-loop decreases-loop
-loop-holds c = search (rules, kept-none)
+loop-holds c = search (rules, kept_none)
 
 eight-requires : tie.Need-eight-requires invariant-loop decreases-loop
 eight-requires c κs = search rules
@@ -36,7 +36,7 @@ loop-again : tie.Need-loop-preserved invariant-loop decreases-loop
 loop-again c = (omega arith, c.keep-if.ensures.1, kept_next _ _ _ _ _ _ c.before.before.before.loop.invariant.2 _ _ c.before.eight.ensures c.keep-if.ensures.0)
 
 returns : tie.Need-returns invariant-loop decreases-loop
-returns c = search (rules, kept-end)
+returns c = search (rules, kept_end)
 
 pub kept-of-spec : {M : Type 1} → statement M
 kept-of-spec =

@@ -1,6 +1,6 @@
 -- `decoding::power_tables::roots_by_tables` meets its contract. Assumes nothing.
 use borrow.Author.Rules.{rules}
-use Rattle.decoding.proofs.Steps.TableRoots.{tables-for}
+use Rattle.decoding.proofs.Steps.TableRoots.{tables_for}
 use Rattle.decoding.proofs.power_tables.roots_by_tables.Statement.{statement}
 use Rattle.decoding.proofs.power_tables.roots_by_tables.Tie as tie
 
@@ -23,7 +23,7 @@ need-tables-requires : tie.Need-need-tables-requires
 need-tables-requires c κs = search rules
 
 scanned-requires : tie.Need-scanned-requires
-scanned-requires c κs = search (rules, tables-for)
+scanned-requires c κs = search (rules, tables_for)
 
 same_length : tie.Need-same-length
 same_length c = search rules

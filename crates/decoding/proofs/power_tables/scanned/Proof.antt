@@ -2,8 +2,8 @@
 use Prim.Native.Nat.{◌-◌}
 use native.Mathlib.Omega.{arith}
 use borrow.Author.Rules.{rules}
-use Rattle.decoding.proofs.Steps.PowerTables.{bases-most, starts-most}
-use Rattle.decoding.proofs.Steps.TableRoots.{Scanning, tables-long, place-small, scanning-none, scanning-next, scanning-end}
+use Rattle.decoding.proofs.Steps.PowerTables.{bases_most, starts_most}
+use Rattle.decoding.proofs.Steps.TableRoots.{Scanning, tables_long, place_small, scanning_none, scanning_next, scanning_end}
 use Rattle.decoding.proofs.power_tables.scanned.Statement.{statement}
 use Rattle.decoding.proofs.power_tables.scanned.Tie as tie
 
@@ -26,10 +26,10 @@ array-read-x : tie.Need-array-read-x invariant-loop decreases-loop
 array-read-x c = search rules
 
 loop-holds : tie.Need-loop-init invariant-loop decreases-loop
-loop-holds c = search (rules, scanning-none)
+loop-holds c = search (rules, scanning_none)
 
 block-requires : tie.Need-block-requires invariant-loop decreases-loop
-block-requires c κs = ((tables-long c.before.before.before.before.before.before.requires.1, c.before.loop.invariant.few, place-small c.before.before.before.before.before.before.requires.1 (omega arith)), (bases-most _ _ c.before.before.tables-of.ensures.0, starts-most _ _ _ _ c.before.before.tables-of.ensures.1))
+block-requires c κs = ((tables_long c.before.before.before.before.before.before.requires.1, c.before.loop.invariant.few, place_small c.before.before.before.before.before.before.requires.1 (omega arith)), (bases_most _ _ c.before.before.tables_of.ensures.0, starts_most _ _ _ _ c.before.before.tables_of.ensures.1))
 
 add-i : tie.Need-overflow-add-i invariant-loop decreases-loop
 add-i c = search rules
@@ -38,10 +38,10 @@ loop-less : tie.Need-loop-smaller invariant-loop decreases-loop
 loop-less c = search rules
 
 loop-again : tie.Need-loop-preserved invariant-loop decreases-loop
-loop-again c = search (rules, scanning-next)
+loop-again c = search (rules, scanning_next)
 
 returns : tie.Need-returns invariant-loop decreases-loop
-returns c = search (rules, scanning-end)
+returns c = search (rules, scanning_end)
 
 pub scanned-spec : {M : Type 1} → statement M
 scanned-spec =

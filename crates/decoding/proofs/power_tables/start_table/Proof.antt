@@ -1,7 +1,7 @@
 -- `decoding::power_tables::start_table` meets its contract. Assumes nothing.
 use Prim.Native.Nat.{◌-◌}
 use borrow.Author.Rules.{rules}
-use Rattle.decoding.proofs.Steps.PowerTables.{TableStarted, started_none, started-next, started-end}
+use Rattle.decoding.proofs.Steps.PowerTables.{TableStarted, started_none, started_next, started_end}
 use Rattle.decoding.proofs.power_tables.start_table.Statement.{statement}
 use Rattle.decoding.proofs.power_tables.start_table.Tie as tie
 
@@ -42,13 +42,13 @@ loop-less : tie.Need-loop-smaller invariant-loop decreases-loop
 loop-less c = search rules
 
 loop-again : tie.Need-loop-preserved invariant-loop decreases-loop
-loop-again c = search (rules, started-next)
+loop-again c = search (rules, started_next)
 
 same_length : tie.Need-same-length invariant-loop decreases-loop
 same_length c = search rules
 
 returns : tie.Need-returns invariant-loop decreases-loop
-returns c = search (rules, started-end)
+returns c = search (rules, started_end)
 
 pub start-table-spec : {M : Type 1} → statement M
 start-table-spec =

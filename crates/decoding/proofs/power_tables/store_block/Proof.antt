@@ -4,7 +4,7 @@ use Prim.Native.Nat.{◌-◌, ◌≤◌}
 use lib.ListN.{length}
 use borrow.Author.Rules.{rules}
 use Rattle.decoding.specs.Steps.PowerTables.{stored}
-use Rattle.decoding.proofs.Steps.PowerTables.{stored-none, stored_next, stored-end}
+use Rattle.decoding.proofs.Steps.PowerTables.{stored_none, stored_next, stored_end}
 use Rattle.decoding.proofs.power_tables.store_block.Statement.{statement}
 use Rattle.decoding.proofs.power_tables.store_block.Tie as tie
 
@@ -15,7 +15,7 @@ abbrev decreases-loop : tie.decreases-loop
 decreases-loop tables₀ s block l₀ tables l = 40 - l
 
 loop-holds : tie.Need-loop-init invariant-loop decreases-loop
-loop-holds c = search (rules, stored-none)
+loop-holds c = search (rules, stored_none)
 
 mul-tables : tie.Need-overflow-mul-tables invariant-loop decreases-loop
 mul-tables c = search rules
@@ -45,7 +45,7 @@ same_length : tie.Need-same-length invariant-loop decreases-loop
 same_length c = search rules
 
 returns : tie.Need-returns invariant-loop decreases-loop
-returns c = search (rules, stored-end)
+returns c = search (rules, stored_end)
 
 pub store-block-spec : {M : Type 1} → statement M
 store-block-spec =

@@ -1,11 +1,11 @@
 -- `decoding::power_tables::table_start` meets its contract. Assumes nothing.
 use borrow.Author.Rules.{rules}
-use Rattle.decoding.proofs.Steps.PowerTables.{start-zero, start-table}
+use Rattle.decoding.proofs.Steps.PowerTables.{start_zero, start_table}
 use Rattle.decoding.proofs.power_tables.table_start.Statement.{statement}
 use Rattle.decoding.proofs.power_tables.table_start.Tie as tie
 
 returns : tie.Need-returns
-returns c = search (rules, start-zero)
+returns c = search (rules, start_zero)
 
 symbol-requires : tie.Need-symbol-requires
 symbol-requires c κs = search rules
@@ -35,7 +35,7 @@ folded-requires : tie.Need-folded-requires
 folded-requires c κs = search rules
 
 returns-2 : tie.Need-returns-2
-returns-2 c = search (rules, start-table)
+returns-2 c = search (rules, start_table)
 
 pub table-start-spec : {M : Type 1} → statement M
 table-start-spec =

@@ -1,19 +1,19 @@
 -- `decoding::power_tables::tables_of` meets its contract. Assumes nothing.
 use Prim.Native.Nat.{◌-◌}
 use borrow.Author.Rules.{rules}
-use Rattle.fields.proofs.Places.Filling.{Filled, filled-start}
-use Rattle.decoding.proofs.Steps.PowerTables.{termBase, termStart, bases-next, starts-next, bases-end, starts-end}
+use Rattle.fields.proofs.Places.Filling.{Filled, filled_start}
+use Rattle.decoding.proofs.Steps.PowerTables.{term_base, term_start, bases_next, starts_next, bases_end, starts_end}
 use Rattle.decoding.proofs.power_tables.tables_of.Statement.{statement}
 use Rattle.decoding.proofs.power_tables.tables_of.Tie as tie
 
 abbrev invariant-loop : tie.invariant-loop
-invariant-loop log n polynomial bases₀ starts₀ d₀ bases starts d = Filled 8 (termBase polynomial) d bases × Filled 8 (termStart log polynomial n) d starts
+invariant-loop log n polynomial bases₀ starts₀ d₀ bases starts d = Filled 8 (term_base polynomial) d bases × Filled 8 (term_start log polynomial n) d starts
 
 abbrev decreases-loop : tie.decreases-loop
 decreases-loop log n polynomial bases₀ starts₀ d₀ bases starts d = 8 - d
 
 loop-holds : tie.Need-loop-init invariant-loop decreases-loop
-loop-holds c = search (rules, filled-start)
+loop-holds c = search (rules, filled_start)
 
 sub-c : tie.Need-overflow-sub-c invariant-loop decreases-loop
 sub-c c = search rules
@@ -58,10 +58,10 @@ loop-less : tie.Need-loop-smaller invariant-loop decreases-loop
 loop-less c = search rules
 
 loop-again : tie.Need-loop-preserved invariant-loop decreases-loop
-loop-again c = search (rules, bases-next, starts-next)
+loop-again c = search (rules, bases_next, starts_next)
 
 returns : tie.Need-returns invariant-loop decreases-loop
-returns c = search (rules, bases-end, starts-end)
+returns c = search (rules, bases_end, starts_end)
 
 pub tables-of-spec : {M : Type 1} → statement M
 tables-of-spec =

@@ -1,20 +1,20 @@
 -- `decoding::root_search::divided` meets its contract. Assumes nothing.
 use Prim.Native.Nat.{◌-◌}
-use Rattle.fields.proofs.Places.Filling.{Filled, filled-start, filled_next}
+use Rattle.fields.proofs.Places.Filling.{Filled, filled_start, filled_next}
 use borrow.Author.Rules.{rules}
 use mathlib.Core.Path.{◌≡◌}
-use Rattle.decoding.proofs.Steps.RootsFound.{valueOfFirst, first-none, first_next, quotient-end}
+use Rattle.decoding.proofs.Steps.RootsFound.{value_of_first, first_none, first_next, quotient_end}
 use Rattle.decoding.proofs.root_search.divided.Statement.{statement}
 use Rattle.decoding.proofs.root_search.divided.Tie as tie
 
 abbrev invariant-loop : tie.invariant-loop
-invariant-loop exp log r q coefficients₀ v₀ k₀ coefficients v k = Filled 9 (valueOfFirst exp log q.coefficients r) k coefficients × (v ≡ valueOfFirst exp log q.coefficients r k)
+invariant-loop exp log r q coefficients₀ v₀ k₀ coefficients v k = Filled 9 (value_of_first exp log q.coefficients r) k coefficients × (v ≡ value_of_first exp log q.coefficients r k)
 
 abbrev decreases-loop : tie.decreases-loop
 decreases-loop exp log r q coefficients₀ v₀ k₀ coefficients v k = 9 - k
 
 loop-holds : tie.Need-loop-init invariant-loop decreases-loop
-loop-holds c = search (rules, filled-start, first-none)
+loop-holds c = search (rules, filled_start, first_none)
 
 mul-coefficients : tie.Need-overflow-mul-coefficients invariant-loop decreases-loop
 mul-coefficients c = search rules
@@ -44,7 +44,7 @@ loop-again : tie.Need-loop-preserved invariant-loop decreases-loop
 loop-again c = search (rules, filled_next, first_next)
 
 returns : tie.Need-returns invariant-loop decreases-loop
-returns c = search (rules, quotient-end)
+returns c = search (rules, quotient_end)
 
 pub divided-spec : {M : Type 1} → statement M
 divided-spec =

@@ -1,6 +1,6 @@
 -- `decoding::root_search::linear_root` meets its contract. Assumes nothing.
 use borrow.Author.Rules.{rules}
-use Rattle.decoding.proofs.Decoding.LinearRoot.{coefficient-exponent, all-roots, constant-none, zero-none, front-none, before-none, root-here}
+use Rattle.decoding.proofs.Decoding.LinearRoot.{coefficient_exponent, all_roots, constant_none, zero_none, front_none, before_none, root_here}
 use Rattle.decoding.proofs.root_search.linear_root.Statement.{statement}
 use Rattle.decoding.proofs.root_search.linear_root.Tie as tie
 
@@ -29,13 +29,13 @@ cast-d : tie.Need-overflow-cast-d
 cast-d c = search rules
 
 returns : tie.Need-returns
-returns c = search (rules, all-roots)
+returns c = search (rules, all_roots)
 
 returns-2 : tie.Need-returns-2
-returns-2 c = search (rules, constant-none)
+returns-2 c = search (rules, constant_none)
 
 returns-3 : tie.Need-returns-3
-returns-3 c = search (rules, zero-none)
+returns-3 c = search (rules, zero_none)
 
 symbol-requires : tie.Need-symbol-requires
 symbol-requires c κs = search rules
@@ -50,10 +50,10 @@ cast-less-2 : tie.Need-overflow-cast-less-2
 cast-less-2 c = search rules
 
 less-requires : tie.Need-less-requires
-less-requires c κs = search (rules, coefficient-exponent)
+less-requires c κs = search (rules, coefficient_exponent)
 
 returns-4 : tie.Need-returns-4
-returns-4 c = search (rules, front-none)
+returns-4 c = search (rules, front_none)
 
 sub-r : tie.Need-overflow-sub-r
 sub-r c = search rules
@@ -62,10 +62,10 @@ sub-r-2 : tie.Need-overflow-sub-r-2
 sub-r-2 c = search rules
 
 returns-5 : tie.Need-returns-5
-returns-5 c = search (rules, before-none)
+returns-5 c = search (rules, before_none)
 
 returns-6 : tie.Need-returns-6
-returns-6 c = search (rules, root-here)
+returns-6 c = search (rules, root_here)
 
 pub linear-root-spec : {M : Type 1} → statement M
 linear-root-spec =

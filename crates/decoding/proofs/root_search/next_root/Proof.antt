@@ -1,8 +1,8 @@
 -- `decoding::root_search::next_root` meets its contract. Assumes nothing.
 use Prim.Native.Nat.{◌-◌}
 use borrow.Author.Rules.{rules}
-use Rattle.decoding.proofs.Decoding.LinearRoot.{zeros-fewer}
-use Rattle.decoding.proofs.Steps.Search.{Passed, single-none, passed_none, passed-found, passed-end, passed-next}
+use Rattle.decoding.proofs.Decoding.LinearRoot.{zeros_fewer}
+use Rattle.decoding.proofs.Steps.Search.{Passed, single_none, passed_none, passed_found, passed_end, passed_next}
 use Rattle.decoding.proofs.root_search.next_root.Statement.{statement}
 use Rattle.decoding.proofs.root_search.next_root.Tie as tie
 
@@ -19,7 +19,7 @@ leading-zeros-requires : tie.Need-leading-zeros-requires invariant-loop decrease
 leading-zeros-requires c κs = search rules
 
 linear-root-requires : tie.Need-linear-root-requires invariant-loop decreases-loop
-linear-root-requires c κs = search (rules, zeros-fewer)
+linear-root-requires c κs = search (rules, zeros_fewer)
 
 returns : tie.Need-returns invariant-loop decreases-loop
 returns c = search rules
@@ -31,7 +31,7 @@ terms-at-requires : tie.Need-terms-at-requires invariant-loop decreases-loop
 terms-at-requires c κs = search rules
 
 returns-2 : tie.Need-returns-2 invariant-loop decreases-loop
-returns-2 c = search (rules, single-none)
+returns-2 c = search (rules, single_none)
 
 loop-holds : tie.Need-loop-init invariant-loop decreases-loop
 loop-holds c = search (rules, passed_none)
@@ -46,7 +46,7 @@ next-value-requires : tie.Need-next-value-requires invariant-loop decreases-loop
 next-value-requires c κs = search rules
 
 returns-3 : tie.Need-returns-3 invariant-loop decreases-loop
-returns-3 c = search (rules, passed-found)
+returns-3 c = search (rules, passed_found)
 
 add-j : tie.Need-overflow-add-j invariant-loop decreases-loop
 add-j c = search rules
@@ -55,10 +55,10 @@ loop-less : tie.Need-loop-smaller invariant-loop decreases-loop
 loop-less c = search rules
 
 loop-again : tie.Need-loop-preserved invariant-loop decreases-loop
-loop-again c = search (rules, passed-next)
+loop-again c = search (rules, passed_next)
 
 returns-4 : tie.Need-returns-4 invariant-loop decreases-loop
-returns-4 c = search (rules, passed-end)
+returns-4 c = search (rules, passed_end)
 
 pub next-root-spec : {M : Type 1} → statement M
 next-root-spec =

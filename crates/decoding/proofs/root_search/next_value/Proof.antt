@@ -1,7 +1,7 @@
 -- `decoding::root_search::next_value` meets its contract. Assumes nothing.
 use Prim.Native.Nat.{◌-◌}
 use borrow.Author.Rules.{rules}
-use Rattle.decoding.proofs.Steps.Search.{exponent-inside, Moved, moved_none, moved_inside, moved-next, moved-end, moved_sum}
+use Rattle.decoding.proofs.Steps.Search.{exponent_inside, Moved, moved_none, moved_inside, moved_next, moved_end, moved_sum}
 use Rattle.decoding.proofs.root_search.next_value.Statement.{statement}
 use Rattle.decoding.proofs.root_search.next_value.Tie as tie
 
@@ -36,7 +36,7 @@ shared-slice-read-less : tie.Need-shared-slice-read-smaller invariant-loop decre
 shared-slice-read-less c = search rules
 
 less-requires : tie.Need-less-requires invariant-loop decreases-loop
-less-requires c κs = search (rules, exponent-inside, moved_inside)
+less-requires c κs = search (rules, exponent_inside, moved_inside)
 
 mul-exponents : tie.Need-overflow-mul-exponents invariant-loop decreases-loop
 mul-exponents c = search rules
@@ -51,13 +51,13 @@ loop-less : tie.Need-loop-smaller invariant-loop decreases-loop
 loop-less c = search rules
 
 loop-again : tie.Need-loop-preserved invariant-loop decreases-loop
-loop-again c = search (rules, moved-next)
+loop-again c = search (rules, moved_next)
 
 same_length : tie.Need-same-length invariant-loop decreases-loop
 same_length c = search rules
 
 returns : tie.Need-returns invariant-loop decreases-loop
-returns c = search (rules, moved-end, moved_sum)
+returns c = search (rules, moved_end, moved_sum)
 
 pub next-value-spec : {M : Type 1} → statement M
 next-value-spec =

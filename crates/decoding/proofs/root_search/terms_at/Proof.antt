@@ -1,7 +1,7 @@
 -- `decoding::root_search::terms_at` meets its contract. Assumes nothing.
 use Prim.Native.Nat.{◌-◌}
 use borrow.Author.Rules.{rules}
-use Rattle.decoding.proofs.Steps.Search.{TermsBelow, terms-none, terms-next, terms-end}
+use Rattle.decoding.proofs.Steps.Search.{TermsBelow, terms_none, terms_next, terms_end}
 use Rattle.decoding.proofs.root_search.terms_at.Statement.{statement}
 use Rattle.decoding.proofs.root_search.terms_at.Tie as tie
 
@@ -12,7 +12,7 @@ abbrev decreases-loop : tie.decreases-loop
 decreases-loop exp log x polynomial t₀ power₀ d₀ t power d = 9 - d
 
 loop-holds : tie.Need-loop-init invariant-loop decreases-loop
-loop-holds c = search (rules, terms-none)
+loop-holds c = search (rules, terms_none)
 
 sub-product : tie.Need-overflow-sub-product invariant-loop decreases-loop
 sub-product c = search rules
@@ -46,11 +46,11 @@ loop-less c = search rules
 
 loop-again : tie.Need-loop-preserved invariant-loop decreases-loop
 loop-again c =
-    terms-next _ _ _ _ _ _ _ c.before.before.before.before.before.loop.invariant _ _ _ _ c.before.before.before.before.loop-test.true
+    terms_next _ _ _ _ _ _ _ c.before.before.before.before.before.loop.invariant _ _ _ _ c.before.before.before.before.loop-test.true
     c.before.before.before.product.ensures.0 c.before.before.power.ensures.0 c.before.with-term.ensures c.product2.ensures.0
 
 returns : tie.Need-returns invariant-loop decreases-loop
-returns c = search (rules, terms-end)
+returns c = search (rules, terms_end)
 
 pub terms-at-spec : {M : Type 1} → statement M
 terms-at-spec =

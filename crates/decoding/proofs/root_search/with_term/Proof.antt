@@ -1,11 +1,11 @@
 -- `decoding::root_search::with_term` meets its contract. Assumes nothing.
 use borrow.Author.Rules.{rules}
-use Rattle.decoding.proofs.Steps.Search.{term-zero, term-new}
+use Rattle.decoding.proofs.Steps.Search.{term_zero, term_new}
 use Rattle.decoding.proofs.root_search.with_term.Statement.{statement}
 use Rattle.decoding.proofs.root_search.with_term.Tie as tie
 
 returns : tie.Need-returns
-returns c = search (rules, term-zero)
+returns c = search (rules, term_zero)
 
 symbol-requires : tie.Need-symbol-requires
 symbol-requires c κs = search rules
@@ -35,7 +35,7 @@ add-t12 : tie.Need-overflow-add-t12
 add-t12 c = search rules
 
 returns-2 : tie.Need-returns-2
-returns-2 c = search (rules, term-new)
+returns-2 c = search (rules, term_new)
 
 pub with-term-spec : {M : Type 1} → statement M
 with-term-spec =

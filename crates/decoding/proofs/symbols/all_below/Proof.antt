@@ -4,12 +4,12 @@ use mathlib.Core.Bool.{true}
 use Prim.Native.Nat.{◌-◌, ◌≤◌}
 use lib.ListN.{length}
 use borrow.Author.Rules.{rules}
-use Rattle.decoding.proofs.Steps.Symbols.{belowUpTo, below_none, below-not, below_next, below_end}
+use Rattle.decoding.proofs.Steps.Symbols.{below_up_to, below_none, below_not, below_next, below_end}
 use Rattle.decoding.proofs.symbols.all_below.Statement.{statement}
 use Rattle.decoding.proofs.symbols.all_below.Tie as tie
 
 abbrev invariant-loop : tie.invariant-loop
-invariant-loop word q i₀ i = (i ≤ length word) × (belowUpTo q word i ≡ true)
+invariant-loop word q i₀ i = (i ≤ length word) × (below_up_to q word i ≡ true)
 
 abbrev decreases-loop : tie.decreases-loop
 decreases-loop word q i₀ i = length word - i
@@ -24,7 +24,7 @@ shared-slice-read-if1 : tie.Need-shared-slice-read-if1 invariant-loop decreases-
 shared-slice-read-if1 c = search rules
 
 returns : tie.Need-returns invariant-loop decreases-loop
-returns c = search (rules, below-not)
+returns c = search (rules, below_not)
 
 add-i : tie.Need-overflow-add-i invariant-loop decreases-loop
 add-i c = search rules

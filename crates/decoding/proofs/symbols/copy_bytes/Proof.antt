@@ -4,7 +4,7 @@ use lib.ListN.{length}
 use borrow.Author.Rules.{rules}
 use Rattle.fields.specs.Places.{at}
 use Rattle.fields.proofs.Places.Filling.{Filled, filled_next}
-use Rattle.decoding.proofs.Steps.Symbols.{copied-not, copied-start, copied-end}
+use Rattle.decoding.proofs.Steps.Symbols.{copied_not, copied_start, copied_end}
 use Rattle.decoding.proofs.symbols.copy_bytes.Statement.{statement}
 use Rattle.decoding.proofs.symbols.copy_bytes.Tie as tie
 
@@ -15,10 +15,10 @@ abbrev decreases-loop : tie.decreases-loop
 decreases-loop word out₀ i₀ out i = length word - i
 
 returns : tie.Need-returns invariant-loop decreases-loop
-returns c = search (rules, copied-not)
+returns c = search (rules, copied_not)
 
 loop-holds : tie.Need-loop-init invariant-loop decreases-loop
-loop-holds c = search (rules, copied-start)
+loop-holds c = search (rules, copied_start)
 
 shared-slice-read-out : tie.Need-shared-slice-read-out invariant-loop decreases-loop
 shared-slice-read-out c = search rules
@@ -39,7 +39,7 @@ same_length : tie.Need-same-length invariant-loop decreases-loop
 same_length c = search rules
 
 returns-2 : tie.Need-returns-2 invariant-loop decreases-loop
-returns-2 c = search (rules, copied-end)
+returns-2 c = search (rules, copied_end)
 
 pub copy-bytes-spec : {M : Type 1} → statement M
 copy-bytes-spec =

@@ -1,7 +1,7 @@
 -- `frames::bits::eight_bytes` meets its contract. Assumes nothing.
 use borrow.Author.Rules.{rules}
 use Rattle.inner_words.proofs.Interleaving.EightBytes.{byte_fits}
-use Rattle.frames.proofs.Numbers.Groups.{eight-made}
+use Rattle.frames.proofs.Numbers.Groups.{eight_made}
 use Rattle.frames.proofs.bits.eight_bytes.Statement.{statement}
 use Rattle.frames.proofs.bits.eight_bytes.Tie as tie
 
@@ -75,7 +75,7 @@ cast-result-8 : tie.Need-overflow-cast-result-8
 cast-result-8 c = byte_fits (c.shared-slice-known8.given _)
 
 returns : tie.Need-returns
-returns c = eight-made _ _ c.shared-slice-known8.given
+returns c = eight_made _ _ c.shared-slice-known8.given
 
 pub eight-bytes-spec : {M : Type 1} → statement M
 eight-bytes-spec =

@@ -2,7 +2,7 @@
 use native.Mathlib.Omega.{arith}
 use borrow.Author.Rules.{rules}
 use lib.ListN.{length-set}
-use Rattle.frames.proofs.Numbers.Groups.{symbols-stored}
+use Rattle.frames.proofs.Numbers.Groups.{symbols_stored}
 use Rattle.frames.proofs.bits.put_symbols.Statement.{statement}
 use Rattle.frames.proofs.bits.put_symbols.Tie as tie
 
@@ -103,7 +103,7 @@ same_length : tie.Need-same-length
 same_length c = simp length-set
 
 returns : tie.Need-returns
-returns c = search (rules, symbols-stored)
+returns c = search (rules, symbols_stored)
 
 pub put-symbols-spec : {M : Type 1} → statement M
 put-symbols-spec =

@@ -1,6 +1,6 @@
 -- `frames::bits::symbol` meets its contract. Assumes nothing.
 use borrow.Author.Rules.{rules}
-use Rattle.frames.proofs.Numbers.Windows.{ten-fit, symbol-read}
+use Rattle.frames.proofs.Numbers.Windows.{ten_fit, symbol_read}
 use Rattle.frames.proofs.bits.symbol.Statement.{statement}
 use Rattle.frames.proofs.bits.symbol.Tie as tie
 
@@ -35,10 +35,10 @@ shr-result : tie.Need-overflow-shr-result
 shr-result c = search rules
 
 cast-result-2 : tie.Need-overflow-cast-result-2
-cast-result-2 c = search (rules, ten-fit)
+cast-result-2 c = search (rules, ten_fit)
 
 returns : tie.Need-returns
-returns c = search (rules, symbol-read)
+returns c = search (rules, symbol_read)
 
 pub symbol-spec : {M : Type 1} → statement M
 symbol-spec =

@@ -1,7 +1,7 @@
 -- `frames::bits::symbols` meets its contract. Assumes nothing.
 use borrow.Author.Rules.{rules}
 use Rattle.inner_words.proofs.Interleaving.EightBytes.{byte_fits}
-use Rattle.frames.proofs.OuterSymbols.Tested.{symbols-read}
+use Rattle.frames.proofs.OuterSymbols.Tested.{symbols_read}
 use Rattle.frames.proofs.bits.symbols.Statement.{statement}
 use Rattle.frames.proofs.bits.symbols.Tie as tie
 
@@ -39,7 +39,7 @@ shr-result-2 : tie.Need-overflow-shr-result-2
 shr-result-2 c = search rules
 
 returns : tie.Need-returns
-returns c = search (rules, symbols-read, c.shared-slice-known2.given)
+returns c = search (rules, symbols_read, c.shared-slice-known2.given)
 
 pub symbols-spec : {M : Type 1} → statement M
 symbols-spec =

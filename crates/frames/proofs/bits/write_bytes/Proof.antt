@@ -2,20 +2,20 @@
 use Prim.Native.Nat.{◌-◌, ◌*◌, ◌≤◌}
 use borrow.Author.Rules.{rules}
 use Rattle.fields.specs.Places.{at}
-use Rattle.fields.proofs.Places.Placing.{Placing, placing-start}
-use Rattle.frames.specs.Steps.Symbols.{symbolBit, parts_of}
-use Rattle.frames.proofs.Numbers.Groups.{bytes_next, groups-end}
+use Rattle.fields.proofs.Places.Placing.{Placing, placing_start}
+use Rattle.frames.specs.Steps.Symbols.{symbol_bit, parts_of}
+use Rattle.frames.proofs.Numbers.Groups.{bytes_next, groups_end}
 use Rattle.frames.proofs.bits.write_bytes.Statement.{statement}
 use Rattle.frames.proofs.bits.write_bytes.Tie as tie
 
 abbrev invariant-loop : tie.invariant-loop
-invariant-loop outer t n out₀ k q₀ out q = (q ≤ n) × Placing k (parts_of 8 (5 * n) (symbolBit (at outer)) (10 * t)) (5 * q) out₀ out
+invariant-loop outer t n out₀ k q₀ out q = (q ≤ n) × Placing k (parts_of 8 (5 * n) (symbol_bit (at outer)) (10 * t)) (5 * q) out₀ out
 
 abbrev decreases-loop : tie.decreases-loop
 decreases-loop outer t n out₀ k q₀ out q = n - q
 
 loop-holds : tie.Need-loop-init invariant-loop decreases-loop
-loop-holds c = search (rules, placing-start)
+loop-holds c = search (rules, placing_start)
 
 mul-four-symbols : tie.Need-overflow-mul-four-symbols invariant-loop decreases-loop
 mul-four-symbols c = search rules
@@ -48,7 +48,7 @@ same_length : tie.Need-same-length invariant-loop decreases-loop
 same_length c = search rules
 
 returns : tie.Need-returns invariant-loop decreases-loop
-returns c = search (rules, groups-end)
+returns c = search (rules, groups_end)
 
 pub write-bytes-spec : {M : Type 1} → statement M
 write-bytes-spec =

@@ -1,10 +1,10 @@
 -- `frames::bits::write_each` meets its contract. Assumes nothing.
 use Prim.Native.Nat.{◌-◌}
 use borrow.Author.Rules.{rules}
-use Rattle.fields.proofs.Places.Placing.{Placing, placing-start}
+use Rattle.fields.proofs.Places.Placing.{Placing, placing_start}
 use Rattle.words.specs.Bits.{bit_at}
 use Rattle.frames.specs.Steps.Symbols.{parts_of}
-use Rattle.frames.proofs.Numbers.Groups.{each_next, parts-end}
+use Rattle.frames.proofs.Numbers.Groups.{each_next, parts_end}
 use Rattle.frames.proofs.bits.write_each.Statement.{statement}
 use Rattle.frames.proofs.bits.write_each.Tie as tie
 
@@ -15,7 +15,7 @@ abbrev decreases-loop : tie.decreases-loop
 decreases-loop bytes i n outer₀ t s₀ outer s = n - s
 
 loop-holds : tie.Need-loop-init invariant-loop decreases-loop
-loop-holds c = search (rules, placing-start)
+loop-holds c = search (rules, placing_start)
 
 mul-symbol : tie.Need-overflow-mul-symbol invariant-loop decreases-loop
 mul-symbol c = search rules
@@ -48,7 +48,7 @@ same_length : tie.Need-same-length invariant-loop decreases-loop
 same_length c = search rules
 
 returns : tie.Need-returns invariant-loop decreases-loop
-returns c = search (rules, parts-end)
+returns c = search (rules, parts_end)
 
 pub write-each-spec : {M : Type 1} → statement M
 write-each-spec =

@@ -1,10 +1,10 @@
 -- `frames::bits::write_eights` meets its contract. Assumes nothing.
 use Prim.Native.Nat.{◌-◌, ◌*◌, ◌≤◌}
 use borrow.Author.Rules.{rules}
-use Rattle.fields.proofs.Places.Placing.{Placing, placing-start}
+use Rattle.fields.proofs.Places.Placing.{Placing, placing_start}
 use Rattle.words.specs.Bits.{bit_at}
 use Rattle.frames.specs.Steps.Symbols.{parts_of}
-use Rattle.frames.proofs.Numbers.Groups.{eights-next, groups-end}
+use Rattle.frames.proofs.Numbers.Groups.{eights_next, groups_end}
 use Rattle.frames.proofs.bits.write_eights.Statement.{statement}
 use Rattle.frames.proofs.bits.write_eights.Tie as tie
 
@@ -15,7 +15,7 @@ abbrev decreases-loop : tie.decreases-loop
 decreases-loop bytes k n outer₀ t q₀ outer q = n - q
 
 loop-holds : tie.Need-loop-init invariant-loop decreases-loop
-loop-holds c = search (rules, placing-start)
+loop-holds c = search (rules, placing_start)
 
 mul-eight-symbols : tie.Need-overflow-mul-eight-symbols invariant-loop decreases-loop
 mul-eight-symbols c = search rules
@@ -42,13 +42,13 @@ loop-less : tie.Need-loop-smaller invariant-loop decreases-loop
 loop-less c = search rules
 
 loop-again : tie.Need-loop-preserved invariant-loop decreases-loop
-loop-again c = search (rules, eights-next)
+loop-again c = search (rules, eights_next)
 
 same_length : tie.Need-same-length invariant-loop decreases-loop
 same_length c = search rules
 
 returns : tie.Need-returns invariant-loop decreases-loop
-returns c = search (rules, groups-end)
+returns c = search (rules, groups_end)
 
 pub write-eights-spec : {M : Type 1} → statement M
 write-eights-spec =

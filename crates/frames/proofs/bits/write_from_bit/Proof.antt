@@ -1,6 +1,6 @@
 -- `frames::bits::write_from_bit` meets its contract. Assumes nothing.
 use borrow.Author.Rules.{rules}
-use Rattle.frames.proofs.Numbers.Groups.{each-and-bytes, byte-room}
+use Rattle.frames.proofs.Numbers.Groups.{each_and_bytes, byte_room}
 use Rattle.frames.proofs.bits.write_from_bit.Statement.{statement}
 use Rattle.frames.proofs.bits.write_from_bit.Tie as tie
 
@@ -23,13 +23,13 @@ add-write-from-byte-2 : tie.Need-overflow-add-write-from-byte-2
 add-write-from-byte-2 c = search rules
 
 write-from-byte-requires : tie.Need-write-from-byte-requires
-write-from-byte-requires c κs = (search rules, search (rules, byte-room), search rules)
+write-from-byte-requires c κs = (search rules, search (rules, byte_room), search rules)
 
 same_length : tie.Need-same-length
 same_length c = search rules
 
 returns : tie.Need-returns
-returns c = search (rules, each-and-bytes)
+returns c = search (rules, each_and_bytes)
 
 pub write-from-bit-spec : {M : Type 1} → statement M
 write-from-bit-spec =

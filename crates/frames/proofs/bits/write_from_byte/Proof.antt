@@ -1,6 +1,6 @@
 -- `frames::bits::write_from_byte` meets its contract. Assumes nothing.
 use borrow.Author.Rules.{rules}
-use Rattle.frames.proofs.Numbers.Groups.{eights-and-each}
+use Rattle.frames.proofs.Numbers.Groups.{eights_and_each}
 use Rattle.frames.proofs.bits.write_from_byte.Statement.{statement}
 use Rattle.frames.proofs.bits.write_from_byte.Tie as tie
 
@@ -29,7 +29,7 @@ same_length : tie.Need-same-length
 same_length c = search rules
 
 returns : tie.Need-returns
-returns c = search (rules, eights-and-each)
+returns c = search (rules, eights_and_each)
 
 pub write-from-byte-spec : {M : Type 1} → statement M
 write-from-byte-spec =

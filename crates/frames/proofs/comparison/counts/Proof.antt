@@ -4,17 +4,17 @@ use Prim.Native.Nat.{◌-◌, ◌/◌, ◌≤◌}
 use native.Mathlib.Omega.{arith}
 use borrow.Author.Rules.{rules}
 use lib.ListN.{length}
-use Rattle.fields.proofs.Places.Filling.{zeros-at}
+use Rattle.fields.proofs.Places.Filling.{zeros_at}
 use Rattle.lanes.specs.Steps.Counters.{Carried}
-use Rattle.lanes.proofs.CarrySave.{carried-start}
-use Rattle.inner_words.specs.Steps.InnerResidues.{differenceFrom}
-use Rattle.frames.proofs.Correction.ReportCounts.{counted_next, counted-end}
+use Rattle.lanes.proofs.CarrySave.{carried_start}
+use Rattle.inner_words.specs.Steps.InnerResidues.{difference_from}
+use Rattle.frames.proofs.Correction.ReportCounts.{counted_next, counted_end}
 use Rattle.frames.proofs.comparison.counts.Statement.{statement}
 use Rattle.frames.proofs.comparison.counts.Tie as tie
 
 abbrev invariant-loop : tie.invariant-loop
 invariant-loop block frame from to n planes₀ carries₀ differences₀ i₀ planes carries differences i =
-    (i ≤ n) × (n ≡ (to - from) / 8) × (length carries ≡ 256) × (length differences ≡ 8) × Carried (differenceFrom block frame from) i planes carries
+    (i ≤ n) × (n ≡ (to - from) / 8) × (length carries ≡ 256) × (length differences ≡ 8) × Carried (difference_from block frame from) i planes carries
 
 abbrev decreases-loop : tie.decreases-loop
 decreases-loop block frame from to n planes₀ carries₀ differences₀ i₀ planes carries differences i = n - i
@@ -23,7 +23,7 @@ sub-n : tie.Need-overflow-sub-n invariant-loop decreases-loop
 sub-n c = search rules
 
 loop-holds : tie.Need-loop-init invariant-loop decreases-loop
-loop-holds c = search (rules, carried-start, zeros-at)
+loop-holds c = search (rules, carried_start, zeros_at)
 
 mul-differences : tie.Need-overflow-mul-differences invariant-loop decreases-loop
 mul-differences c = search rules
@@ -77,7 +77,7 @@ counts-requires : tie.Need-counts-requires invariant-loop decreases-loop
 counts-requires c κs = search rules
 
 returns : tie.Need-returns invariant-loop decreases-loop
-returns c = search (rules, counted-end)
+returns c = search (rules, counted_end)
 
 pub counts-spec : {M : Type 1} → statement M
 counts-spec =

@@ -3,7 +3,7 @@ use Prim.Native.Nat.{◌-◌}
 use borrow.Author.Rules.{rules}
 use lib.ListN.{length}
 use mir.Facts.{Fits-widen}
-use Rattle.frames.proofs.Correction.ReportCounts.{Summing, summing_start, summing-fits, summing-next, summing-end, summing-most}
+use Rattle.frames.proofs.Correction.ReportCounts.{Summing, summing_start, summing_fits, summing_next, summing_end, summing_most}
 use Rattle.frames.proofs.comparison.sum.Statement.{statement}
 use Rattle.frames.proofs.comparison.sum.Tie as tie
 
@@ -26,7 +26,7 @@ cast-n : tie.Need-overflow-cast-n invariant-loop decreases-loop
 cast-n c = Fits-widen tt (c.shared-slice-known.given _)
 
 add-n : tie.Need-overflow-add-n invariant-loop decreases-loop
-add-n c = search (rules, summing-fits, c.shared-slice-known.given)
+add-n c = search (rules, summing_fits, c.shared-slice-known.given)
 
 add-k : tie.Need-overflow-add-k invariant-loop decreases-loop
 add-k c = search rules
@@ -35,10 +35,10 @@ loop-less : tie.Need-loop-smaller invariant-loop decreases-loop
 loop-less c = search rules
 
 loop-again : tie.Need-loop-preserved invariant-loop decreases-loop
-loop-again c = search (rules, summing-next, c.shared-slice-known.given)
+loop-again c = search (rules, summing_next, c.shared-slice-known.given)
 
 returns : tie.Need-returns invariant-loop decreases-loop
-returns c = search (rules, summing-end, summing-most)
+returns c = search (rules, summing_end, summing_most)
 
 pub sum-spec : {M : Type 1} → statement M
 sum-spec =

@@ -1,6 +1,6 @@
 -- `frames::outer_test::data_symbols` meets its contract. Assumes nothing.
 use borrow.Author.Rules.{rules}
-use Rattle.frames.proofs.OuterSymbols.Tested.{symbols-lt, cleared-lt, data-whole, data-padded}
+use Rattle.frames.proofs.OuterSymbols.Tested.{symbols_lt, cleared_lt, data_whole, data_padded}
 use Rattle.frames.proofs.outer_test.data_symbols.Statement.{statement}
 use Rattle.frames.proofs.outer_test.data_symbols.Tie as tie
 
@@ -29,10 +29,10 @@ shl-result : tie.Need-overflow-shl-result
 shl-result c = search rules
 
 returns : tie.Need-returns
-returns c = search (rules, data-padded, cleared-lt)
+returns c = search (rules, data_padded, cleared_lt)
 
 returns-2 : tie.Need-returns-2
-returns-2 c = search (rules, data-whole, symbols-lt)
+returns-2 c = search (rules, data_whole, symbols_lt)
 
 pub data-symbols-spec : {M : Type 1} → statement M
 data-symbols-spec =

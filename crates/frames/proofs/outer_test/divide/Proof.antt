@@ -2,16 +2,16 @@
 use borrow.Author.Rules.{rules}
 use Rattle.words.specs.Steps.SixSymbols.{Packs}
 use Rattle.words.specs.Bits.{bit_at}
-use Rattle.frames.specs.Steps.Received.{dividedTo}
-use Rattle.frames.specs.Frames.{dataIn}
-use Rattle.frames.proofs.OuterSymbols.Tested.{division-end}
+use Rattle.frames.specs.Steps.Received.{divided_to}
+use Rattle.frames.specs.Frames.{data_in}
+use Rattle.frames.proofs.OuterSymbols.Tested.{division_end}
 use Prim.Native.Nat.{◌-◌, ◌%◌, ◌≤◌}
 use mathlib.Core.Path.{◌≡◌}
 use Rattle.frames.proofs.outer_test.divide.Statement.{statement}
 use Rattle.frames.proofs.outer_test.divide.Tie as tie
 
 abbrev invariant-loop : tie.invariant-loop
-invariant-loop table block w end i₀ p₀ i p = (i ≤ end) × (end ≤ 765) × ((end - i) % 6 ≡ 0) × (end ≡ dataIn w) × Packs p.high p.middle p.low (dividedTo (bit_at block) w i)
+invariant-loop table block w end i₀ p₀ i p = (i ≤ end) × (end ≤ 765) × ((end - i) % 6 ≡ 0) × (end ≡ data_in w) × Packs p.high p.middle p.low (divided_to (bit_at block) w i)
 
 abbrev decreases-loop : tie.decreases-loop
 decreases-loop table block w end i₀ p₀ i p = end - i
@@ -38,7 +38,7 @@ loop-again : tie.Need-loop-preserved invariant-loop decreases-loop
 loop-again c = search rules
 
 returns : tie.Need-returns invariant-loop decreases-loop
-returns c = search (rules, division-end)
+returns c = search (rules, division_end)
 
 pub divide-spec : {M : Type 1} → statement M
 divide-spec =

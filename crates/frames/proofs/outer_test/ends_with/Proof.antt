@@ -1,6 +1,6 @@
 -- `frames::outer_test::ends_with` meets its contract. Assumes nothing.
 use borrow.Author.Rules.{rules}
-use Rattle.frames.proofs.OuterSymbols.Tested.{division-tested}
+use Rattle.frames.proofs.OuterSymbols.Tested.{division_tested}
 use Rattle.frames.proofs.outer_test.ends_with.Statement.{statement}
 use Rattle.frames.proofs.outer_test.ends_with.Tie as tie
 
@@ -23,7 +23,7 @@ is-zero-requires : tie.Need-is-zero-requires
 is-zero-requires c κs = search rules
 
 returns : tie.Need-returns
-returns c = search (rules, division-tested)
+returns c = search (rules, division_tested)
 
 pub ends-with-spec : {M : Type 1} → statement M
 ends-with-spec =

@@ -1,6 +1,6 @@
 -- `frames::outer_test::parity_symbols` meets its contract. Assumes nothing.
 use borrow.Author.Rules.{rules}
-use Rattle.frames.proofs.OuterSymbols.Tested.{parity-first, parity-last}
+use Rattle.frames.proofs.OuterSymbols.Tested.{parity_first, parity_last}
 use Rattle.frames.proofs.outer_test.parity_symbols.Statement.{statement}
 use Rattle.frames.proofs.outer_test.parity_symbols.Tie as tie
 
@@ -23,7 +23,7 @@ symbols-requires : tie.Need-symbols-requires
 symbols-requires c κs = search rules
 
 returns : tie.Need-returns
-returns c = search (rules, parity-first)
+returns c = search (rules, parity_first)
 
 sub-symbols : tie.Need-overflow-sub-symbols
 sub-symbols c = search rules
@@ -32,7 +32,7 @@ symbols-requires-2 : tie.Need-symbols-requires-2
 symbols-requires-2 c κs = search rules
 
 returns-2 : tie.Need-returns-2
-returns-2 c = search (rules, parity-last)
+returns-2 c = search (rules, parity_last)
 
 pub parity-symbols-spec : {M : Type 1} → statement M
 parity-symbols-spec =

@@ -1,7 +1,7 @@
 -- `frames::outer_words::correct_word` meets its contract. Assumes nothing.
 use borrow.Author.Rules.{rules}
-use Rattle.frames.proofs.OuterSymbols.Words.{part-least, part-below, word-remainder}
-use Rattle.frames.proofs.Correction.OuterPass.{space-long, code-kept}
+use Rattle.frames.proofs.OuterSymbols.Words.{part_least, part_below, word_remainder}
+use Rattle.frames.proofs.Correction.OuterPass.{space_long, code_kept}
 use Rattle.frames.proofs.outer_words.correct_word.Statement.{statement}
 use Rattle.frames.proofs.outer_words.correct_word.Tie as tie
 
@@ -30,7 +30,7 @@ part-remainder-end : tie.Need-slice-bounds-remainder-end
 part-remainder-end c = search rules
 
 remainder-requires : tie.Need-remainder-requires
-remainder-requires c κs = search (rules, part-least, part-below)
+remainder-requires c κs = search (rules, part_least, part_below)
 
 is-zero-requires : tie.Need-is-zero-requires
 is-zero-requires c κs = search rules
@@ -54,7 +54,7 @@ same_length : tie.Need-same-length
 same_length c = search rules
 
 returns : tie.Need-returns
-returns c = search (rules, code-kept)
+returns c = search (rules, code_kept)
 
 blank-word-requires : tie.Need-blank-word-requires
 blank-word-requires c κs = search rules
@@ -72,7 +72,7 @@ part-word-end : tie.Need-slice-bounds-word-end
 part-word-end c = search rules
 
 restore-requires : tie.Need-restore-requires
-restore-requires c κs = (search (rules, space-long), search (rules, word-remainder))
+restore-requires c κs = (search (rules, space_long), search (rules, word_remainder))
 
 same-length-2 : tie.Need-same-length-2
 same-length-2 c = search rules

@@ -1,7 +1,7 @@
 -- `frames::outer_words::data_place` meets its contract. Assumes nothing.
 use mathlib.Core.Path.{refl}
 use borrow.Author.Rules.{rules}
-use Rattle.frames.specs.Steps.Symbols.{dataPlace}
+use Rattle.frames.specs.Steps.Symbols.{data_place}
 use Rattle.frames.proofs.outer_words.data_place.Statement.{statement}
 use Rattle.frames.proofs.outer_words.data_place.Tie as tie
 
@@ -12,7 +12,7 @@ add-result : tie.Need-overflow-add-result
 add-result c = search rules
 
 returns : tie.Need-returns
-unfolding dataPlace
+unfolding data_place
 returns c = refl
 
 pub data-place-spec : {M : Type 1} → statement M

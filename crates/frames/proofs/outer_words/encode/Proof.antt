@@ -2,13 +2,13 @@
 use mathlib.Core.Path.{◌≡◌}
 use Prim.Native.Nat.{◌-◌}
 use borrow.Author.Rules.{rules}
-use Rattle.words.specs.Steps.SixSymbols.{digitParities}
+use Rattle.words.specs.Steps.SixSymbols.{digit_parities}
 use Rattle.frames.proofs.OuterSymbols.Words.{Written, written_none, written_next, written_all}
 use Rattle.frames.proofs.outer_words.encode.Statement.{statement}
 use Rattle.frames.proofs.outer_words.encode.Tie as tie
 
 abbrev invariant-loop : tie.invariant-loop
-invariant-loop payload outer₀ table w₀ outer w = (table ≡ digitParities) × Written payload w outer
+invariant-loop payload outer₀ table w₀ outer w = (table ≡ digit_parities) × Written payload w outer
 
 abbrev decreases-loop : tie.decreases-loop
 decreases-loop payload outer₀ table w₀ outer w = 16 - w

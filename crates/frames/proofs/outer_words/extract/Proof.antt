@@ -2,19 +2,19 @@
 use Prim.Native.Nat.{◌-◌, ◌≤◌}
 use borrow.Author.Rules.{rules}
 use Rattle.fields.proofs.Places.Filling.{Filled}
-use Rattle.frames.specs.Steps.Symbols.{payloadByte}
-use Rattle.frames.proofs.OuterSymbols.Writing.{doneTo, payload-start, payload-word, payload-all}
+use Rattle.frames.specs.Steps.Symbols.{payload_byte}
+use Rattle.frames.proofs.OuterSymbols.Writing.{done_to, payload_start, payload_word, payload_all}
 use Rattle.frames.proofs.outer_words.extract.Statement.{statement}
 use Rattle.frames.proofs.outer_words.extract.Tie as tie
 
 abbrev invariant-loop : tie.invariant-loop
-invariant-loop outer out₀ w₀ out w = (w ≤ 16) × Filled 15296 (payloadByte outer) (doneTo w) out
+invariant-loop outer out₀ w₀ out w = (w ≤ 16) × Filled 15296 (payload_byte outer) (done_to w) out
 
 abbrev decreases-loop : tie.decreases-loop
 decreases-loop outer out₀ w₀ out w = 16 - w
 
 loop-holds : tie.Need-loop-init invariant-loop decreases-loop
-loop-holds c = search (rules, payload-start)
+loop-holds c = search (rules, payload_start)
 
 extract-word-requires : tie.Need-extract-word-requires invariant-loop decreases-loop
 extract-word-requires c κs = search rules
@@ -26,7 +26,7 @@ loop-less : tie.Need-loop-smaller invariant-loop decreases-loop
 loop-less c = search rules
 
 loop-again : tie.Need-loop-preserved invariant-loop decreases-loop
-loop-again c = search (rules, payload-word)
+loop-again c = search (rules, payload_word)
 
 sub-extract-each : tie.Need-overflow-sub-extract-each invariant-loop decreases-loop
 sub-extract-each c = search rules
@@ -38,7 +38,7 @@ same_length : tie.Need-same-length invariant-loop decreases-loop
 same_length c = search rules
 
 returns : tie.Need-returns invariant-loop decreases-loop
-returns c = search (rules, payload-all)
+returns c = search (rules, payload_all)
 
 pub extract-spec : {M : Type 1} → statement M
 extract-spec =

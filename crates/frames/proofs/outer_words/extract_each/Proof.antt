@@ -1,20 +1,20 @@
 -- `frames::outer_words::extract_each` meets its contract. Assumes nothing.
 use Prim.Native.Nat.{◌-◌}
 use borrow.Author.Rules.{rules}
-use Rattle.fields.proofs.Places.Placing.{Placing, placing-start}
-use Rattle.frames.specs.Steps.Symbols.{partFrom, payloadByte}
-use Rattle.frames.proofs.Numbers.Parts.{part-next, part_end}
+use Rattle.fields.proofs.Places.Placing.{Placing, placing_start}
+use Rattle.frames.specs.Steps.Symbols.{part_from, payload_byte}
+use Rattle.frames.proofs.Numbers.Parts.{part_next, part_end}
 use Rattle.frames.proofs.outer_words.extract_each.Statement.{statement}
 use Rattle.frames.proofs.outer_words.extract_each.Tie as tie
 
 abbrev invariant-loop : tie.invariant-loop
-invariant-loop outer k n out₀ m₀ out m = Placing k (partFrom (payloadByte outer) k n) m out₀ out
+invariant-loop outer k n out₀ m₀ out m = Placing k (part_from (payload_byte outer) k n) m out₀ out
 
 abbrev decreases-loop : tie.decreases-loop
 decreases-loop outer k n out₀ m₀ out m = n - m
 
 loop-holds : tie.Need-loop-init invariant-loop decreases-loop
-loop-holds c = search (rules, placing-start)
+loop-holds c = search (rules, placing_start)
 
 add-payload-byte : tie.Need-overflow-add-payload-byte invariant-loop decreases-loop
 add-payload-byte c = search rules
@@ -35,7 +35,7 @@ loop-less : tie.Need-loop-smaller invariant-loop decreases-loop
 loop-less c = search rules
 
 loop-again : tie.Need-loop-preserved invariant-loop decreases-loop
-loop-again c = search (rules, part-next)
+loop-again c = search (rules, part_next)
 
 same_length : tie.Need-same-length invariant-loop decreases-loop
 same_length c = search rules

@@ -1,7 +1,7 @@
 -- `frames::outer_words::extract_word` meets its contract. Assumes nothing.
 use mathlib.Core.Path.{refl}
 use borrow.Author.Rules.{rules}
-use Rattle.frames.proofs.OuterSymbols.Writing.{data-fours, groups-room, bytes-room, word-extracted}
+use Rattle.frames.proofs.OuterSymbols.Writing.{data_fours, groups_room, bytes_room, word_extracted}
 use Rattle.frames.proofs.outer_words.extract_word.Statement.{statement}
 use Rattle.frames.proofs.outer_words.extract_word.Tie as tie
 
@@ -27,7 +27,7 @@ data-in-requires : tie.Need-data-in-requires
 data-in-requires c κs = search rules
 
 sub-groups : tie.Need-overflow-sub-groups
-sub-groups c = search (rules, data-fours)
+sub-groups c = search (rules, data_fours)
 
 sub-extract-each : tie.Need-overflow-sub-extract-each
 sub-extract-each c = search rules
@@ -45,13 +45,13 @@ data-place-requires : tie.Need-data-place-requires
 data-place-requires c κs = search rules
 
 write-bytes-requires : tie.Need-write-bytes-requires
-write-bytes-requires c κs = (search (rules, groups-room), bytes-room _ _ _ c.before.before.before.before.before.before.before.before.before.requires.0 c.before.before.before.before.before.before.data-in.ensures.0 refl c.before.before.before.before.extract-each.ensures c.before.before.before.before.before.before.before.before.before.requires.2)
+write-bytes-requires c κs = (search (rules, groups_room), bytes_room _ _ _ c.before.before.before.before.before.before.before.before.before.requires.0 c.before.before.before.before.before.before.data_in_lem.ensures.0 refl c.before.before.before.before.extract-each.ensures c.before.before.before.before.before.before.before.before.before.requires.2)
 
 same_length : tie.Need-same-length
 same_length c = search rules
 
 returns : tie.Need-returns
-returns c = search (rules, word-extracted)
+returns c = search (rules, word_extracted)
 
 pub extract-word-spec : {M : Type 1} → statement M
 extract-word-spec =

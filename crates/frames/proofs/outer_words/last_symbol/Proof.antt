@@ -1,6 +1,6 @@
 -- `frames::outer_words::last_symbol` meets its contract. Assumes nothing.
 use borrow.Author.Rules.{rules}
-use Rattle.frames.proofs.OuterSymbols.Writing.{symbol-padded, symbol-after}
+use Rattle.frames.proofs.OuterSymbols.Writing.{symbol_padded, symbol_after}
 use Rattle.frames.proofs.outer_words.last_symbol.Statement.{statement}
 use Rattle.frames.proofs.outer_words.last_symbol.Tie as tie
 
@@ -11,7 +11,7 @@ symbol-requires : tie.Need-symbol-requires
 symbol-requires c κs = search rules
 
 returns : tie.Need-returns
-returns c = search (rules, symbol-padded)
+returns c = search (rules, symbol_padded)
 
 mul-symbol-2 : tie.Need-overflow-mul-symbol-2
 mul-symbol-2 c = search rules
@@ -23,7 +23,7 @@ symbol-requires-2 : tie.Need-symbol-requires-2
 symbol-requires-2 c κs = search rules
 
 returns-2 : tie.Need-returns-2
-returns-2 c = search (rules, symbol-after)
+returns-2 c = search (rules, symbol_after)
 
 pub last-symbol-spec : {M : Type 1} → statement M
 last-symbol-spec =

@@ -1,6 +1,6 @@
 -- `frames::outer_words::outer_byte` meets its contract. Assumes nothing.
 use borrow.Author.Rules.{rules}
-use Rattle.frames.proofs.Numbers.Windows.{byte-of-symbols}
+use Rattle.frames.proofs.Numbers.Windows.{byte_of_symbols}
 use Rattle.frames.proofs.outer_words.outer_byte.Statement.{statement}
 use Rattle.frames.proofs.outer_words.outer_byte.Tie as tie
 
@@ -17,7 +17,7 @@ byte-of-requires : tie.Need-byte-of-requires
 byte-of-requires c κs = search rules
 
 returns : tie.Need-returns
-returns c = search (rules, byte-of-symbols)
+returns c = search (rules, byte_of_symbols)
 
 pub outer-byte-spec : {M : Type 1} → statement M
 outer-byte-spec =

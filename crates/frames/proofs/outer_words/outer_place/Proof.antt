@@ -3,7 +3,7 @@ use mathlib.Core.Path.{sym}
 use Prim.Native.Nat.{◌*◌}
 use native.Mathlib.Omega.{arith}
 use borrow.Author.Rules.{rules}
-use Rattle.frames.proofs.Frames.FrameBits.{place-first, place-last}
+use Rattle.frames.proofs.Frames.FrameBits.{place_first, place_last}
 use Rattle.frames.proofs.outer_words.outer_place.Statement.{statement}
 use Rattle.frames.proofs.outer_words.outer_place.Tie as tie
 
@@ -17,10 +17,10 @@ add-result : tie.Need-overflow-add-result
 add-result c = search rules
 
 returns : tie.Need-returns
-returns c = sym (place-first (8 * c.before.args.k) (omega arith))
+returns c = sym (place_first (8 * c.before.args.k) (omega arith))
 
 returns-2 : tie.Need-returns-2
-returns-2 c = sym (place-last (8 * c.before.args.k) (omega arith))
+returns-2 c = sym (place_last (8 * c.before.args.k) (omega arith))
 
 pub outer-place-spec : {M : Type 1} → statement M
 outer-place-spec = tie.close (tie.spec mul-result mul-result-2 add-result returns returns-2)

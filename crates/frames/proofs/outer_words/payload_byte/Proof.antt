@@ -1,6 +1,6 @@
 -- `frames::outer_words::payload_byte` meets its contract. Assumes nothing.
 use borrow.Author.Rules.{rules}
-use Rattle.frames.proofs.OuterSymbols.Writing.{payload-read}
+use Rattle.frames.proofs.OuterSymbols.Writing.{payload_read}
 use Rattle.frames.proofs.outer_words.payload_byte.Statement.{statement}
 use Rattle.frames.proofs.outer_words.payload_byte.Tie as tie
 
@@ -26,7 +26,7 @@ byte-of-requires : tie.Need-byte-of-requires
 byte-of-requires c κs = search rules
 
 returns : tie.Need-returns
-returns c = search (rules, payload-read)
+returns c = search (rules, payload_read)
 
 pub payload-byte-spec : {M : Type 1} → statement M
 payload-byte-spec =

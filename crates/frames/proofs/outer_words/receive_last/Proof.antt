@@ -1,23 +1,23 @@
 -- `frames::outer_words::receive_last` meets its contract. Assumes nothing.
 use Prim.Native.Nat.{◌-◌}
 use borrow.Author.Rules.{rules}
-use Rattle.fields.proofs.Places.Placing.{Placing, placing-start}
+use Rattle.fields.proofs.Places.Placing.{Placing, placing_start}
 use Rattle.words.specs.Bits.{bit_at}
-use Rattle.frames.specs.Correction.{receivedSymbol}
-use Rattle.frames.specs.Steps.Symbols.{partFrom}
+use Rattle.frames.specs.Correction.{received_symbol}
+use Rattle.frames.specs.Steps.Symbols.{part_from}
 use Rattle.frames.proofs.Numbers.Parts.{part_end}
-use Rattle.frames.proofs.OuterSymbols.Writing.{last-next}
+use Rattle.frames.proofs.OuterSymbols.Writing.{last_next}
 use Rattle.frames.proofs.outer_words.receive_last.Statement.{statement}
 use Rattle.frames.proofs.outer_words.receive_last.Tie as tie
 
 abbrev invariant-loop : tie.invariant-loop
-invariant-loop block outer₀ s₀ outer s = Placing 12476 (partFrom (receivedSymbol (bit_at block)) 12476 20) s outer₀ outer
+invariant-loop block outer₀ s₀ outer s = Placing 12476 (part_from (received_symbol (bit_at block)) 12476 20) s outer₀ outer
 
 abbrev decreases-loop : tie.decreases-loop
 decreases-loop block outer₀ s₀ outer s = 20 - s
 
 loop-holds : tie.Need-loop-init invariant-loop decreases-loop
-loop-holds c = search (rules, placing-start)
+loop-holds c = search (rules, placing_start)
 
 add-last-symbol : tie.Need-overflow-add-last-symbol invariant-loop decreases-loop
 add-last-symbol c = search rules
@@ -41,7 +41,7 @@ loop-less : tie.Need-loop-smaller invariant-loop decreases-loop
 loop-less c = search rules
 
 loop-again : tie.Need-loop-preserved invariant-loop decreases-loop
-loop-again c = search (rules, last-next)
+loop-again c = search (rules, last_next)
 
 same_length : tie.Need-same-length invariant-loop decreases-loop
 same_length c = search rules

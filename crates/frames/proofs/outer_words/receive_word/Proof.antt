@@ -1,6 +1,6 @@
 -- `frames::outer_words::receive_word` meets its contract. Assumes nothing.
 use borrow.Author.Rules.{rules}
-use Rattle.frames.proofs.OuterSymbols.Writing.{word_first, word-last}
+use Rattle.frames.proofs.OuterSymbols.Writing.{word_first, word_last}
 use Rattle.frames.proofs.outer_words.receive_word.Statement.{statement}
 use Rattle.frames.proofs.outer_words.receive_word.Tie as tie
 
@@ -32,7 +32,7 @@ same-length-2 : tie.Need-same-length-2
 same-length-2 c = search rules
 
 returns-2 : tie.Need-returns-2
-returns-2 c = search (rules, word-last)
+returns-2 c = search (rules, word_last)
 
 pub receive-word-spec : {M : Type 1} → statement M
 receive-word-spec =

@@ -1,6 +1,6 @@
 -- `frames::outer_words::restore` meets its contract. Assumes nothing.
 use borrow.Author.Rules.{rules}
-use Rattle.frames.proofs.Correction.OuterPass.{word_room, slice-least, slice-most, slice-below, slice_fits, slice-remainder, restored-none, restored-not, restored-word}
+use Rattle.frames.proofs.Correction.OuterPass.{word_room, slice_least, slice_most, slice_below, slice_fits, slice_remainder, restored_none, restored_not, restored_word}
 use Rattle.frames.proofs.outer_words.restore.Statement.{statement}
 use Rattle.frames.proofs.outer_words.restore.Tie as tie
 
@@ -23,7 +23,7 @@ part-correct-from-end : tie.Need-slice-bounds-correct-from-end
 part-correct-from-end c = search (rules, word_room)
 
 correct-from-requires : tie.Need-correct-from-requires
-correct-from-requires c κs = search (rules, slice-least, slice-most, slice-below, slice_fits, slice-remainder)
+correct-from-requires c κs = search (rules, slice_least, slice_most, slice_below, slice_fits, slice_remainder)
 
 enum_told : tie.Need-enum-told
 enum_told c = search rules
@@ -38,7 +38,7 @@ same-length-2 : tie.Need-same-length-2
 same-length-2 c = search rules
 
 returns : tie.Need-returns
-returns c = search (rules, restored-not)
+returns c = search (rules, restored_not)
 
 write-requires : tie.Need-write-requires
 write-requires c κs = search (rules, word_room)
@@ -53,7 +53,7 @@ same-length-4 : tie.Need-same-length-4
 same-length-4 c = search rules
 
 returns-2 : tie.Need-returns-2
-returns-2 c = search (rules, restored-word)
+returns-2 c = search (rules, restored_word)
 
 same-length-5 : tie.Need-same-length-5
 same-length-5 c = search rules
@@ -62,7 +62,7 @@ same-length-6 : tie.Need-same-length-6
 same-length-6 c = search rules
 
 returns-3 : tie.Need-returns-3
-returns-3 c = search (rules, restored-none)
+returns-3 c = search (rules, restored_none)
 
 pub restore-spec : {M : Type 1} → statement M
 restore-spec =

@@ -2,12 +2,12 @@
 use Prim.Native.Nat.{◌-◌}
 use borrow.Author.Rules.{rules}
 use Rattle.fields.proofs.Places.Filling.{Filled}
-use Rattle.frames.proofs.OuterSymbols.Writing.{sentByte, sent-start, sent-next, sent-end}
+use Rattle.frames.proofs.OuterSymbols.Writing.{sent_byte, sent_start, sent_next, sent_end}
 use Rattle.frames.proofs.outer_words.send.Statement.{statement}
 use Rattle.frames.proofs.outer_words.send.Tie as tie
 
 abbrev invariant-loop : tie.invariant-loop
-invariant-loop outer out₀ k₀ out k = Filled 16320 (sentByte outer) k out
+invariant-loop outer out₀ k₀ out k = Filled 16320 (sent_byte outer) k out
 
 abbrev decreases-loop : tie.decreases-loop
 decreases-loop outer out₀ k₀ out k = 15616 - k
@@ -19,7 +19,7 @@ mul-k : tie.Need-overflow-mul-k invariant-loop decreases-loop
 mul-k c = search rules
 
 loop-holds : tie.Need-loop-init invariant-loop decreases-loop
-loop-holds c = search (rules, sent-start)
+loop-holds c = search (rules, sent_start)
 
 outer-place-requires : tie.Need-outer-place-requires invariant-loop decreases-loop
 outer-place-requires c κs = search rules
@@ -37,13 +37,13 @@ loop-less : tie.Need-loop-smaller invariant-loop decreases-loop
 loop-less c = search rules
 
 loop-again : tie.Need-loop-preserved invariant-loop decreases-loop
-loop-again c = sent-next _ c.before.before.before.loop.invariant c.before.before.loop-test.true c.before.outer-place.ensures c.outer-byte.ensures
+loop-again c = sent_next _ c.before.before.before.loop.invariant c.before.before.loop-test.true c.before.outer-place.ensures c.outer-byte.ensures
 
 same_length : tie.Need-same-length invariant-loop decreases-loop
 same_length c = search rules
 
 returns : tie.Need-returns invariant-loop decreases-loop
-returns c = search (rules, sent-end)
+returns c = search (rules, sent_end)
 
 pub send-spec : {M : Type 1} → statement M
 send-spec =

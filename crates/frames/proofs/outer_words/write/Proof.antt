@@ -2,7 +2,7 @@
 use Prim.Native.Nat.{◌-◌}
 use borrow.Author.Rules.{rules}
 use lib.ListN.{length}
-use Rattle.fields.proofs.Places.Placing.{Placing, placing-start, placing-next, placing-end}
+use Rattle.fields.proofs.Places.Placing.{Placing, placing_start, placing_next, placing_end}
 use Rattle.frames.proofs.outer_words.write.Statement.{statement}
 use Rattle.frames.proofs.outer_words.write.Tie as tie
 
@@ -13,7 +13,7 @@ abbrev decreases-loop : tie.decreases-loop
 decreases-loop symbols i outer₀ j₀ outer j = length symbols - j
 
 loop-holds : tie.Need-loop-init invariant-loop decreases-loop
-loop-holds c = search (rules, placing-start)
+loop-holds c = search (rules, placing_start)
 
 mul-outer : tie.Need-overflow-mul-outer invariant-loop decreases-loop
 mul-outer c = search rules
@@ -37,13 +37,13 @@ loop-less : tie.Need-loop-smaller invariant-loop decreases-loop
 loop-less c = search rules
 
 loop-again : tie.Need-loop-preserved invariant-loop decreases-loop
-loop-again c = search (rules, placing-next)
+loop-again c = search (rules, placing_next)
 
 same_length : tie.Need-same-length invariant-loop decreases-loop
 same_length c = search rules
 
 returns : tie.Need-returns invariant-loop decreases-loop
-returns c = search (rules, placing-end)
+returns c = search (rules, placing_end)
 
 pub write_spec : {M : Type 1} → statement M
 write_spec =

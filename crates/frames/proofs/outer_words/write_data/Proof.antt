@@ -1,6 +1,6 @@
 -- `frames::outer_words::write_data` meets its contract. Assumes nothing.
 use borrow.Author.Rules.{rules}
-use Rattle.frames.proofs.OuterSymbols.Writing.{payload-room, data-least, data-placed}
+use Rattle.frames.proofs.OuterSymbols.Writing.{payload_room, data_least, data_placed}
 use Rattle.frames.proofs.outer_words.write_data.Statement.{statement}
 use Rattle.frames.proofs.outer_words.write_data.Tie as tie
 
@@ -14,13 +14,13 @@ mul-write-from-bit-2 : tie.Need-overflow-mul-write-from-bit-2
 mul-write-from-bit-2 c = search rules
 
 write-from-bit-requires : tie.Need-write-from-bit-requires
-write-from-bit-requires c κs = (search rules, search (rules, payload-room), search rules, search (rules, data-least), search rules)
+write-from-bit-requires c κs = (search rules, search (rules, payload_room), search rules, search (rules, data_least), search rules)
 
 same_length : tie.Need-same-length
 same_length c = search rules
 
 returns : tie.Need-returns
-returns c = search (rules, data-placed)
+returns c = search (rules, data_placed)
 
 pub write-data-spec : {M : Type 1} → statement M
 write-data-spec =

@@ -1,6 +1,6 @@
 -- `frames::outer_words::write_word` meets its contract. Assumes nothing.
 use borrow.Author.Rules.{rules}
-use Rattle.frames.proofs.OuterSymbols.Words.{data-part-below, data-long, parity-room, word-placed}
+use Rattle.frames.proofs.OuterSymbols.Words.{data_part_below, data_long, parity_room, word_placed}
 use Rattle.frames.proofs.outer_words.write_word.Statement.{statement}
 use Rattle.frames.proofs.outer_words.write_word.Tie as tie
 
@@ -29,19 +29,19 @@ part-parity-end : tie.Need-slice-bounds-parity-end
 part-parity-end c = search rules
 
 parity-requires : tie.Need-parity-requires
-parity-requires c κs = search (rules, data-part-below)
+parity-requires c κs = search (rules, data_part_below)
 
 slice-aggregate-write : tie.Need-slice-aggregate-write
 slice-aggregate-write c = search rules
 
 write-requires : tie.Need-write-requires
-write-requires c κs = (search (rules, parity-room), search (rules, data-long))
+write-requires c κs = (search (rules, parity_room), search (rules, data_long))
 
 same_length : tie.Need-same-length
 same_length c = search rules
 
 returns : tie.Need-returns
-returns c = search (rules, word-placed)
+returns c = search (rules, word_placed)
 
 pub write-word-spec : {M : Type 1} → statement M
 write-word-spec =

@@ -1,8 +1,8 @@
 -- `g709::block::copy` meets its contract. Assumes nothing.
 use Prim.Native.Nat.{◌+◌, ◌-◌, ◌≤◌}
 use lib.ListN.{length}
-use Rattle.g709.proofs.Overlays.{OverTo, over-start, over-end}
-use Rattle.g709.proofs.RowSteps.{copied, copy-next}
+use Rattle.g709.proofs.Overlays.{OverTo, over_start, over_end}
+use Rattle.g709.proofs.RowSteps.{copied, copy_next}
 use borrow.Author.Rules.{rules}
 use Rattle.g709.proofs.block.copy.Statement.{statement}
 use Rattle.g709.proofs.block.copy.Tie as tie
@@ -14,7 +14,7 @@ abbrev decreases-loop : tie.decreases-loop
 decreases-loop bytes from out₀ to n i₀ out i = n - i
 
 loop-holds : tie.Need-loop-init invariant-loop decreases-loop
-loop-holds c = search (rules, over-start)
+loop-holds c = search (rules, over_start)
 
 add-out : tie.Need-overflow-add-out invariant-loop decreases-loop
 add-out c = search rules
@@ -35,13 +35,13 @@ loop-less : tie.Need-loop-smaller invariant-loop decreases-loop
 loop-less c = search rules
 
 loop-again : tie.Need-loop-preserved invariant-loop decreases-loop
-loop-again c = search (rules, copy-next)
+loop-again c = search (rules, copy_next)
 
 same_length : tie.Need-same-length invariant-loop decreases-loop
 same_length c = search rules
 
 returns : tie.Need-returns invariant-loop decreases-loop
-returns c = search (rules, over-end)
+returns c = search (rules, over_end)
 
 pub copy_spec : {M : Type 1} → statement M
 copy_spec =

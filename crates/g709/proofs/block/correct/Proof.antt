@@ -1,5 +1,5 @@
 -- `g709::block::correct` meets its contract. Assumes nothing.
-use Rattle.g709.proofs.WordByWord.{restoring-start, refused-long, refused-space, answer-restored, answer-lost}
+use Rattle.g709.proofs.WordByWord.{restoring_start, refused_long, refused_space, answer_restored, answer_lost}
 use borrow.Author.Rules.{rules}
 use Rattle.g709.proofs.block.correct.Statement.{statement}
 use Rattle.g709.proofs.block.correct.Tie as tie
@@ -8,13 +8,13 @@ mul-if1 : tie.Need-overflow-mul-if1
 mul-if1 c = search rules
 
 returns : tie.Need-returns
-returns c = refused-long c.before.before.before.args.n c.before.before.before.args.long c.before.before.before.args.block.now c.before.before.before.args.out.now c.before.before.before.requires.1 c.if1.true
+returns c = refused_long c.before.before.before.args.n c.before.before.before.args.long c.before.before.before.args.block.now c.before.before.before.args.out.now c.before.before.before.requires.1 c.if1.true
 
 mul-if2 : tie.Need-overflow-mul-if2
 mul-if2 c = search rules
 
 returns-2 : tie.Need-returns-2
-returns-2 c = refused-space c.before.before.before.before.args.n c.before.before.before.before.args.long c.before.before.before.before.args.block.now c.before.before.before.before.args.out.now c.before.if1.false c.if2.true
+returns-2 c = refused_space c.before.before.before.before.args.n c.before.before.before.before.args.long c.before.before.before.before.args.block.now c.before.before.before.before.args.out.now c.before.if1.false c.if2.true
 
 space-requires : tie.Need-space-requires
 space-requires c κs = search rules
@@ -32,7 +32,7 @@ slice-aggregate-restore : tie.Need-slice-aggregate-restore
 slice-aggregate-restore c = search rules
 
 restore-requires : tie.Need-restore-requires
-restore-requires c κs = (search rules, search (rules, restoring-start))
+restore-requires c κs = (search rules, search (rules, restoring_start))
 
 slice-aggregate-copy-2 : tie.Need-slice-aggregate-copy-2
 slice-aggregate-copy-2 c = search rules
@@ -47,10 +47,10 @@ same_length : tie.Need-same-length
 same_length c = search rules
 
 returns-3 : tie.Need-returns-3
-returns-3 c = search (rules, answer-restored)
+returns-3 c = search (rules, answer_restored)
 
 returns-4 : tie.Need-returns-4
-returns-4 c = search (rules, answer-lost)
+returns-4 c = search (rules, answer_lost)
 
 pub correct-spec : {M : Type 1} → statement M
 correct-spec =

@@ -1,5 +1,5 @@
 -- `g709::block::extract` meets its contract. Assumes nothing.
-use Rattle.g709.proofs.RowSteps.{extracted-long, extracted-space, extracted-all, extracted-other}
+use Rattle.g709.proofs.RowSteps.{extracted_long, extracted_space, extracted_all, extracted_other}
 use borrow.Author.Rules.{rules}
 use Rattle.g709.proofs.block.extract.Statement.{statement}
 use Rattle.g709.proofs.block.extract.Tie as tie
@@ -8,13 +8,13 @@ mul-if1 : tie.Need-overflow-mul-if1
 mul-if1 c = search rules
 
 returns : tie.Need-returns
-returns c = extracted-long c.before.before.before.args.n c.before.before.before.args.long c.before.before.before.args.block.now c.before.before.before.args.out.now c.before.before.before.requires.1 c.if1.true
+returns c = extracted_long c.before.before.before.args.n c.before.before.before.args.long c.before.before.before.args.block.now c.before.before.before.args.out.now c.before.before.before.requires.1 c.if1.true
 
 mul-if2 : tie.Need-overflow-mul-if2
 mul-if2 c = search rules
 
 returns-2 : tie.Need-returns-2
-returns-2 c = extracted-space c.before.before.before.before.args.n c.before.before.before.before.args.long c.before.before.before.before.args.block.now c.before.before.before.before.args.out.now c.before.if1.false c.if2.true
+returns-2 c = extracted_space c.before.before.before.before.args.n c.before.before.before.before.args.long c.before.before.before.before.args.block.now c.before.before.before.before.args.out.now c.before.if1.false c.if2.true
 
 is-written-requires : tie.Need-is-written-requires
 is-written-requires c κs = search rules
@@ -26,10 +26,10 @@ same_length : tie.Need-same-length
 same_length c = search rules
 
 returns-3 : tie.Need-returns-3
-returns-3 c = extracted-all c.before.before.before.before.before.before.before.before.before.before.args.n c.before.before.before.before.before.before.before.before.before.before.args.long c.before.before.before.before.before.before.before.before.before.before.args.block.now c.before.before.before.before.before.before.before.before.before.before.args.out.now _ _ c.before.before.before.before.before.before.before.if1.false c.before.before.before.before.before.before.if2.false c.before.before.before.before.before.is-written.ensures c.before.before.before.before.if3.true c.before.before.write-payload.ensures
+returns-3 c = extracted_all c.before.before.before.before.before.before.before.before.before.before.args.n c.before.before.before.before.before.before.before.before.before.before.args.long c.before.before.before.before.before.before.before.before.before.before.args.block.now c.before.before.before.before.before.before.before.before.before.before.args.out.now _ _ c.before.before.before.before.before.before.before.if1.false c.before.before.before.before.before.before.if2.false c.before.before.before.before.before.is-written.ensures c.before.before.before.before.if3.true c.before.before.write-payload.ensures
 
 returns-4 : tie.Need-returns-4
-returns-4 c = extracted-other c.before.before.before.before.before.before.args.n c.before.before.before.before.before.before.args.long c.before.before.before.before.before.before.args.block.now c.before.before.before.before.before.before.args.out.now _ c.before.before.before.if1.false c.before.before.if2.false c.before.is-written.ensures c.if3.false
+returns-4 c = extracted_other c.before.before.before.before.before.before.args.n c.before.before.before.before.before.before.args.long c.before.before.before.before.before.before.args.block.now c.before.before.before.before.before.before.args.out.now _ c.before.before.before.if1.false c.before.before.if2.false c.before.is-written.ensures c.if3.false
 
 pub extract-spec : {M : Type 1} → statement M
 extract-spec =

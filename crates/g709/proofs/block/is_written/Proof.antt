@@ -2,13 +2,13 @@
 use mathlib.Core.Path.{◌≡◌}
 use Prim.Native.Nat.{◌*◌, ◌-◌, ◌≤◌}
 use lib.ListN.{length}
-use Rattle.g709.proofs.RowSteps.{agreeUpTo, up_start, up_next, up-end}
+use Rattle.g709.proofs.RowSteps.{agree_up_to, up_start, up_next, up_end}
 use borrow.Author.Rules.{rules}
 use Rattle.g709.proofs.block.is_written.Statement.{statement}
 use Rattle.g709.proofs.block.is_written.Tie as tie
 
 abbrev invariant-loop : tie.invariant-loop
-invariant-loop block n so-far₀ r₀ so_far r = (r ≤ n) × (n ≤ 4) × (length block ≡ 4080 * n) × (so_far ≡ agreeUpTo block r)
+invariant-loop block n so-far₀ r₀ so_far r = (r ≤ n) × (n ≤ 4) × (length block ≡ 4080 * n) × (so_far ≡ agree_up_to block r)
 
 abbrev decreases-loop : tie.decreases-loop
 decreases-loop block n so-far₀ r₀ so_far r = n - r
@@ -29,10 +29,10 @@ loop-less : tie.Need-loop-smaller invariant-loop decreases-loop
 loop-less c = search rules
 
 loop-again : tie.Need-loop-preserved invariant-loop decreases-loop
-loop-again c = (search rules, search rules, search rules, up_next _ _ _ _ _ c.before.before.before.loop.invariant.3 c.before.row-agrees.ensures c.both.ensures)
+loop-again c = (search rules, search rules, search rules, up_next _ _ _ _ _ c.before.before.before.loop.invariant.3 c.before.row_agrees_lem.ensures c.both.ensures)
 
 returns : tie.Need-returns invariant-loop decreases-loop
-returns c = search (rules, up-end)
+returns c = search (rules, up_end)
 
 pub is-written-spec : {M : Type 1} → statement M
 is-written-spec =

@@ -1,5 +1,5 @@
 -- `g709::block::row_agrees` meets its contract. Assumes nothing.
-use Rattle.g709.proofs.RowSteps.{row-agrees}
+use Rattle.g709.proofs.RowSteps.{row_agrees_lem}
 use borrow.Author.Rules.{rules}
 use Rattle.g709.proofs.block.row_agrees.Statement.{statement}
 use Rattle.g709.proofs.block.row_agrees.Tie as tie
@@ -26,7 +26,7 @@ agree-requires : tie.Need-agree-requires
 agree-requires c κs = search rules
 
 returns : tie.Need-returns
-returns c = search (rules, row-agrees)
+returns c = search (rules, row_agrees_lem)
 
 pub row-agrees-spec : {M : Type 1} → statement M
 row-agrees-spec =

@@ -1,5 +1,5 @@
 -- `g709::block::write_row` meets its contract. Assumes nothing.
-use Rattle.g709.proofs.RowSteps.{row-stored}
+use Rattle.g709.proofs.RowSteps.{row_stored}
 use borrow.Author.Rules.{rules}
 use Rattle.g709.proofs.block.write_row.Statement.{statement}
 use Rattle.g709.proofs.block.write_row.Tie as tie
@@ -38,7 +38,7 @@ same_length : tie.Need-same-length
 same_length c = search rules
 
 returns : tie.Need-returns
-returns c = search (rules, row-stored)
+returns c = search (rules, row_stored)
 
 pub write-row-spec : {M : Type 1} → statement M
 write-row-spec =

@@ -2,7 +2,7 @@
 use mathlib.Core.Path.{◌≡◌}
 use Prim.Native.Nat.{◌*◌, ◌-◌, ◌≤◌}
 use lib.ListN.{length}
-use Rattle.g709.proofs.RowSteps.{RowsTo, rows_start, rows-payload, rows_next, rows_end}
+use Rattle.g709.proofs.RowSteps.{RowsTo, rows_start, rows_payload, rows_next, rows_end}
 use borrow.Author.Rules.{rules}
 use Rattle.g709.proofs.block.write_rows.Statement.{statement}
 use Rattle.g709.proofs.block.write_rows.Tie as tie
@@ -17,7 +17,7 @@ loop-holds : tie.Need-loop-init invariant-loop decreases-loop
 loop-holds c = search (rules, rows_start)
 
 write-row-requires : tie.Need-write-row-requires invariant-loop decreases-loop
-write-row-requires c κs = search (rules, rows-payload)
+write-row-requires c κs = search (rules, rows_payload)
 
 add_r : tie.Need-overflow-add-r invariant-loop decreases-loop
 add_r c = search rules

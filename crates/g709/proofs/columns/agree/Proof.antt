@@ -4,7 +4,7 @@ use Prim.Native.Nat.{◌+◌, ◌-◌, ◌≤◌}
 use lib.Dec.{eqb}
 use lib.ListN.{length}
 use Rattle.g709.specs.Steps.Registers.{agree}
-use Rattle.g709.proofs.RowSteps.{agree-start, agree-next, agree-end}
+use Rattle.g709.proofs.RowSteps.{agree_start, agree_next, agree_end}
 use borrow.Author.Rules.{rules}
 use Rattle.g709.proofs.columns.agree.Statement.{statement}
 use Rattle.g709.proofs.columns.agree.Tie as tie
@@ -16,7 +16,7 @@ abbrev decreases-loop : tie.decreases-loop
 decreases-loop a b from n d₀ i₀ d i = n - i
 
 loop-holds : tie.Need-loop-init invariant-loop decreases-loop
-loop-holds c = search (rules, agree-start)
+loop-holds c = search (rules, agree_start)
 
 shared-slice-read-difference : tie.Need-shared-slice-read-difference invariant-loop decreases-loop
 shared-slice-read-difference c = search rules
@@ -37,10 +37,10 @@ loop-less : tie.Need-loop-smaller invariant-loop decreases-loop
 loop-less c = search rules
 
 loop-again : tie.Need-loop-preserved invariant-loop decreases-loop
-loop-again c = search (rules, agree-next)
+loop-again c = search (rules, agree_next)
 
 returns : tie.Need-returns invariant-loop decreases-loop
-returns c = search (rules, agree-end)
+returns c = search (rules, agree_end)
 
 pub agree-spec : {M : Type 1} → statement M
 agree-spec =

@@ -1,8 +1,8 @@
 -- `g709::columns::lane` meets its contract. Assumes nothing.
 use Prim.Native.Nat.{◌+◌, ◌-◌, ◌*◌}
 use Rattle.fields.specs.Places.{at}
-use Rattle.fields.proofs.Places.Filling.{Filled, filled-start, filled_next}
-use Rattle.g709.proofs.Correcting.{lane-end}
+use Rattle.fields.proofs.Places.Filling.{Filled, filled_start, filled_next}
+use Rattle.g709.proofs.Correcting.{lane_end}
 use borrow.Author.Rules.{rules}
 use Rattle.g709.proofs.columns.lane.Statement.{statement}
 use Rattle.g709.proofs.columns.lane.Tie as tie
@@ -14,7 +14,7 @@ abbrev decreases-loop : tie.decreases-loop
 decreases-loop columns k cells₀ i₀ cells i = 16 - i
 
 loop-holds : tie.Need-loop-init invariant-loop decreases-loop
-loop-holds c = search (rules, filled-start)
+loop-holds c = search (rules, filled_start)
 
 mul_wide : tie.Need-overflow-mul-wide invariant-loop decreases-loop
 mul_wide c = search rules
@@ -44,7 +44,7 @@ loop-again : tie.Need-loop-preserved invariant-loop decreases-loop
 loop-again c = search (rules, filled_next)
 
 returns : tie.Need-returns invariant-loop decreases-loop
-returns c = search (rules, lane-end)
+returns c = search (rules, lane_end)
 
 pub lane-spec : {M : Type 1} → statement M
 lane-spec =

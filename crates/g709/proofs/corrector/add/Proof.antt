@@ -1,6 +1,6 @@
 -- `g709::corrector::add` meets its contract. Assumes nothing.
-use Rattle.words.proofs.Steps.Corrections.{added-past}
-use Rattle.g709.proofs.Correcting.{added-byte}
+use Rattle.words.proofs.Steps.Corrections.{added_past}
+use Rattle.g709.proofs.Correcting.{added_byte}
 use borrow.Author.Rules.{rules}
 use Rattle.g709.proofs.corrector.add.Statement.{statement}
 use Rattle.g709.proofs.corrector.add.Tie as tie
@@ -21,10 +21,10 @@ same_length : tie.Need-same-length
 same_length c = search rules
 
 returns : tie.Need-returns
-returns c = search (rules, added-byte)
+returns c = search (rules, added_byte)
 
 returns-2 : tie.Need-returns-2
-returns-2 c = search (rules, added-past)
+returns-2 c = search (rules, added_past)
 
 pub add_spec : {M : Type 1} → statement M
 add_spec =

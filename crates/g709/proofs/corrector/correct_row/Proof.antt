@@ -1,12 +1,12 @@
 -- `g709::corrector::correct_row` meets its contract. Assumes nothing.
 use native.Mathlib.Omega.{arith}
-use Rattle.g709.proofs.WordByWord.{row-syndromes, row-skipped}
+use Rattle.g709.proofs.WordByWord.{row_syndromes, row_skipped}
 use borrow.Author.Rules.{rules}
 use Rattle.g709.proofs.corrector.correct_row.Statement.{statement}
 use Rattle.g709.proofs.corrector.correct_row.Tie as tie
 
 returns : tie.Need-returns
-returns c = search (rules, row-skipped)
+returns c = search (rules, row_skipped)
 
 empty-requires : tie.Need-empty-requires
 empty-requires c κs = search rules
@@ -24,7 +24,7 @@ store-requires : tie.Need-store-requires
 store-requires c κs = search rules
 
 correct-words-requires : tie.Need-correct-words-requires
-correct-words-requires c κs = (c.before.before.before.before.before.before.before.before.before.before.before.before.before.before.before.requires.0, (c.before.before.before.before.before.before.before.before.before.before.before.before.before.before.before.requires.1.0, (row-syndromes _ _ _ _ (λ i. omega (arith, c.before.before.before.before.before.before.before.before.before.before.before.before.shared-slice-known3.given i)) c.before.before.before.before.before.before.remainders.ensures.0 c.before.before.store.ensures.0, c.before.before.before.before.before.before.before.before.before.before.before.before.before.before.before.requires.1.1)))
+correct-words-requires c κs = (c.before.before.before.before.before.before.before.before.before.before.before.before.before.before.before.requires.0, (c.before.before.before.before.before.before.before.before.before.before.before.before.before.before.before.requires.1.0, (row_syndromes _ _ _ _ (λ i. omega (arith, c.before.before.before.before.before.before.before.before.before.before.before.before.shared-slice-known3.given i)) c.before.before.before.before.before.before.remainders.ensures.0 c.before.before.store.ensures.0, c.before.before.before.before.before.before.before.before.before.before.before.before.before.before.before.requires.1.1)))
 
 same_length : tie.Need-same-length
 same_length c = search rules

@@ -6,7 +6,7 @@ use lib.ListN.{length}
 use Rattle.g709.specs.Steps.ColumnSyndromes.{RowSyndromes}
 use Rattle.g709.specs.Steps.Locating.{ValuesIf}
 use Rattle.g709.specs.Steps.Restoring.{Restoring}
-use Rattle.g709.proofs.WordByWord.{word-remains, restoring-room, after-alone, row_step, row-end}
+use Rattle.g709.proofs.WordByWord.{word_remains, restoring_room, after_alone, row_step, row_end}
 use borrow.Author.Rules.{rules}
 use Rattle.g709.proofs.corrector.correct_words.Statement.{statement}
 use Rattle.g709.proofs.corrector.correct_words.Tie as tie
@@ -30,10 +30,10 @@ alone-requires : tie.Need-alone-requires invariant-loop decreases-loop
 alone-requires c κs = search rules
 
 loop-holds : tie.Need-loop-init invariant-loop decreases-loop
-loop-holds c = (search rules, c.before.before.before.before.before.before.before.before.before.before.before.before.before.requires.1.1.0, search rules, after-alone _ _ _ _ _ _ c.alone.ensures.0 c.before.before.before.before.before.first_word.ensures, c.before.locate.ensures)
+loop-holds c = (search rules, c.before.before.before.before.before.before.before.before.before.before.before.before.before.requires.1.1.0, search rules, after_alone _ _ _ _ _ _ c.alone.ensures.0 c.before.before.before.before.before.first_word.ensures, c.before.locate.ensures)
 
 next-word-requires : tie.Need-next-word-requires invariant-loop decreases-loop
-next-word-requires c κs = (search rules, ((search rules, search rules, (restoring-room _ _ _ _ _ _ c.before.before.before.loop.invariant.3 c.before.before.before.before.before.before.before.before.before.before.before.before.before.before.before.before.before.requires.1.0.0 (omega arith) c.before.before.before.before.before.before.before.before.before.before.before.before.before.before.before.before.before.requires.1.0.1).0, (restoring-room _ _ _ _ _ _ c.before.before.before.loop.invariant.3 c.before.before.before.before.before.before.before.before.before.before.before.before.before.before.before.before.before.requires.1.0.0 (omega arith) c.before.before.before.before.before.before.before.before.before.before.before.before.before.before.before.before.before.requires.1.0.1).1), (word-remains _ _ _ _ _ _ _ (λ i. omega (arith, c.before.before.before.before.before.before.before.before.before.before.before.before.before.before.shared-slice-known3.given i)) c.before.before.before.loop.invariant.1 (search rules) (search rules) c.before.before.before.loop.invariant.3, c.before.before.before.loop.invariant.4)))
+next-word-requires c κs = (search rules, ((search rules, search rules, (restoring_room _ _ _ _ _ _ c.before.before.before.loop.invariant.3 c.before.before.before.before.before.before.before.before.before.before.before.before.before.before.before.before.before.requires.1.0.0 (omega arith) c.before.before.before.before.before.before.before.before.before.before.before.before.before.before.before.before.before.requires.1.0.1).0, (restoring_room _ _ _ _ _ _ c.before.before.before.loop.invariant.3 c.before.before.before.before.before.before.before.before.before.before.before.before.before.before.before.before.before.requires.1.0.0 (omega arith) c.before.before.before.before.before.before.before.before.before.before.before.before.before.before.before.before.before.requires.1.0.1).1), (word_remains _ _ _ _ _ _ _ (λ i. omega (arith, c.before.before.before.before.before.before.before.before.before.before.before.before.before.before.shared-slice-known3.given i)) c.before.before.before.loop.invariant.1 (search rules) (search rules) c.before.before.before.loop.invariant.3, c.before.before.before.loop.invariant.4)))
 
 add-k : tie.Need-overflow-add-k invariant-loop decreases-loop
 add-k c = search rules
@@ -48,7 +48,7 @@ same_length : tie.Need-same-length invariant-loop decreases-loop
 same_length c = search rules
 
 returns : tie.Need-returns invariant-loop decreases-loop
-returns c = search (rules, row-end)
+returns c = search (rules, row_end)
 
 pub correct-words-spec : {M : Type 1} → statement M
 correct-words-spec =

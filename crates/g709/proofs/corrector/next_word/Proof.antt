@@ -1,12 +1,12 @@
 -- `g709::corrector::next_word` meets its contract. Assumes nothing.
-use Rattle.g709.proofs.WordByWord.{word-skipped, clean-word, word-errors, still-reached, word-answered}
-use Rattle.g709.proofs.Locating.{located-if}
+use Rattle.g709.proofs.WordByWord.{word_skipped, clean_word, word_errors, still_reached, word_answered}
+use Rattle.g709.proofs.Locating.{located_if}
 use borrow.Author.Rules.{rules}
 use Rattle.g709.proofs.corrector.next_word.Statement.{statement}
 use Rattle.g709.proofs.corrector.next_word.Tie as tie
 
 returns : tie.Need-returns
-returns c = (search (rules, word-skipped), search rules)
+returns c = (search (rules, word_skipped), search rules)
 
 lane-requires : tie.Need-lane-requires
 lane-requires c κs = search rules
@@ -18,22 +18,22 @@ all-below-requires : tie.Need-all-below-requires
 all-below-requires c κs = search rules
 
 returns-2 : tie.Need-returns-2
-returns-2 c = (search (rules, clean-word), search rules)
+returns-2 c = (search (rules, clean_word), search rules)
 
 errors-requires : tie.Need-errors-requires
-errors-requires c κs = ((search rules, search rules, search rules), search (rules, located-if))
+errors-requires c κs = ((search rules, search rules, search rules), search (rules, located_if))
 
 correct-word-requires : tie.Need-correct-word-requires
-correct-word-requires c κs = (search rules, search (rules, word-errors))
+correct-word-requires c κs = (search rules, search (rules, word_errors))
 
 with-word-requires : tie.Need-with-word-requires
-with-word-requires c κs = (search (rules, still-reached), search rules, search rules)
+with-word-requires c κs = (search (rules, still_reached), search rules, search rules)
 
 same_length : tie.Need-same-length
 same_length c = search rules
 
 returns-3 : tie.Need-returns-3
-returns-3 c = (search (rules, word-answered), search rules)
+returns-3 c = (search (rules, word_answered), search rules)
 
 pub next-word-spec : {M : Type 1} → statement M
 next-word-spec =

@@ -2,7 +2,7 @@
 use mathlib.Core.Path.{◌≡◌}
 use Prim.Native.Nat.{◌-◌, ◌*◌, ◌≤◌}
 use lib.ListN.{length}
-use Rattle.fields.specs.Elements.{powersC, exponentsC}
+use Rattle.fields.specs.Elements.{powers_c, exponents_c}
 use Rattle.g709.specs.Steps.Restoring.{Restoring}
 use Rattle.g709.proofs.WordByWord.{rows_step, rows_end}
 use borrow.Author.Rules.{rules}
@@ -10,7 +10,7 @@ use Rattle.g709.proofs.corrector.restore.Statement.{statement}
 use Rattle.g709.proofs.corrector.restore.Tie as tie
 
 abbrev invariant-loop : tie.invariant-loop
-invariant-loop block n out₀ exp log p₀ r₀ out p r = (r ≤ n) × (n ≤ 4) × (length block ≡ 4080 * n) × (exp ≡ powersC) × (log ≡ exponentsC) × (length out ≡ length out₀) × Restoring block (16 * r) out p.reached p.changed
+invariant-loop block n out₀ exp log p₀ r₀ out p r = (r ≤ n) × (n ≤ 4) × (length block ≡ 4080 * n) × (exp ≡ powers_c) × (log ≡ exponents_c) × (length out ≡ length out₀) × Restoring block (16 * r) out p.reached p.changed
 
 abbrev decreases-loop : tie.decreases-loop
 decreases-loop block n out₀ exp log p₀ r₀ out p r = n - r

@@ -5,8 +5,8 @@ use native.Mathlib.Omega.{arith}
 use lib.ListN.{length}
 use Rattle.fields.specs.Elements.{xor}
 use Rattle.fields.specs.Places.{at}
-use Rattle.g709.proofs.Overlays.{OverTo, over-start, over-end}
-use Rattle.g709.proofs.Folds.{add-parity-next}
+use Rattle.g709.proofs.Overlays.{OverTo, over_start, over_end}
+use Rattle.g709.proofs.Folds.{add_parity_next}
 use borrow.Author.Rules.{rules}
 use Rattle.g709.proofs.division.add_parity.Statement.{statement}
 use Rattle.g709.proofs.division.add_parity.Tie as tie
@@ -18,7 +18,7 @@ abbrev decreases-loop : tie.decreases-loop
 decreases-loop row from r₀ i₀ r i = 256 - i
 
 loop-holds : tie.Need-loop-init invariant-loop decreases-loop
-loop-holds c = search (rules, over-start)
+loop-holds c = search (rules, over_start)
 
 element-copy-out-plus : tie.Need-element-copy-out-plus invariant-loop decreases-loop
 element-copy-out-plus c = search rules
@@ -45,10 +45,10 @@ loop-less : tie.Need-loop-smaller invariant-loop decreases-loop
 loop-less c = search rules
 
 loop-again : tie.Need-loop-preserved invariant-loop decreases-loop
-loop-again c = (search rules, search rules, search rules, add-parity-next _ c.before.before.before.before.before.before.args.row.now c.before.before.before.before.before.before.args.from _ _ _ c.before.before.before.before.loop.invariant.3 (omega arith) c.before.before.before.before.loop.invariant.1 c.plus.ensures)
+loop-again c = (search rules, search rules, search rules, add_parity_next _ c.before.before.before.before.before.before.args.row.now c.before.before.before.before.before.before.args.from _ _ _ c.before.before.before.before.loop.invariant.3 (omega arith) c.before.before.before.before.loop.invariant.1 c.plus.ensures)
 
 returns : tie.Need-returns invariant-loop decreases-loop
-returns c = search (rules, over-end)
+returns c = search (rules, over_end)
 
 pub add-parity-spec : {M : Type 1} → statement M
 add-parity-spec =

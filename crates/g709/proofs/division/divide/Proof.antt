@@ -1,6 +1,6 @@
 -- `g709::division::divide` meets its contract. Assumes nothing.
 use native.Mathlib.Omega.{arith}
-use Rattle.g709.proofs.Folds.{row-folded}
+use Rattle.g709.proofs.Folds.{row_folded}
 use borrow.Author.Rules.{rules}
 use Rattle.g709.proofs.division.divide.Statement.{statement}
 use Rattle.g709.proofs.division.divide.Tie as tie
@@ -31,7 +31,7 @@ add-requires c κs = search rules
 
 returns : tie.Need-returns
 returns c = (
-  row-folded c.before.before.before.before.before.before.before.before.before.before.before.before.before.before.before.before.before.args.row.now _ _ _ _ _ _ c.before.before.before.before.before.before.before.before.before.before.before.before.before.before.before.before.before.args.from c.before.before.before.before.before.before.before.before.before.before.before.before.before.quotient.ensures
+  row_folded c.before.before.before.before.before.before.before.before.before.before.before.before.before.before.before.before.before.args.row.now _ _ _ _ _ _ c.before.before.before.before.before.before.before.before.before.before.before.before.before.before.before.before.before.args.from c.before.before.before.before.before.before.before.before.before.before.before.before.before.quotient.ensures
       c.before.before.before.before.before.before.before.before.before.before.before.before.left.ensures c.before.before.before.before.before.before.before.before.before.store-first.ensures.0 c.before.before.before.before.before.before.store-last.ensures.0 c.before.before.before.steps.ensures.0 c.add.ensures.0
       (λ i. omega (arith, c.before.before.before.before.before.before.before.before.before.before.before.before.before.before.before.before.shared-slice-known.given i)),
   c.add.ensures.1,

@@ -1,5 +1,5 @@
 -- `g709::division::four` meets its contract. Assumes nothing.
-use Rattle.g709.proofs.Lanes.{four-cells}
+use Rattle.g709.proofs.Lanes.{four_cells}
 use borrow.Author.Rules.{rules}
 use Rattle.g709.proofs.division.four.Statement.{statement}
 use Rattle.g709.proofs.division.four.Tie as tie
@@ -26,7 +26,7 @@ store-requires-4 : tie.Need-store-requires-4
 store-requires-4 c κs = search rules
 
 returns : tie.Need-returns
-returns c = search (rules, four-cells)
+returns c = search (rules, four_cells)
 
 pub four-spec : {M : Type 1} → statement M
 four-spec =

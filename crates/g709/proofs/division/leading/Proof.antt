@@ -2,7 +2,7 @@
 use Prim.Native.Nat.{◌+◌, ◌-◌}
 use Rattle.fields.specs.Elements.{xor}
 use Rattle.fields.specs.Places.{at}
-use Rattle.fields.proofs.Places.Filling.{Filled, filled-start, filled_next}
+use Rattle.fields.proofs.Places.Filling.{Filled, filled_start, filled_next}
 use Rattle.g709.proofs.Lanes.{leading_end}
 use borrow.Author.Rules.{rules}
 use Rattle.g709.proofs.division.leading.Statement.{statement}
@@ -15,7 +15,7 @@ abbrev decreases-loop : tie.decreases-loop
 decreases-loop r row from f₀ k₀ f k = 16 - k
 
 loop-holds : tie.Need-loop-init invariant-loop decreases-loop
-loop-holds c = search (rules, filled-start)
+loop-holds c = search (rules, filled_start)
 
 element-copy-out-plus : tie.Need-element-copy-out-plus invariant-loop decreases-loop
 element-copy-out-plus c = search rules

@@ -5,7 +5,7 @@ use Prim.Native.Nat.{◌+◌, ◌-◌, ◌≤◌}
 use lib.ListN.{length}
 use Rattle.fields.specs.Places.{at}
 use Rattle.g709.specs.Steps.Folding.{QuotientTo}
-use Rattle.g709.proofs.Folds.{quotient-start, quotient-next, quotient-end}
+use Rattle.g709.proofs.Folds.{quotient_start, quotient_next, quotient_end}
 use borrow.Author.Rules.{rules}
 use Rattle.g709.proofs.division.quotient.Statement.{statement}
 use Rattle.g709.proofs.division.quotient.Tie as tie
@@ -17,7 +17,7 @@ abbrev decreases-loop : tie.decreases-loop
 decreases-loop row from q₀ i₀ q i = 2784 - i
 
 loop-holds : tie.Need-loop-init invariant-loop decreases-loop
-loop-holds c = search (rules, quotient-start)
+loop-holds c = search (rules, quotient_start)
 
 add-plus : tie.Need-overflow-add-plus invariant-loop decreases-loop
 add-plus c = search rules
@@ -48,11 +48,11 @@ loop-again c = (
   search rules,
   search rules,
   search rules,
-  quotient-next c.before.before.before.before.before.before.before.args.row.now _ c.before.before.before.before.before.before.before.args.from _ _ _ c.before.before.before.before.before.loop.invariant.3 (omega arith) c.before.before.before.before.before.loop.invariant.2 (omega (arith, c.before.before.before.shared-slice-known2.given (c.before.before.before.before.before.before.before.args.from + c.before.before.before.before.before.loop.i))) c.before.taps.ensures c.plus.ensures,
+  quotient_next c.before.before.before.before.before.before.before.args.row.now _ c.before.before.before.before.before.before.before.args.from _ _ _ c.before.before.before.before.before.loop.invariant.3 (omega arith) c.before.before.before.before.before.loop.invariant.2 (omega (arith, c.before.before.before.shared-slice-known2.given (c.before.before.before.before.before.before.before.args.from + c.before.before.before.before.before.loop.i))) c.before.taps.ensures c.plus.ensures,
 )
 
 returns : tie.Need-returns invariant-loop decreases-loop
-returns c = quotient-end c.before.before.before.args.row.now _ c.before.before.before.args.from _ c.before.loop.invariant.3 c.before.loop.invariant.0 c.loop-test.false
+returns c = quotient_end c.before.before.before.args.row.now _ c.before.before.before.args.from _ c.before.loop.invariant.3 c.before.loop.invariant.0 c.loop-test.false
 
 pub quotient-spec : {M : Type 1} → statement M
 quotient-spec =

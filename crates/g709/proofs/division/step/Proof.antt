@@ -1,5 +1,5 @@
 -- `g709::division::step` meets its contract. Assumes nothing.
-use Rattle.g709.proofs.Lanes.{all-cells}
+use Rattle.g709.proofs.Lanes.{all_cells}
 use borrow.Author.Rules.{rules}
 use Rattle.g709.proofs.division.step.Statement.{statement}
 use Rattle.g709.proofs.division.step.Tie as tie
@@ -21,7 +21,7 @@ four-requires-4 c κs = search rules
 
 returns : tie.Need-returns
 returns c = (
-  all-cells _ _ _ _ _ _ _ c.before.before.before.before.before.before.before.before.before.before.before.before.leading.ensures c.before.before.before.before.before.before.before.before.before.four.ensures.0 c.before.before.before.before.before.before.four2.ensures.0
+  all_cells _ _ _ _ _ _ _ c.before.before.before.before.before.before.before.before.before.before.before.before.leading.ensures c.before.before.before.before.before.before.before.before.before.four.ensures.0 c.before.before.before.before.before.before.four2.ensures.0
       c.before.before.before.four3.ensures.0 c.four4.ensures.0,
   c.four4.ensures.1,
 )

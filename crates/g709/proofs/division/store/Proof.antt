@@ -2,15 +2,15 @@
 use mathlib.Core.Path.{◌≡◌}
 use Prim.Native.Nat.{◌*◌, ◌-◌, ◌<◌}
 use lib.ListN.{length}
-use Rattle.g709.proofs.Overlays.{OverTo, over-start}
-use Rattle.g709.proofs.Lanes.{newCell, cell-next, cell-end}
+use Rattle.g709.proofs.Overlays.{OverTo, over_start}
+use Rattle.g709.proofs.Lanes.{new_cell, cell_next, cell_end}
 use native.Mathlib.Omega.{arith}
 use borrow.Author.Rules.{rules}
 use Rattle.g709.proofs.division.store.Statement.{statement}
 use Rattle.g709.proofs.division.store.Tie as tie
 
 abbrev invariant-loop : tie.invariant-loop
-invariant-loop r₀ f k y n j₀ r j = (n ≡ 16 * k) × (k < 16) × (length r₀ ≡ 272) × OverTo r₀ n 16 (newCell r₀ f n y) j r × (length r ≡ 272)
+invariant-loop r₀ f k y n j₀ r j = (n ≡ 16 * k) × (k < 16) × (length r₀ ≡ 272) × OverTo r₀ n 16 (new_cell r₀ f n y) j r × (length r ≡ 272)
 
 abbrev decreases-loop : tie.decreases-loop
 decreases-loop r₀ f k y n j₀ r j = 16 - j
@@ -19,7 +19,7 @@ mul-n : tie.Need-overflow-mul-n invariant-loop decreases-loop
 mul-n c = search rules
 
 loop-holds : tie.Need-loop-init invariant-loop decreases-loop
-loop-holds c = search (rules, over-start)
+loop-holds c = search (rules, over_start)
 
 add-plus : tie.Need-overflow-add-plus invariant-loop decreases-loop
 add-plus c = search rules
@@ -56,12 +56,12 @@ loop-again c = (
   search rules,
   search rules,
   search rules,
-  cell-next _ c.before.before.before.before.before.before.args.f.now _ c.before.before.before.before.before.before.args.y _ _ _ _ c.before.before.before.before.before.loop.invariant.3 (omega arith) (omega arith) c.before.product.ensures c.plus.ensures,
+  cell_next _ c.before.before.before.before.before.before.args.f.now _ c.before.before.before.before.before.before.args.y _ _ _ _ c.before.before.before.before.before.loop.invariant.3 (omega arith) (omega arith) c.before.product.ensures c.plus.ensures,
   search rules,
 )
 
 returns : tie.Need-returns invariant-loop decreases-loop
-returns c = search (rules, cell-end)
+returns c = search (rules, cell_end)
 
 pub store_spec : {M : Type 1} → statement M
 store_spec =

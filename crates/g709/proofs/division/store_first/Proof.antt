@@ -6,7 +6,7 @@ use lib.ListN.{length}
 use Rattle.fields.specs.Elements.{xor}
 use Rattle.fields.specs.Places.{at}
 use Rattle.g709.specs.Steps.Folding.{taps}
-use Rattle.g709.proofs.Overlays.{OverTo, over-start, over-next, over-end}
+use Rattle.g709.proofs.Overlays.{OverTo, over_start, over_next, over_end}
 use borrow.Author.Rules.{rules}
 use Rattle.g709.proofs.division.store_first.Statement.{statement}
 use Rattle.g709.proofs.division.store_first.Tie as tie
@@ -18,7 +18,7 @@ abbrev decreases-loop : tie.decreases-loop
 decreases-loop row from q out₀ i₀ out i = 1040 - i
 
 loop-holds : tie.Need-loop-init invariant-loop decreases-loop
-loop-holds c = search (rules, over-start)
+loop-holds c = search (rules, over_start)
 
 add-plus : tie.Need-overflow-add-plus invariant-loop decreases-loop
 add-plus c = search rules
@@ -55,11 +55,11 @@ loop-again c = (
   search rules,
   search rules,
   search rules,
-  over-next _ _ _ _ _ _ _ c.before.before.before.before.loop.invariant.3 (omega arith) (omega arith) (c.plus.ensures ∙ ap (xor (at c.before.before.before.before.before.before.args.row.now (c.before.before.before.before.before.before.args.from + 2784 + c.before.before.before.before.loop.i))) c.before.taps.ensures),
+  over_next _ _ _ _ _ _ _ c.before.before.before.before.loop.invariant.3 (omega arith) (omega arith) (c.plus.ensures ∙ ap (xor (at c.before.before.before.before.before.before.args.row.now (c.before.before.before.before.before.before.args.from + 2784 + c.before.before.before.before.loop.i))) c.before.taps.ensures),
 )
 
 returns : tie.Need-returns invariant-loop decreases-loop
-returns c = search (rules, over-end)
+returns c = search (rules, over_end)
 
 pub store-first-spec : {M : Type 1} → statement M
 store-first-spec =

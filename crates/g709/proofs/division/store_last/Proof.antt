@@ -4,7 +4,7 @@ use mathlib.Core.Path.{◌≡◌}
 use Prim.Native.Nat.{◌+◌, ◌-◌}
 use lib.ListN.{length}
 use Rattle.g709.specs.Steps.Folding.{taps}
-use Rattle.g709.proofs.Overlays.{OverTo, over-start, over-next, over-end}
+use Rattle.g709.proofs.Overlays.{OverTo, over_start, over_next, over_end}
 use borrow.Author.Rules.{rules}
 use Rattle.g709.proofs.division.store_last.Statement.{statement}
 use Rattle.g709.proofs.division.store_last.Tie as tie
@@ -16,7 +16,7 @@ abbrev decreases-loop : tie.decreases-loop
 decreases-loop q out₀ i₀ out i = 256 - i
 
 loop-holds : tie.Need-loop-init invariant-loop decreases-loop
-loop-holds c = search (rules, over-start)
+loop-holds c = search (rules, over_start)
 
 add-taps : tie.Need-overflow-add-taps invariant-loop decreases-loop
 add-taps c = search rules
@@ -37,10 +37,10 @@ loop-less : tie.Need-loop-smaller invariant-loop decreases-loop
 loop-less c = search rules
 
 loop-again : tie.Need-loop-preserved invariant-loop decreases-loop
-loop-again c = (search rules, search rules, over-next _ _ _ _ _ _ _ c.before.before.loop.invariant.2 (omega arith) (omega arith) c.taps.ensures)
+loop-again c = (search rules, search rules, over_next _ _ _ _ _ _ _ c.before.before.loop.invariant.2 (omega arith) (omega arith) c.taps.ensures)
 
 returns : tie.Need-returns invariant-loop decreases-loop
-returns c = search (rules, over-end)
+returns c = search (rules, over_end)
 
 pub store-last-spec : {M : Type 1} → statement M
 store-last-spec =

@@ -1,7 +1,7 @@
 -- `g709::division::taps` meets its contract. Assumes nothing.
 use mathlib.Core.Path.{refl}
 use Rattle.fields.specs.Elements.{xor}
-use Rattle.g709.specs.Steps.Folding.{exponentsBelow, sumUpTo, taps}
+use Rattle.g709.specs.Steps.Folding.{exponents_below, sum_up_to, taps}
 use borrow.Author.Rules.{rules}
 use Rattle.g709.proofs.division.taps.Statement.{statement}
 use Rattle.g709.proofs.division.taps.Tie as tie
@@ -133,7 +133,7 @@ element-copy-out-result-21 : tie.Need-element-copy-out-result-21
 element-copy-out-result-21 c = search rules
 
 returns : tie.Need-returns
-unfolding taps sumUpTo exponentsBelow xor
+unfolding taps sum_up_to exponents_below xor
 returns c = refl
 
 pub taps-spec : {M : Type 1} → statement M

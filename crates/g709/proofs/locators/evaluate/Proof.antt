@@ -1,5 +1,5 @@
 -- `g709::locators::evaluate` meets its contract. Assumes nothing.
-use Rattle.g709.proofs.Locating.{locator-values}
+use Rattle.g709.proofs.Locating.{locator_values}
 use borrow.Author.Rules.{rules}
 use Rattle.g709.proofs.locators.evaluate.Statement.{statement}
 use Rattle.g709.proofs.locators.evaluate.Tie as tie
@@ -14,7 +14,7 @@ evaluate-requires : tie.Need-evaluate-requires
 evaluate-requires c κs = search rules
 
 returns : tie.Need-returns
-returns c = search (rules, locator-values)
+returns c = search (rules, locator_values)
 
 pub evaluate-spec : {M : Type 1} → statement M
 evaluate-spec =

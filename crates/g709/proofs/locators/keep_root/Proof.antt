@@ -1,5 +1,5 @@
 -- `g709::locators::keep_root` meets its contract. Assumes nothing.
-use Rattle.decoding.proofs.Steps.PowerTables.{keep-few, keep-here, keep-not}
+use Rattle.decoding.proofs.Steps.PowerTables.{keep_few, keep_here, keep_not}
 use borrow.Author.Rules.{rules}
 use Rattle.g709.proofs.locators.keep_root.Statement.{statement}
 use Rattle.g709.proofs.locators.keep_root.Tie as tie
@@ -11,10 +11,10 @@ keep-requires : tie.Need-keep-requires
 keep-requires c κs = search rules
 
 returns : tie.Need-returns
-returns c = search (rules, keep-here, keep-few)
+returns c = search (rules, keep_here, keep_few)
 
 returns-2 : tie.Need-returns-2
-returns-2 c = search (rules, keep-not)
+returns-2 c = search (rules, keep_not)
 
 pub keep-root-spec : {M : Type 1} → statement M
 keep-root-spec = tie.close (tie.spec cast-keep keep-requires returns returns-2)

@@ -1,6 +1,6 @@
 -- `g709::locators::places` meets its contract. Assumes nothing.
 use Prim.Native.Nat.{◌-◌, ◌<◌}
-use Rattle.g709.proofs.Locating.{Placing, placing-start, placing-next, placing-end}
+use Rattle.g709.proofs.Locating.{Placing, placing_start, placing_next, placing_end}
 use borrow.Author.Rules.{rules}
 use Rattle.g709.proofs.locators.places.Statement.{statement}
 use Rattle.g709.proofs.locators.places.Tie as tie
@@ -12,7 +12,7 @@ abbrev decreases-loop : tie.decreases-loop
 decreases-loop values k p₀ i₀ p i = 255 - i
 
 loop-holds : tie.Need-loop-init invariant-loop decreases-loop
-loop-holds c = search (rules, placing-start)
+loop-holds c = search (rules, placing_start)
 
 sub-keep-root : tie.Need-overflow-sub-keep-root invariant-loop decreases-loop
 sub-keep-root c = search rules
@@ -39,10 +39,10 @@ loop-less : tie.Need-loop-smaller invariant-loop decreases-loop
 loop-less c = search rules
 
 loop-again : tie.Need-loop-preserved invariant-loop decreases-loop
-loop-again c = search (rules, placing-next)
+loop-again c = search (rules, placing_next)
 
 returns : tie.Need-returns invariant-loop decreases-loop
-returns c = search (rules, placing-end)
+returns c = search (rules, placing_end)
 
 pub places-spec : {M : Type 1} → statement M
 places-spec =

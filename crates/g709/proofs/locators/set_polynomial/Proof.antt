@@ -3,7 +3,7 @@ use mathlib.Core.Path.{◌≡◌}
 use Prim.Native.Nat.{ℕ, ◌-◌, ◌<◌}
 use lib.ListN.{length}
 use Rattle.fields.specs.Places.{at}
-use Rattle.g709.proofs.Locating.{StoredTo, stored-start, stored_next, stored-end}
+use Rattle.g709.proofs.Locating.{StoredTo, stored_start, stored_next, stored_end}
 use borrow.Author.Rules.{rules}
 use Rattle.g709.proofs.locators.set_polynomial.Statement.{statement}
 use Rattle.g709.proofs.locators.set_polynomial.Tie as tie
@@ -15,7 +15,7 @@ abbrev decreases-loop : tie.decreases-loop
 decreases-loop terms₀ k polynomial d₀ terms d = 9 - d
 
 loop-holds : tie.Need-loop-init invariant-loop decreases-loop
-loop-holds c = search (rules, stored-start)
+loop-holds c = search (rules, stored_start)
 
 mul-narrow : tie.Need-overflow-mul-narrow invariant-loop decreases-loop
 mul-narrow c = search rules
@@ -45,7 +45,7 @@ loop-again : tie.Need-loop-preserved invariant-loop decreases-loop
 loop-again c = (search rules, search rules, search rules, search rules, search (rules, stored_next))
 
 returns : tie.Need-returns invariant-loop decreases-loop
-returns c = search (rules, stored-end)
+returns c = search (rules, stored_end)
 
 pub set-polynomial-spec : {M : Type 1} → statement M
 set-polynomial-spec =

@@ -4,8 +4,8 @@ use Prim.Native.Nat.{◌*◌, ◌-◌, ◌<◌}
 use lib.ListN.{length}
 use native.Mathlib.Omega.{arith}
 use Rattle.g709.specs.Steps.Evaluating.{column_sum}
-use Rattle.g709.proofs.Overlays.{OverTo, over-start, over-next}
-use Rattle.g709.proofs.PowerColumns.{values-end}
+use Rattle.g709.proofs.Overlays.{OverTo, over_start, over_next}
+use Rattle.g709.proofs.PowerColumns.{values_end}
 use borrow.Author.Rules.{rules}
 use Rattle.g709.proofs.root_columns.add_up.Statement.{statement}
 use Rattle.g709.proofs.root_columns.add_up.Tie as tie
@@ -20,7 +20,7 @@ mul-n : tie.Need-overflow-mul-n invariant-loop decreases-loop
 mul-n c = search rules
 
 loop-holds : tie.Need-loop-init invariant-loop decreases-loop
-loop-holds c = search (rules, over-start)
+loop-holds c = search (rules, over_start)
 
 sum-requires : tie.Need-sum-requires invariant-loop decreases-loop
 sum-requires c κs = search rules
@@ -42,12 +42,12 @@ loop-again c = (
   search rules,
   search rules,
   search rules,
-  over-next _ _ _ _ _ _ _ c.before.before.loop.invariant.3 (omega arith) (omega arith) c.sum.ensures,
+  over_next _ _ _ _ _ _ _ c.before.before.loop.invariant.3 (omega arith) (omega arith) c.sum.ensures,
   search rules,
 )
 
 returns : tie.Need-returns invariant-loop decreases-loop
-returns c = search (rules, values-end)
+returns c = search (rules, values_end)
 
 pub add-up-spec : {M : Type 1} → statement M
 add-up-spec =

@@ -3,7 +3,7 @@ use mathlib.Core.Path.{◌≡◌}
 use Prim.Native.Nat.{◌-◌, ◌≤◌}
 use lib.ListN.{length}
 use native.Mathlib.Omega.{arith}
-use Rattle.g709.proofs.PowerColumns.{EvaluatedTo, evaluated-start, evaluated-next, evaluated-end}
+use Rattle.g709.proofs.PowerColumns.{EvaluatedTo, evaluated_start, evaluated_next, evaluated_end}
 use borrow.Author.Rules.{rules}
 use Rattle.g709.proofs.root_columns.evaluate.Statement.{statement}
 use Rattle.g709.proofs.root_columns.evaluate.Tie as tie
@@ -18,7 +18,7 @@ known-requires : tie.Need-known-requires invariant-loop decreases-loop
 known-requires c κs = search rules
 
 loop-holds : tie.Need-loop-init invariant-loop decreases-loop
-loop-holds c = search (rules, evaluated-start)
+loop-holds c = search (rules, evaluated_start)
 
 add-up-requires : tie.Need-add-up-requires invariant-loop decreases-loop
 add-up-requires c κs = search rules
@@ -37,11 +37,11 @@ loop-again c = (
   search rules,
   search rules,
   search rules,
-  evaluated-next _ _ _ _ _ _ c.before.before.before.before.before.before.loop.invariant.3 c.before.before.before.before.before.before.loop.invariant.1 c.before.before.before.before.before.before.loop.invariant.2 (omega arith) c.before.before.add-up.ensures.0 c.advance.ensures.0,
+  evaluated_next _ _ _ _ _ _ c.before.before.before.before.before.before.loop.invariant.3 c.before.before.before.before.before.before.loop.invariant.1 c.before.before.before.before.before.before.loop.invariant.2 (omega arith) c.before.before.add-up.ensures.0 c.advance.ensures.0,
 )
 
 returns : tie.Need-returns invariant-loop decreases-loop
-returns c = search (rules, evaluated-end)
+returns c = search (rules, evaluated_end)
 
 pub evaluate-spec : {M : Type 1} → statement M
 evaluate-spec =

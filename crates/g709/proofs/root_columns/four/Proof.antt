@@ -1,5 +1,5 @@
 -- `g709::root_columns::four` meets its contract. Assumes nothing.
-use Rattle.g709.proofs.PowerColumns.{four-columns}
+use Rattle.g709.proofs.PowerColumns.{four_columns}
 use borrow.Author.Rules.{rules}
 use Rattle.g709.proofs.root_columns.four.Statement.{statement}
 use Rattle.g709.proofs.root_columns.four.Tie as tie
@@ -26,7 +26,7 @@ scale-requires-4 : tie.Need-scale-requires-4
 scale-requires-4 c κs = search rules
 
 returns : tie.Need-returns
-returns c = search (rules, four-columns)
+returns c = search (rules, four_columns)
 
 pub four-spec : {M : Type 1} → statement M
 four-spec =

@@ -3,14 +3,14 @@ use mathlib.Core.Path.{◌≡◌}
 use Prim.Native.Nat.{◌*◌, ◌-◌, ◌<◌}
 use lib.ListN.{length}
 use native.Mathlib.Omega.{arith}
-use Rattle.g709.proofs.Overlays.{OverTo, over-start}
-use Rattle.g709.proofs.PowerColumns.{newByte, column-next, column-end}
+use Rattle.g709.proofs.Overlays.{OverTo, over_start}
+use Rattle.g709.proofs.PowerColumns.{new_byte, column_next, column_end}
 use borrow.Author.Rules.{rules}
 use Rattle.g709.proofs.root_columns.scale.Statement.{statement}
 use Rattle.g709.proofs.root_columns.scale.Tie as tie
 
 abbrev invariant-loop : tie.invariant-loop
-invariant-loop terms₀ d y n j₀ terms j = (n ≡ 16 * d) × (d < 9) × (length terms₀ ≡ 144) × OverTo terms₀ n 16 (newByte terms₀ n y) j terms × (length terms ≡ 144)
+invariant-loop terms₀ d y n j₀ terms j = (n ≡ 16 * d) × (d < 9) × (length terms₀ ≡ 144) × OverTo terms₀ n 16 (new_byte terms₀ n y) j terms × (length terms ≡ 144)
 
 abbrev decreases-loop : tie.decreases-loop
 decreases-loop terms₀ d y n j₀ terms j = 16 - j
@@ -19,7 +19,7 @@ mul-n : tie.Need-overflow-mul-n invariant-loop decreases-loop
 mul-n c = search rules
 
 loop-holds : tie.Need-loop-init invariant-loop decreases-loop
-loop-holds c = search (rules, over-start)
+loop-holds c = search (rules, over_start)
 
 add-product : tie.Need-overflow-add-product invariant-loop decreases-loop
 add-product c = search rules
@@ -47,12 +47,12 @@ loop-again c = (
   search rules,
   search rules,
   search rules,
-  column-next _ _ c.before.before.before.before.args.y _ _ _ c.before.before.before.loop.invariant.3 (omega arith) (omega arith) c.product.ensures,
+  column_next _ _ c.before.before.before.before.args.y _ _ _ c.before.before.before.loop.invariant.3 (omega arith) (omega arith) c.product.ensures,
   search rules,
 )
 
 returns : tie.Need-returns invariant-loop decreases-loop
-returns c = search (rules, column-end)
+returns c = search (rules, column_end)
 
 pub scale-spec : {M : Type 1} → statement M
 scale-spec =

@@ -1,7 +1,7 @@
 -- `g709::root_columns::sum` meets its contract. Assumes nothing.
 use mathlib.Core.Path.{refl}
 use Rattle.fields.specs.Elements.{xor}
-use Rattle.g709.specs.Steps.Folding.{sumUpTo}
+use Rattle.g709.specs.Steps.Folding.{sum_up_to}
 use Rattle.g709.specs.Steps.Evaluating.{column_sum}
 use borrow.Author.Rules.{rules}
 use Rattle.g709.proofs.root_columns.sum.Statement.{statement}
@@ -62,7 +62,7 @@ element-copy-out-result-9 : tie.Need-element-copy-out-result-9
 element-copy-out-result-9 c = search rules
 
 returns : tie.Need-returns
-unfolding column_sum sumUpTo xor
+unfolding column_sum sum_up_to xor
 returns c = refl
 
 pub sum-spec : {M : Type 1} → statement M

@@ -3,7 +3,7 @@ use mathlib.Core.Path.{◌≡◌}
 use Prim.Native.Nat.{◌-◌, ◌≤◌}
 use lib.ListN.{length}
 use Rattle.g709.specs.Steps.ColumnSyndromes.{SyndromesTo}
-use Rattle.g709.proofs.ColumnSyndromes.{syndromes-start, syndromes-next, syndromes-end}
+use Rattle.g709.proofs.ColumnSyndromes.{syndromes_start, syndromes_next, syndromes_end}
 use borrow.Author.Rules.{rules}
 use Rattle.g709.proofs.syndromes.all_values.Statement.{statement}
 use Rattle.g709.proofs.syndromes.all_values.Tie as tie
@@ -15,7 +15,7 @@ abbrev decreases-loop : tie.decreases-loop
 decreases-loop s₀ rest i₀ s i = 16 - i
 
 loop-holds : tie.Need-loop-init invariant-loop decreases-loop
-loop-holds c = search (rules, syndromes-start)
+loop-holds c = search (rules, syndromes_start)
 
 next-values-requires : tie.Need-next-values-requires invariant-loop decreases-loop
 next-values-requires c κs = search rules
@@ -27,10 +27,10 @@ loop-less : tie.Need-loop-smaller invariant-loop decreases-loop
 loop-less c = search rules
 
 loop-again : tie.Need-loop-preserved invariant-loop decreases-loop
-loop-again c = search (rules, syndromes-next)
+loop-again c = search (rules, syndromes_next)
 
 returns : tie.Need-returns invariant-loop decreases-loop
-returns c = search (rules, syndromes-end)
+returns c = search (rules, syndromes_end)
 
 pub all-values-spec : {M : Type 1} → statement M
 all-values-spec =

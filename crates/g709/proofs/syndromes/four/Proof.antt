@@ -1,5 +1,5 @@
 -- `g709::syndromes::four` meets its contract. Assumes nothing.
-use Rattle.g709.proofs.ColumnSyndromes.{four-values}
+use Rattle.g709.proofs.ColumnSyndromes.{four_values}
 use borrow.Author.Rules.{rules}
 use Rattle.g709.proofs.syndromes.four.Statement.{statement}
 use Rattle.g709.proofs.syndromes.four.Tie as tie
@@ -26,7 +26,7 @@ next-value-requires-4 : tie.Need-next-value-requires-4
 next-value-requires-4 c κs = search rules
 
 returns : tie.Need-returns
-returns c = search (rules, four-values)
+returns c = search (rules, four_values)
 
 pub four-spec : {M : Type 1} → statement M
 four-spec =

@@ -3,14 +3,14 @@ use mathlib.Core.Path.{◌≡◌}
 use Prim.Native.Nat.{◌*◌, ◌-◌, ◌<◌}
 use native.Mathlib.Omega.{arith}
 use lib.ListN.{length}
-use Rattle.g709.proofs.Overlays.{OverTo, over-start}
-use Rattle.g709.proofs.ColumnSyndromes.{newValue, value-next, value-end}
+use Rattle.g709.proofs.Overlays.{OverTo, over_start}
+use Rattle.g709.proofs.ColumnSyndromes.{new_value, value_next, value_end}
 use borrow.Author.Rules.{rules}
 use Rattle.g709.proofs.syndromes.next_value.Statement.{statement}
 use Rattle.g709.proofs.syndromes.next_value.Tie as tie
 
 abbrev invariant-loop : tie.invariant-loop
-invariant-loop s₀ rest i j y m n l₀ s l = (m ≡ 16 * i) × (n ≡ 16 * j) × (i < 16) × (j < 16) × (length s₀ ≡ 272) × OverTo s₀ n 16 (newValue s₀ rest m n y) l s × (length s ≡ 272)
+invariant-loop s₀ rest i j y m n l₀ s l = (m ≡ 16 * i) × (n ≡ 16 * j) × (i < 16) × (j < 16) × (length s₀ ≡ 272) × OverTo s₀ n 16 (new_value s₀ rest m n y) l s × (length s ≡ 272)
 
 abbrev decreases-loop : tie.decreases-loop
 decreases-loop s₀ rest i j y m n l₀ s l = 16 - l
@@ -22,7 +22,7 @@ mul-n : tie.Need-overflow-mul-n invariant-loop decreases-loop
 mul-n c = search rules
 
 loop-holds : tie.Need-loop-init invariant-loop decreases-loop
-loop-holds c = search (rules, over-start)
+loop-holds c = search (rules, over_start)
 
 add-product : tie.Need-overflow-add-product invariant-loop decreases-loop
 add-product c = search rules
@@ -55,10 +55,10 @@ loop-less : tie.Need-loop-smaller invariant-loop decreases-loop
 loop-less c = search rules
 
 loop-again : tie.Need-loop-preserved invariant-loop decreases-loop
-loop-again c = (search rules, search rules, search rules, search rules, search rules, value-next _ c.before.before.before.before.before.before.args.rest.now _ _ c.before.before.before.before.before.before.args.y _ _ _ _ c.before.before.before.before.before.loop.invariant.5 (omega arith) (omega arith) c.before.before.product.ensures c.plus.ensures, search rules)
+loop-again c = (search rules, search rules, search rules, search rules, search rules, value_next _ c.before.before.before.before.before.before.args.rest.now _ _ c.before.before.before.before.before.before.args.y _ _ _ _ c.before.before.before.before.before.loop.invariant.5 (omega arith) (omega arith) c.before.before.product.ensures c.plus.ensures, search rules)
 
 returns : tie.Need-returns invariant-loop decreases-loop
-returns c = search (rules, value-end)
+returns c = search (rules, value_end)
 
 pub next-value-spec : {M : Type 1} → statement M
 next-value-spec =

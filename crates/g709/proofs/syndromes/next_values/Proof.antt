@@ -1,5 +1,5 @@
 -- `g709::syndromes::next_values` meets its contract. Assumes nothing.
-use Rattle.g709.proofs.ColumnSyndromes.{sixteen-values}
+use Rattle.g709.proofs.ColumnSyndromes.{sixteen_values}
 use borrow.Author.Rules.{rules}
 use Rattle.g709.proofs.syndromes.next_values.Statement.{statement}
 use Rattle.g709.proofs.syndromes.next_values.Tie as tie
@@ -17,7 +17,7 @@ four-requires-4 : tie.Need-four-requires-4
 four-requires-4 c κs = search rules
 
 returns : tie.Need-returns
-returns c = search (rules, sixteen-values)
+returns c = search (rules, sixteen_values)
 
 pub next-values-spec : {M : Type 1} → statement M
 next-values-spec =

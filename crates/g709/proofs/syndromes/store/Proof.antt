@@ -1,5 +1,5 @@
 -- `g709::syndromes::store` meets its contract. Assumes nothing.
-use Rattle.g709.proofs.ColumnSyndromes.{syndromes-none}
+use Rattle.g709.proofs.ColumnSyndromes.{syndromes_none}
 use borrow.Author.Rules.{rules}
 use Rattle.g709.proofs.syndromes.store.Statement.{statement}
 use Rattle.g709.proofs.syndromes.store.Tie as tie
@@ -8,7 +8,7 @@ agree-requires : tie.Need-agree-requires
 agree-requires c κs = search rules
 
 returns : tie.Need-returns
-returns c = (syndromes-none _ _ _ c.before.before.before.before.before.requires.0 c.before.agree.ensures c.if1.true, c.before.before.before.before.before.requires.1)
+returns c = (syndromes_none _ _ _ c.before.before.before.before.before.requires.0 c.before.agree.ensures c.if1.true, c.before.before.before.before.before.requires.1)
 
 all-values-requires : tie.Need-all-values-requires
 all-values-requires c κs = search rules

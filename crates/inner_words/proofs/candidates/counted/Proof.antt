@@ -1,11 +1,11 @@
 -- `inner_words::candidates::counted` meets its contract. Assumes nothing.
 use borrow.Author.Rules.{rules}
-use Rattle.inner_words.proofs.Passes.TooMany.{raised-none}
+use Rattle.inner_words.proofs.Passes.TooMany.{raised_none}
 use Rattle.inner_words.proofs.candidates.counted.Statement.{statement}
 use Rattle.inner_words.proofs.candidates.counted.Tie as tie
 
 returns : tie.Need-returns
-returns c = search (rules, raised-none)
+returns c = search (rules, raised_none)
 
 raised-requires : tie.Need-raised-requires
 raised-requires c κs = search rules

@@ -1,6 +1,6 @@
 -- `inner_words::candidates::failing` meets its contract. Assumes nothing.
 use borrow.Author.Rules.{rules}
-use Rattle.inner_words.proofs.Passes.TakenCandidates.{failing-is}
+use Rattle.inner_words.proofs.Passes.TakenCandidates.{failing_is}
 use Rattle.inner_words.proofs.candidates.failing.Statement.{statement}
 use Rattle.inner_words.proofs.candidates.failing.Tie as tie
 
@@ -26,7 +26,7 @@ wrong-sums-requires : tie.Need-wrong-sums-requires
 wrong-sums-requires c κs = search rules
 
 returns : tie.Need-returns
-returns c = search (rules, failing-is)
+returns c = search (rules, failing_is)
 
 pub failing-spec : {M : Type 1} → statement M
 failing-spec =

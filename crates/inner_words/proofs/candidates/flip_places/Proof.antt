@@ -1,6 +1,6 @@
 -- `inner_words::candidates::flip_places` meets its contract. Assumes nothing.
 use borrow.Author.Rules.{rules}
-use Rattle.inner_words.proofs.Passes.FlippedPlaces.{Flipping, flipping-start, flipping-next, flipping-end}
+use Rattle.inner_words.proofs.Passes.FlippedPlaces.{Flipping, flipping_start, flipping_next, flipping_end}
 use Prim.Native.Nat.{◌-◌}
 use Rattle.inner_words.proofs.candidates.flip_places.Statement.{statement}
 use Rattle.inner_words.proofs.candidates.flip_places.Tie as tie
@@ -12,7 +12,7 @@ abbrev decreases-loop : tie.decreases-loop
 decreases-loop flips mask block₀ p₀ block p = 2040 - p
 
 loop-holds : tie.Need-loop-init invariant-loop decreases-loop
-loop-holds c = search (rules, flipping-start)
+loop-holds c = search (rules, flipping_start)
 
 place-requires : tie.Need-place-requires invariant-loop decreases-loop
 place-requires c κs = search rules
@@ -33,13 +33,13 @@ loop-less : tie.Need-loop-smaller invariant-loop decreases-loop
 loop-less c = search rules
 
 loop-again : tie.Need-loop-preserved invariant-loop decreases-loop
-loop-again c = search (rules, flipping-next)
+loop-again c = search (rules, flipping_next)
 
 same_length : tie.Need-same-length invariant-loop decreases-loop
 same_length c = search rules
 
 returns : tie.Need-returns invariant-loop decreases-loop
-returns c = search (rules, flipping-end)
+returns c = search (rules, flipping_end)
 
 pub flip-places-spec : {M : Type 1} → statement M
 flip-places-spec =

@@ -1,7 +1,7 @@
 -- `inner_words::candidates::write_flips` meets its contract. Assumes nothing.
 use borrow.Author.Rules.{rules}
-use Rattle.inner_words.proofs.Passes.FlippedPlaces.{Writing, writing_start, writing-next, writing-end}
-use Rattle.inner_words.proofs.Passes.TooMany.{Raising, raising-start, raising-next, raising-end}
+use Rattle.inner_words.proofs.Passes.FlippedPlaces.{Writing, writing_start, writing_next, writing_end}
+use Rattle.inner_words.proofs.Passes.TooMany.{Raising, raising_start, raising_next, raising_end}
 use Prim.Native.Nat.{◌-◌}
 use Rattle.inner_words.proofs.candidates.write_flips.Statement.{statement}
 use Rattle.inner_words.proofs.candidates.write_flips.Tie as tie
@@ -13,7 +13,7 @@ abbrev decreases-loop : tie.decreases-loop
 decreases-loop flips out₀ s₀ p₀ out s p = 2040 - p
 
 loop-holds : tie.Need-loop-init invariant-loop decreases-loop
-loop-holds c = (search (rules, writing_start), search (rules, raising-start))
+loop-holds c = (search (rules, writing_start), search (rules, raising_start))
 
 mul-x : tie.Need-overflow-mul-x invariant-loop decreases-loop
 mul-x c = search rules
@@ -34,13 +34,13 @@ loop-less : tie.Need-loop-smaller invariant-loop decreases-loop
 loop-less c = search rules
 
 loop-again : tie.Need-loop-preserved invariant-loop decreases-loop
-loop-again c = (search (rules, writing-next), search (rules, raising-next))
+loop-again c = (search (rules, writing_next), search (rules, raising_next))
 
 same_length : tie.Need-same-length invariant-loop decreases-loop
 same_length c = search rules
 
 returns : tie.Need-returns invariant-loop decreases-loop
-returns c = (search (rules, writing-end), search (rules, raising-end))
+returns c = (search (rules, writing_end), search (rules, raising_end))
 
 pub write-flips-spec : {M : Type 1} → statement M
 write-flips-spec =

@@ -5,13 +5,13 @@ use borrow.Author.Rules.{rules}
 use lib.Dec.{lit<}
 use Rattle.lanes.specs.Steps.Sliced.{cells}
 use Rattle.words.specs.InnerCode.{factors}
-use Rattle.inner_words.specs.Steps.InnerResidues.{residueOf}
-use Rattle.inner_words.proofs.Remainders.ResidueSteps.{place-first, place_inside, place-fits, block_within, block-fits, block-less, eleven-places, residue-start, residue-turn, residue-end}
+use Rattle.inner_words.specs.Steps.InnerResidues.{residue_of}
+use Rattle.inner_words.proofs.Remainders.ResidueSteps.{place_first, place_inside, place_fits, block_within, block_fits, block_less, eleven_places, residue_start, residue_turn, residue_end}
 use Rattle.inner_words.proofs.factor_residues.residue_7.Statement.{statement}
 use Rattle.inner_words.proofs.factor_residues.residue_7.Tie as tie
 
 abbrev invariant-loop : tie.invariant-loop
-invariant-loop bytes blocks s₀ i₀ s i = (i ≤ blocks) × (cells s ≡ residueOf 7 bytes (5 + 11 * i))
+invariant-loop bytes blocks s₀ i₀ s i = (i ≤ blocks) × (cells s ≡ residue_of 7 bytes (5 + 11 * i))
 
 abbrev decreases-loop : tie.decreases-loop
 decreases-loop bytes blocks s₀ i₀ s i = blocks - i
@@ -20,8 +20,8 @@ loop-again : tie.Need-loop-preserved invariant-loop decreases-loop
 unfolding factors
 loop-again c = (
   block_within _ _ _ c.before.before.before.before.before.before.before.before.before.before.before.loop-test.true c.before.before.before.before.before.before.before.before.before.before.before.before.before.before.before.requires,
-  residue-turn _ _ _ c.before.before.before.before.before.before.before.before.before.before.before.before.loop.invariant.1
-      (eleven-places _ _ _ _
+  residue_turn _ _ _ c.before.before.before.before.before.before.before.before.before.before.before.before.loop.invariant.1
+      (eleven_places _ _ _ _
       c.before.before.before.before.before.before.before.before.before.before.step-7.ensures
       c.before.before.before.before.before.before.before.before.before.step-72.ensures
       c.before.before.before.before.before.before.before.before.step-73.ensures
@@ -41,18 +41,18 @@ residue-7-spec =
     (tie.spec
     invariant-loop
     decreases-loop
-    (λ c κs. search rules) (λ c. (search rules, residue-start _ _ c.first-five.ensures))
+    (λ c κs. search rules) (λ c. (search rules, residue_start _ _ c.first-five.ensures))
     (λ c. search rules) (λ c. search rules)
-    (λ c κs. place-first _ _ _ c.loop-test.true c.before.before.before.before.requires)
-    (λ c. place-fits _ _ _ c.before.loop-test.true c.before.before.before.before.before.requires 1 (lit< tt)) (λ c κs. place_inside _ _ _ c.before.loop-test.true c.before.before.before.before.before.requires 1 (lit< tt))
-    (λ c. place-fits _ _ _ c.before.before.loop-test.true c.before.before.before.before.before.before.requires 2 (lit< tt)) (λ c κs. place_inside _ _ _ c.before.before.loop-test.true c.before.before.before.before.before.before.requires 2 (lit< tt))
-    (λ c. place-fits _ _ _ c.before.before.before.loop-test.true c.before.before.before.before.before.before.before.requires 3 (lit< tt)) (λ c κs. place_inside _ _ _ c.before.before.before.loop-test.true c.before.before.before.before.before.before.before.requires 3 (lit< tt))
-    (λ c. place-fits _ _ _ c.before.before.before.before.loop-test.true c.before.before.before.before.before.before.before.before.requires 4 (lit< tt)) (λ c κs. place_inside _ _ _ c.before.before.before.before.loop-test.true c.before.before.before.before.before.before.before.before.requires 4 (lit< tt))
-    (λ c. place-fits _ _ _ c.before.before.before.before.before.loop-test.true c.before.before.before.before.before.before.before.before.before.requires 5 (lit< tt)) (λ c κs. place_inside _ _ _ c.before.before.before.before.before.loop-test.true c.before.before.before.before.before.before.before.before.before.requires 5 (lit< tt))
-    (λ c. place-fits _ _ _ c.before.before.before.before.before.before.loop-test.true c.before.before.before.before.before.before.before.before.before.before.requires 6 (lit< tt)) (λ c κs. place_inside _ _ _ c.before.before.before.before.before.before.loop-test.true c.before.before.before.before.before.before.before.before.before.before.requires 6 (lit< tt))
-    (λ c. place-fits _ _ _ c.before.before.before.before.before.before.before.loop-test.true c.before.before.before.before.before.before.before.before.before.before.before.requires 7 (lit< tt)) (λ c κs. place_inside _ _ _ c.before.before.before.before.before.before.before.loop-test.true c.before.before.before.before.before.before.before.before.before.before.before.requires 7 (lit< tt))
-    (λ c. place-fits _ _ _ c.before.before.before.before.before.before.before.before.loop-test.true c.before.before.before.before.before.before.before.before.before.before.before.before.requires 8 (lit< tt)) (λ c κs. place_inside _ _ _ c.before.before.before.before.before.before.before.before.loop-test.true c.before.before.before.before.before.before.before.before.before.before.before.before.requires 8 (lit< tt))
-    (λ c. place-fits _ _ _ c.before.before.before.before.before.before.before.before.before.loop-test.true c.before.before.before.before.before.before.before.before.before.before.before.before.before.requires 9 (lit< tt)) (λ c κs. place_inside _ _ _ c.before.before.before.before.before.before.before.before.before.loop-test.true c.before.before.before.before.before.before.before.before.before.before.before.before.before.requires 9 (lit< tt))
-    (λ c. place-fits _ _ _ c.before.before.before.before.before.before.before.before.before.before.loop-test.true c.before.before.before.before.before.before.before.before.before.before.before.before.before.before.requires 10 (lit< tt)) (λ c κs. place_inside _ _ _ c.before.before.before.before.before.before.before.before.before.before.loop-test.true c.before.before.before.before.before.before.before.before.before.before.before.before.before.before.requires 10 (lit< tt))
-    (λ c. block-fits _ _ _ c.before.before.before.before.before.before.before.before.before.before.before.loop-test.true c.before.before.before.before.before.before.before.before.before.before.before.before.before.before.before.requires) (λ c. block-less _ _ _ c.before.before.before.before.before.before.before.before.before.before.before.loop-test.true c.before.before.before.before.before.before.before.before.before.before.before.before.before.before.before.requires) loop-again
-    (λ c. residue-end _ _ _ _ c.before.loop.invariant.1 (search rules) (search rules)))
+    (λ c κs. place_first _ _ _ c.loop-test.true c.before.before.before.before.requires)
+    (λ c. place_fits _ _ _ c.before.loop-test.true c.before.before.before.before.before.requires 1 (lit< tt)) (λ c κs. place_inside _ _ _ c.before.loop-test.true c.before.before.before.before.before.requires 1 (lit< tt))
+    (λ c. place_fits _ _ _ c.before.before.loop-test.true c.before.before.before.before.before.before.requires 2 (lit< tt)) (λ c κs. place_inside _ _ _ c.before.before.loop-test.true c.before.before.before.before.before.before.requires 2 (lit< tt))
+    (λ c. place_fits _ _ _ c.before.before.before.loop-test.true c.before.before.before.before.before.before.before.requires 3 (lit< tt)) (λ c κs. place_inside _ _ _ c.before.before.before.loop-test.true c.before.before.before.before.before.before.before.requires 3 (lit< tt))
+    (λ c. place_fits _ _ _ c.before.before.before.before.loop-test.true c.before.before.before.before.before.before.before.before.requires 4 (lit< tt)) (λ c κs. place_inside _ _ _ c.before.before.before.before.loop-test.true c.before.before.before.before.before.before.before.before.requires 4 (lit< tt))
+    (λ c. place_fits _ _ _ c.before.before.before.before.before.loop-test.true c.before.before.before.before.before.before.before.before.before.requires 5 (lit< tt)) (λ c κs. place_inside _ _ _ c.before.before.before.before.before.loop-test.true c.before.before.before.before.before.before.before.before.before.requires 5 (lit< tt))
+    (λ c. place_fits _ _ _ c.before.before.before.before.before.before.loop-test.true c.before.before.before.before.before.before.before.before.before.before.requires 6 (lit< tt)) (λ c κs. place_inside _ _ _ c.before.before.before.before.before.before.loop-test.true c.before.before.before.before.before.before.before.before.before.before.requires 6 (lit< tt))
+    (λ c. place_fits _ _ _ c.before.before.before.before.before.before.before.loop-test.true c.before.before.before.before.before.before.before.before.before.before.before.requires 7 (lit< tt)) (λ c κs. place_inside _ _ _ c.before.before.before.before.before.before.before.loop-test.true c.before.before.before.before.before.before.before.before.before.before.before.requires 7 (lit< tt))
+    (λ c. place_fits _ _ _ c.before.before.before.before.before.before.before.before.loop-test.true c.before.before.before.before.before.before.before.before.before.before.before.before.requires 8 (lit< tt)) (λ c κs. place_inside _ _ _ c.before.before.before.before.before.before.before.before.loop-test.true c.before.before.before.before.before.before.before.before.before.before.before.before.requires 8 (lit< tt))
+    (λ c. place_fits _ _ _ c.before.before.before.before.before.before.before.before.before.loop-test.true c.before.before.before.before.before.before.before.before.before.before.before.before.before.requires 9 (lit< tt)) (λ c κs. place_inside _ _ _ c.before.before.before.before.before.before.before.before.before.loop-test.true c.before.before.before.before.before.before.before.before.before.before.before.before.before.requires 9 (lit< tt))
+    (λ c. place_fits _ _ _ c.before.before.before.before.before.before.before.before.before.before.loop-test.true c.before.before.before.before.before.before.before.before.before.before.before.before.before.before.requires 10 (lit< tt)) (λ c κs. place_inside _ _ _ c.before.before.before.before.before.before.before.before.before.before.loop-test.true c.before.before.before.before.before.before.before.before.before.before.before.before.before.before.requires 10 (lit< tt))
+    (λ c. block_fits _ _ _ c.before.before.before.before.before.before.before.before.before.before.before.loop-test.true c.before.before.before.before.before.before.before.before.before.before.before.before.before.before.before.requires) (λ c. block_less _ _ _ c.before.before.before.before.before.before.before.before.before.before.before.loop-test.true c.before.before.before.before.before.before.before.before.before.before.before.before.before.before.before.requires) loop-again
+    (λ c. residue_end _ _ _ _ c.before.loop.invariant.1 (search rules) (search rules)))

@@ -1,6 +1,6 @@
 -- `inner_words::odd_syndromes::odd_syndrome` meets its contract. Assumes nothing.
 use borrow.Author.Rules.{rules}
-use Rattle.inner_words.proofs.Passes.WordErrors.{Adding, adding-start, adding-next, adding-end, exponent-fits, exponent_small}
+use Rattle.inner_words.proofs.Passes.WordErrors.{Adding, adding_start, adding_next, adding_end, exponent_fits, exponent_small}
 use Prim.Native.Nat.{◌-◌}
 use Rattle.inner_words.proofs.odd_syndromes.odd_syndrome.Statement.{statement}
 use Rattle.inner_words.proofs.odd_syndromes.odd_syndrome.Tie as tie
@@ -12,7 +12,7 @@ abbrev decreases-loop : tie.decreases-loop
 decreases-loop exp residues k j v₀ i₀ v i = 11 - i
 
 loop-holds : tie.Need-loop-init invariant-loop decreases-loop
-loop-holds c = search (rules, adding-start)
+loop-holds c = search (rules, adding_start)
 
 mul-term : tie.Need-overflow-mul-term invariant-loop decreases-loop
 mul-term c = search rules
@@ -33,7 +33,7 @@ add-term-2 : tie.Need-overflow-add-term-2 invariant-loop decreases-loop
 add-term-2 c = search rules
 
 mul-term-4 : tie.Need-overflow-mul-term-4 invariant-loop decreases-loop
-mul-term-4 c = search (rules, exponent-fits)
+mul-term-4 c = search (rules, exponent_fits)
 
 cast-term : tie.Need-overflow-cast-term invariant-loop decreases-loop
 cast-term c = search (rules, exponent_small)
@@ -48,10 +48,10 @@ loop-less : tie.Need-loop-smaller invariant-loop decreases-loop
 loop-less c = search rules
 
 loop-again : tie.Need-loop-preserved invariant-loop decreases-loop
-loop-again c = search (rules, adding-next)
+loop-again c = search (rules, adding_next)
 
 returns : tie.Need-returns invariant-loop decreases-loop
-returns c = search (rules, adding-end)
+returns c = search (rules, adding_end)
 
 pub odd-syndrome-spec : {M : Type 1} → statement M
 odd-syndrome-spec =

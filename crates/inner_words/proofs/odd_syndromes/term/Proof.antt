@@ -1,6 +1,6 @@
 -- `inner_words::odd_syndromes::term` meets its contract. Assumes nothing.
 use borrow.Author.Rules.{rules}
-use Rattle.inner_words.proofs.Passes.WordErrors.{bit-fits, term_fits, term_is}
+use Rattle.inner_words.proofs.Passes.WordErrors.{bit_fits, term_fits, term_is}
 use Rattle.inner_words.proofs.odd_syndromes.term.Statement.{statement}
 use Rattle.inner_words.proofs.odd_syndromes.term.Tie as tie
 
@@ -14,7 +14,7 @@ shr-c : tie.Need-overflow-shr-c
 shr-c c = search rules
 
 cast-c : tie.Need-overflow-cast-c
-cast-c c = search (rules, bit-fits)
+cast-c c = search (rules, bit_fits)
 
 power-requires : tie.Need-power-requires
 power-requires c κs = search rules

@@ -1,6 +1,6 @@
 -- `inner_words::one_by_one::correct_word` meets its contract. Assumes nothing.
 use borrow.Author.Rules.{rules}
-use Rattle.inner_words.proofs.Passes.WordErrors.{not-explained, word-explained}
+use Rattle.inner_words.proofs.Passes.WordErrors.{not_explained, word_explained}
 use Rattle.inner_words.proofs.one_by_one.correct_word.Statement.{statement}
 use Rattle.inner_words.proofs.one_by_one.correct_word.Tie as tie
 
@@ -17,7 +17,7 @@ same_length : tie.Need-same-length
 same_length c = search rules
 
 returns : tie.Need-returns
-returns c = (search (rules, not-explained), search rules)
+returns c = (search (rules, not_explained), search rules)
 
 invert-requires : tie.Need-invert-requires
 invert-requires c κs = search rules
@@ -29,7 +29,7 @@ same-length-3 : tie.Need-same-length-3
 same-length-3 c = search rules
 
 returns-2 : tie.Need-returns-2
-returns-2 c = (search (rules, word-explained), search rules)
+returns-2 c = (search (rules, word_explained), search rules)
 
 pub correct-word-spec : {M : Type 1} → statement M
 correct-word-spec =

@@ -1,6 +1,6 @@
 -- `inner_words::one_by_one::correct_wrong` meets its contract. Assumes nothing.
 use borrow.Author.Rules.{rules}
-use Rattle.inner_words.proofs.Passes.InnerPass.{wrong-residues, right-restored}
+use Rattle.inner_words.proofs.Passes.InnerPass.{wrong_residues, right_restored}
 use Rattle.inner_words.proofs.one_by_one.correct_wrong.Statement.{statement}
 use Rattle.inner_words.proofs.one_by_one.correct_wrong.Tie as tie
 
@@ -14,7 +14,7 @@ shr-if1 : tie.Need-overflow-shr-if1
 shr-if1 c = search rules
 
 correct-word-requires : tie.Need-correct-word-requires
-correct-word-requires c κs = (search rules, (search rules, search rules, search rules, search (rules, wrong-residues)))
+correct-word-requires c κs = (search rules, (search rules, search rules, search rules, search (rules, wrong_residues)))
 
 same_length : tie.Need-same-length
 same_length c = search rules
@@ -26,7 +26,7 @@ returns : tie.Need-returns
 returns c = search rules
 
 returns-2 : tie.Need-returns-2
-returns-2 c = (search (rules, right-restored), search rules)
+returns-2 c = (search (rules, right_restored), search rules)
 
 pub correct-wrong-spec : {M : Type 1} → statement M
 correct-wrong-spec =

@@ -2,7 +2,7 @@
 use Prim.Native.Nat.{◌-◌, ◌*◌}
 use borrow.Author.Rules.{rules}
 use Rattle.fields.proofs.Places.Filling.{Filled}
-use Rattle.inner_words.proofs.ParityPlaces.ParitySteps.{sum_at, sums-start, sums_next, sums-end}
+use Rattle.inner_words.proofs.ParityPlaces.ParitySteps.{sum_at, sums_start, sums_next, sums_end}
 use Rattle.inner_words.proofs.parity.four_sums.Statement.{statement}
 use Rattle.inner_words.proofs.parity.four_sums.Tie as tie
 
@@ -13,7 +13,7 @@ abbrev decreases-loop : tie.decreases-loop
 decreases-loop numbers out₀ g₀ out g = 22 - g
 
 loop-holds : tie.Need-loop-init invariant-loop decreases-loop
-loop-holds c = search (rules, sums-start)
+loop-holds c = search (rules, sums_start)
 
 mul-i : tie.Need-overflow-mul-i invariant-loop decreases-loop
 mul-i c = search rules
@@ -76,7 +76,7 @@ loop-again : tie.Need-loop-preserved invariant-loop decreases-loop
 loop-again c = search (rules, sums_next)
 
 returns : tie.Need-returns invariant-loop decreases-loop
-returns c = search (rules, sums-end)
+returns c = search (rules, sums_end)
 
 pub four-sums-spec : {M : Type 1} → statement M
 four-sums-spec =

@@ -1,14 +1,14 @@
 -- `inner_words::parity::from_residues` meets its contract. Assumes nothing.
 use Prim.Native.Nat.{◌-◌}
 use borrow.Author.Rules.{rules}
-use Rattle.fields.proofs.Places.Filling.{Filled, filled-start}
-use Rattle.inner_words.specs.Steps.ParityMatrix.{parityMatrix, fourSums, paritySum}
-use Rattle.inner_words.proofs.ParityPlaces.ParitySteps.{places-next, places-end}
+use Rattle.fields.proofs.Places.Filling.{Filled, filled_start}
+use Rattle.inner_words.specs.Steps.ParityMatrix.{parity_matrix, four_sums, parity_sum}
+use Rattle.inner_words.proofs.ParityPlaces.ParitySteps.{places_next, places_end}
 use Rattle.inner_words.proofs.parity.from_residues.Statement.{statement}
 use Rattle.inner_words.proofs.parity.from_residues.Tie as tie
 
 abbrev invariant-loop : tie.invariant-loop
-invariant-loop residues sums matrix out₀ q₀ out q = Filled 88 (paritySum (fourSums residues) parityMatrix) q out
+invariant-loop residues sums matrix out₀ q₀ out q = Filled 88 (parity_sum (four_sums residues) parity_matrix) q out
 
 abbrev decreases-loop : tie.decreases-loop
 decreases-loop residues sums matrix out₀ q₀ out q = 88 - q
@@ -20,7 +20,7 @@ matrix-requires : tie.Need-matrix-requires invariant-loop decreases-loop
 matrix-requires c κs = search rules
 
 loop-holds : tie.Need-loop-init invariant-loop decreases-loop
-loop-holds c = search (rules, filled-start)
+loop-holds c = search (rules, filled_start)
 
 slice-aggregate-parity-sum : tie.Need-slice-aggregate-parity-sum invariant-loop decreases-loop
 slice-aggregate-parity-sum c = search rules
@@ -44,10 +44,10 @@ loop-less : tie.Need-loop-smaller invariant-loop decreases-loop
 loop-less c = search rules
 
 loop-again : tie.Need-loop-preserved invariant-loop decreases-loop
-loop-again c = search (rules, places-next)
+loop-again c = search (rules, places_next)
 
 returns : tie.Need-returns invariant-loop decreases-loop
-returns c = search (rules, places-end)
+returns c = search (rules, places_end)
 
 pub from-residues-spec : {M : Type 1} → statement M
 from-residues-spec =

@@ -2,13 +2,13 @@
 use mathlib.Core.Path.{◌≡◌}
 use Prim.Native.Nat.{◌-◌, ◌*◌, ◌≤◌}
 use borrow.Author.Rules.{rules}
-use Rattle.decoding.specs.Steps.Decoder.{xorTo}
-use Rattle.inner_words.proofs.ParityPlaces.ParitySteps.{placeTerm, place_none, place-next, place_end}
+use Rattle.decoding.specs.Steps.Decoder.{xor_to}
+use Rattle.inner_words.proofs.ParityPlaces.ParitySteps.{place_term, place_none, place_next, place_end}
 use Rattle.inner_words.proofs.parity.parity_sum.Statement.{statement}
 use Rattle.inner_words.proofs.parity.parity_sum.Tie as tie
 
 abbrev invariant-loop : tie.invariant-loop
-invariant-loop sums matrix q x₀ m₀ x m = (m ≤ 11) × (x ≡ xorTo (2 * m) (placeTerm sums matrix q))
+invariant-loop sums matrix q x₀ m₀ x m = (m ≤ 11) × (x ≡ xor_to (2 * m) (place_term sums matrix q))
 
 abbrev decreases-loop : tie.decreases-loop
 decreases-loop sums matrix q x₀ m₀ x m = 11 - m
@@ -71,7 +71,7 @@ loop-less : tie.Need-loop-smaller invariant-loop decreases-loop
 loop-less c = search rules
 
 loop-again : tie.Need-loop-preserved invariant-loop decreases-loop
-loop-again c = search (rules, place-next)
+loop-again c = search (rules, place_next)
 
 returns : tie.Need-returns invariant-loop decreases-loop
 returns c = search (rules, place_end)

@@ -1,7 +1,7 @@
 -- `inner_words::places::byte` meets its contract. Assumes nothing.
 use borrow.Author.Rules.{rules}
-use Rattle.words.proofs.Bits.Numbers.{eight-fit}
-use Rattle.inner_words.proofs.Interleaving.EightBytes.{byte-made}
+use Rattle.words.proofs.Bits.Numbers.{eight_fit}
+use Rattle.inner_words.proofs.Interleaving.EightBytes.{byte_made}
 use Rattle.inner_words.proofs.places.byte.Statement.{statement}
 use Rattle.inner_words.proofs.places.byte.Tie as tie
 
@@ -15,10 +15,10 @@ shr-result : tie.Need-overflow-shr-result
 shr-result c = search rules
 
 cast-result : tie.Need-overflow-cast-result
-cast-result c = search (rules, eight-fit)
+cast-result c = search (rules, eight_fit)
 
 returns : tie.Need-returns
-returns c = search (rules, byte-made)
+returns c = search (rules, byte_made)
 
 pub byte-spec : {M : Type 1} → statement M
 byte-spec = tie.close (tie.spec mul-result sub-result shr-result cast-result returns)

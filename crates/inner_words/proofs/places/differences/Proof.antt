@@ -1,20 +1,20 @@
 -- `inner_words::places::differences` meets its contract. Assumes nothing.
 use Prim.Native.Nat.{◌-◌}
 use borrow.Author.Rules.{rules}
-use Rattle.fields.proofs.Places.Filling.{Filled, filled-start, filled-end}
-use Rattle.inner_words.specs.Steps.InnerResidues.{differenceFrom}
-use Rattle.inner_words.proofs.Interleaving.EightBytes.{difference-next}
+use Rattle.fields.proofs.Places.Filling.{Filled, filled_start, filled_end}
+use Rattle.inner_words.specs.Steps.InnerResidues.{difference_from}
+use Rattle.inner_words.proofs.Interleaving.EightBytes.{difference_next}
 use Rattle.inner_words.proofs.places.differences.Statement.{statement}
 use Rattle.inner_words.proofs.places.differences.Tie as tie
 
 abbrev invariant-loop : tie.invariant-loop
-invariant-loop block frame p out₀ q₀ out q = Filled 8 (differenceFrom block frame p) q out
+invariant-loop block frame p out₀ q₀ out q = Filled 8 (difference_from block frame p) q out
 
 abbrev decreases-loop : tie.decreases-loop
 decreases-loop block frame p out₀ q₀ out q = 8 - q
 
 loop-holds : tie.Need-loop-init invariant-loop decreases-loop
-loop-holds c = search (rules, filled-start)
+loop-holds c = search (rules, filled_start)
 
 add-load : tie.Need-overflow-add-load invariant-loop decreases-loop
 add-load c = search rules
@@ -41,13 +41,13 @@ loop-less : tie.Need-loop-smaller invariant-loop decreases-loop
 loop-less c = search rules
 
 loop-again : tie.Need-loop-preserved invariant-loop decreases-loop
-loop-again c = search (rules, difference-next)
+loop-again c = search (rules, difference_next)
 
 same_length : tie.Need-same-length invariant-loop decreases-loop
 same_length c = search rules
 
 returns : tie.Need-returns invariant-loop decreases-loop
-returns c = search (rules, filled-end)
+returns c = search (rules, filled_end)
 
 pub differences-spec : {M : Type 1} → statement M
 differences-spec =

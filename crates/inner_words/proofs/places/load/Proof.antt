@@ -1,6 +1,6 @@
 -- `inner_words::places::load` meets its contract. Assumes nothing.
 use borrow.Author.Rules.{rules}
-use Rattle.inner_words.proofs.Interleaving.EightBytes.{byte_fits, load-made}
+use Rattle.inner_words.proofs.Interleaving.EightBytes.{byte_fits, load_made}
 use Rattle.inner_words.proofs.places.load.Statement.{statement}
 use Rattle.inner_words.proofs.places.load.Tie as tie
 
@@ -77,7 +77,7 @@ cast-result-8 : tie.Need-overflow-cast-result-8
 cast-result-8 c = byte_fits (c.shared-slice-known8.given _)
 
 returns : tie.Need-returns
-returns c = load-made _ _ c.shared-slice-known8.given
+returns c = load_made _ _ c.shared-slice-known8.given
 
 pub load_spec : {M : Type 1} → statement M
 load_spec =

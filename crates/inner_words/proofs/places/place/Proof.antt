@@ -1,6 +1,6 @@
 -- `inner_words::places::place` meets its contract. Assumes nothing.
 use borrow.Author.Rules.{rules}
-use Rattle.inner_words.proofs.Interleaving.EightBytes.{byte_fits, place-made}
+use Rattle.inner_words.proofs.Interleaving.EightBytes.{byte_fits, place_made}
 use Rattle.inner_words.proofs.places.place.Statement.{statement}
 use Rattle.inner_words.proofs.places.place.Tie as tie
 
@@ -77,7 +77,7 @@ cast-result-8 : tie.Need-overflow-cast-result-8
 cast-result-8 c = byte_fits (c.shared-slice-known8.given _)
 
 returns : tie.Need-returns
-returns c = place-made _ _ c.shared-slice-known8.given
+returns c = place_made _ _ c.shared-slice-known8.given
 
 pub place-spec : {M : Type 1} → statement M
 place-spec =

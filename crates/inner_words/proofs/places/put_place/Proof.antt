@@ -1,21 +1,21 @@
 -- `inner_words::places::put_place` meets its contract. Assumes nothing.
 use borrow.Author.Rules.{rules}
 use Rattle.fields.specs.Lists.{tabulate}
-use Rattle.fields.proofs.Places.Placing.{Placing, placing-start}
-use Rattle.inner_words.specs.Steps.BitSliced.{byteOf64}
-use Rattle.inner_words.proofs.Passes.FlippedPlaces.{putting-byte, putting-all}
+use Rattle.fields.proofs.Places.Placing.{Placing, placing_start}
+use Rattle.inner_words.specs.Steps.BitSliced.{byte_of64}
+use Rattle.inner_words.proofs.Passes.FlippedPlaces.{putting_byte, putting_all}
 use Prim.Native.Nat.{◌-◌, ◌*◌, ◌≤◌}
 use Rattle.inner_words.proofs.places.put_place.Statement.{statement}
 use Rattle.inner_words.proofs.places.put_place.Tie as tie
 
 abbrev invariant-loop : tie.invariant-loop
-invariant-loop block₀ p x j₀ block j = (j ≤ 8) × Placing (8 * p) (tabulate 8 (byteOf64 x)) j block₀ block
+invariant-loop block₀ p x j₀ block j = (j ≤ 8) × Placing (8 * p) (tabulate 8 (byte_of64 x)) j block₀ block
 
 abbrev decreases-loop : tie.decreases-loop
 decreases-loop block₀ p x j₀ block j = 8 - j
 
 loop-holds : tie.Need-loop-init invariant-loop decreases-loop
-loop-holds c = search (rules, placing-start)
+loop-holds c = search (rules, placing_start)
 
 byte-requires : tie.Need-byte-requires invariant-loop decreases-loop
 byte-requires c κs = search rules
@@ -36,13 +36,13 @@ loop-less : tie.Need-loop-smaller invariant-loop decreases-loop
 loop-less c = search rules
 
 loop-again : tie.Need-loop-preserved invariant-loop decreases-loop
-loop-again c = (search rules, putting-byte _ c.before.before.loop.invariant.1 (search rules) (search rules) (search rules))
+loop-again c = (search rules, putting_byte _ c.before.before.loop.invariant.1 (search rules) (search rules) (search rules))
 
 same_length : tie.Need-same-length invariant-loop decreases-loop
 same_length c = search rules
 
 returns : tie.Need-returns invariant-loop decreases-loop
-returns c = search (rules, putting-all)
+returns c = search (rules, putting_all)
 
 pub put-place-spec : {M : Type 1} → statement M
 put-place-spec =

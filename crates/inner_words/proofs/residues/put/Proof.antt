@@ -2,7 +2,7 @@
 use Prim.Native.Nat.{◌-◌}
 use borrow.Author.Rules.{rules}
 use lib.ListN.{length}
-use Rattle.fields.proofs.Places.Placing.{Placing, placing-start, placing-next, placing-end}
+use Rattle.fields.proofs.Places.Placing.{Placing, placing_start, placing_next, placing_end}
 use Rattle.inner_words.proofs.residues.put.Statement.{statement}
 use Rattle.inner_words.proofs.residues.put.Tie as tie
 
@@ -13,7 +13,7 @@ abbrev decreases-loop : tie.decreases-loop
 decreases-loop numbers i out₀ k₀ out k = length numbers - k
 
 loop-holds : tie.Need-loop-init invariant-loop decreases-loop
-loop-holds c = search (rules, placing-start)
+loop-holds c = search (rules, placing_start)
 
 mul-out : tie.Need-overflow-mul-out invariant-loop decreases-loop
 mul-out c = search rules
@@ -37,13 +37,13 @@ loop-less : tie.Need-loop-smaller invariant-loop decreases-loop
 loop-less c = search rules
 
 loop-again : tie.Need-loop-preserved invariant-loop decreases-loop
-loop-again c = search (rules, placing-next)
+loop-again c = search (rules, placing_next)
 
 same_length : tie.Need-same-length invariant-loop decreases-loop
 same_length c = search rules
 
 returns : tie.Need-returns invariant-loop decreases-loop
-returns c = search (rules, placing-end)
+returns c = search (rules, placing_end)
 
 pub put_spec : {M : Type 1} → statement M
 put_spec =

@@ -2,18 +2,18 @@
 use Prim.Native.Nat.{◌+◌, ◌-◌, ◌*◌}
 use borrow.Author.Rules.{rules}
 use Rattle.fields.proofs.Places.Filling.{Filled}
-use Rattle.inner_words.proofs.Remainders.ResidueSteps.{residueAt, residues-start, residues-next, residues-end}
+use Rattle.inner_words.proofs.Remainders.ResidueSteps.{residue_at, residues_start, residues_next, residues_end}
 use Rattle.inner_words.proofs.residues.residues.Statement.{statement}
 use Rattle.inner_words.proofs.residues.residues.Tie as tie
 
 abbrev invariant-loop : tie.invariant-loop
-invariant-loop bytes blocks out₀ j₀ out j = Filled 88 (residueAt bytes (5 + 11 * blocks)) (11 * j) out
+invariant-loop bytes blocks out₀ j₀ out j = Filled 88 (residue_at bytes (5 + 11 * blocks)) (11 * j) out
 
 abbrev decreases-loop : tie.decreases-loop
 decreases-loop bytes blocks out₀ j₀ out j = 8 - j
 
 loop-holds : tie.Need-loop-init invariant-loop decreases-loop
-loop-holds c = search (rules, residues-start)
+loop-holds c = search (rules, residues_start)
 
 residue-requires : tie.Need-residue-requires invariant-loop decreases-loop
 residue-requires c κs = search rules
@@ -40,7 +40,7 @@ loop-less : tie.Need-loop-smaller invariant-loop decreases-loop
 loop-less c = search rules
 
 loop-again : tie.Need-loop-preserved invariant-loop decreases-loop
-loop-again c = search (rules, residues-next)
+loop-again c = search (rules, residues_next)
 
 slice-aggregate-turn : tie.Need-slice-aggregate-turn invariant-loop decreases-loop
 slice-aggregate-turn c = search rules
@@ -49,7 +49,7 @@ turn-requires : tie.Need-turn-requires invariant-loop decreases-loop
 turn-requires c κs = search rules
 
 returns : tie.Need-returns invariant-loop decreases-loop
-returns c = search (rules, residues-end)
+returns c = search (rules, residues_end)
 
 pub residues-spec : {M : Type 1} → statement M
 residues-spec =

@@ -1,12 +1,12 @@
 -- `inner_words::residues::swapped` meets its contract. Assumes nothing.
 use borrow.Author.Rules.{rules}
-use Rattle.inner_words.proofs.Interleaving.EightBytes.{swapped-made}
+use Rattle.inner_words.proofs.Interleaving.EightBytes.{swapped_made}
 use Rattle.inner_words.proofs.residues.swapped.Statement.{statement}
 use Rattle.inner_words.proofs.residues.swapped.Tie as tie
 
 returns : tie.Need-returns
 returns c =
-    swapped-made _
+    swapped_made _
     c.before.before.before.before.before.before.before.byte.ensures
     c.before.before.before.before.before.before.byte2.ensures
     c.before.before.before.before.before.byte3.ensures

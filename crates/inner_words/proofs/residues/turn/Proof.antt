@@ -1,19 +1,19 @@
 -- `inner_words::residues::turn` meets its contract. Assumes nothing.
 use Prim.Native.Nat.{◌-◌}
 use borrow.Author.Rules.{rules}
-use Rattle.fields.proofs.Places.Filling.{FilledOver, over-start}
-use Rattle.inner_words.proofs.Remainders.ResidueSteps.{swappedAt, turn-next, turn_end}
+use Rattle.fields.proofs.Places.Filling.{FilledOver, over_start}
+use Rattle.inner_words.proofs.Remainders.ResidueSteps.{swapped_at, turn_next, turn_end}
 use Rattle.inner_words.proofs.residues.turn.Statement.{statement}
 use Rattle.inner_words.proofs.residues.turn.Tie as tie
 
 abbrev invariant-loop : tie.invariant-loop
-invariant-loop cells₀ c₀ cells c = FilledOver 88 (swappedAt cells₀) cells₀ c cells
+invariant-loop cells₀ c₀ cells c = FilledOver 88 (swapped_at cells₀) cells₀ c cells
 
 abbrev decreases-loop : tie.decreases-loop
 decreases-loop cells₀ c₀ cells c = 88 - c
 
 loop-holds : tie.Need-loop-init invariant-loop decreases-loop
-loop-holds c = search (rules, over-start)
+loop-holds c = search (rules, over_start)
 
 mul-swapped : tie.Need-overflow-mul-swapped invariant-loop decreases-loop
 mul-swapped c = search rules
@@ -37,7 +37,7 @@ loop-less : tie.Need-loop-smaller invariant-loop decreases-loop
 loop-less c = search rules
 
 loop-again : tie.Need-loop-preserved invariant-loop decreases-loop
-loop-again c = search (rules, turn-next)
+loop-again c = search (rules, turn_next)
 
 same_length : tie.Need-same-length invariant-loop decreases-loop
 same_length c = search rules

@@ -2,21 +2,21 @@
 use mathlib.Core.Path.{◌≡◌}
 use Prim.Native.Nat.{◌-◌, ◌≤◌}
 use borrow.Author.Rules.{rules}
-use Rattle.lanes.specs.Steps.Sliced.{orTo}
-use Rattle.lanes.proofs.Sliced.{some-none, some_end}
+use Rattle.lanes.specs.Steps.Sliced.{or_to}
+use Rattle.lanes.proofs.Sliced.{some_none, some_end}
 use Rattle.inner_words.specs.Steps.InnerResidues.{sum_at}
 use Rattle.inner_words.proofs.Remainders.ResidueSteps.{sums_next}
 use Rattle.inner_words.proofs.residues.wrong_sums.Statement.{statement}
 use Rattle.inner_words.proofs.residues.wrong_sums.Tie as tie
 
 abbrev invariant-loop : tie.invariant-loop
-invariant-loop residues added x₀ i₀ x i = (i ≤ 88) × (x ≡ orTo i (sum_at residues added))
+invariant-loop residues added x₀ i₀ x i = (i ≤ 88) × (x ≡ or_to i (sum_at residues added))
 
 abbrev decreases-loop : tie.decreases-loop
 decreases-loop residues added x₀ i₀ x i = 88 - i
 
 loop-holds : tie.Need-loop-init invariant-loop decreases-loop
-loop-holds c = search (rules, some-none)
+loop-holds c = search (rules, some_none)
 
 mul-x : tie.Need-overflow-mul-x invariant-loop decreases-loop
 mul-x c = search rules

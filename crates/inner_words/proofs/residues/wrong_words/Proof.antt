@@ -1,6 +1,6 @@
 -- `inner_words::residues::wrong_words` meets its contract. Assumes nothing.
 use borrow.Author.Rules.{rules}
-use Rattle.inner_words.proofs.Remainders.ResidueCodes.{words-wrong}
+use Rattle.inner_words.proofs.Remainders.ResidueCodes.{words_wrong}
 use Rattle.inner_words.proofs.residues.wrong_words.Statement.{statement}
 use Rattle.inner_words.proofs.residues.wrong_words.Tie as tie
 
@@ -14,7 +14,7 @@ wrong-requires : tie.Need-wrong-requires
 wrong-requires c κs = search rules
 
 returns : tie.Need-returns
-returns c = search (rules, words-wrong)
+returns c = search (rules, words_wrong)
 
 pub wrong-words-spec : {M : Type 1} → statement M
 wrong-words-spec = tie.close (tie.spec residues-requires slice-aggregate-wrong wrong-requires returns)

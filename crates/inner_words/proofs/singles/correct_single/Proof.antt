@@ -1,6 +1,6 @@
 -- `inner_words::singles::correct_single` meets its contract. Assumes nothing.
 use borrow.Author.Rules.{rules}
-use Rattle.inner_words.proofs.Passes.SingleErrors.{untrue, unfalse, powers-are, value-given, single-restored}
+use Rattle.inner_words.proofs.Passes.SingleErrors.{untrue, unfalse, powers_are, value_given, single_restored}
 use Rattle.inner_words.proofs.singles.correct_single.Statement.{statement}
 use Rattle.inner_words.proofs.singles.correct_single.Tie as tie
 
@@ -20,13 +20,13 @@ returns : tie.Need-returns
 returns c = (λ q. untrue q, λ q. search rules)
 
 power-requires : tie.Need-power-requires
-power-requires c κs = search (rules, powers-are)
+power-requires c κs = search (rules, powers_are)
 
 returns-2 : tie.Need-returns-2
 returns-2 c = (λ q. untrue q, λ q. search rules)
 
 is-single-requires : tie.Need-is-single-requires
-is-single-requires c κs = (search (rules, powers-are), search (rules, value-given))
+is-single-requires c κs = (search (rules, powers_are), search (rules, value_given))
 
 returns-3 : tie.Need-returns-3
 returns-3 c = (λ q. untrue q, λ q. search rules)
@@ -50,7 +50,7 @@ same_length : tie.Need-same-length
 same_length c = search rules
 
 returns-4 : tie.Need-returns-4
-returns-4 c = (λ q. search (rules, single-restored), λ q. unfalse q)
+returns-4 c = (λ q. search (rules, single_restored), λ q. unfalse q)
 
 pub correct-single-spec : {M : Type 1} → statement M
 correct-single-spec =

@@ -5,7 +5,7 @@ use borrow.Author.Rules.{rules}
 use lib.ListN.{length}
 use Rattle.fields.specs.Places.{at}
 use Rattle.lanes.specs.Steps.Counters.{Carried}
-use Rattle.lanes.proofs.CarrySave.{carried-start, carried-next, carried-end}
+use Rattle.lanes.proofs.CarrySave.{carried_start, carried_next, carried_end}
 use Rattle.lanes.proofs.counters.count.Statement.{statement}
 use Rattle.lanes.proofs.counters.count.Tie as tie
 
@@ -16,7 +16,7 @@ abbrev decreases-loop : tie.decreases-loop
 decreases-loop xs n carries₀ s₀ i₀ carries s i = n - i
 
 loop-holds : tie.Need-loop-init invariant-loop decreases-loop
-loop-holds c = search (rules, carried-start)
+loop-holds c = search (rules, carried_start)
 
 mul-eight-more : tie.Need-overflow-mul-eight-more invariant-loop decreases-loop
 mul-eight-more c = search rules
@@ -37,13 +37,13 @@ loop-less : tie.Need-loop-smaller invariant-loop decreases-loop
 loop-less c = search rules
 
 loop-again : tie.Need-loop-preserved invariant-loop decreases-loop
-loop-again c = search (rules, carried-next)
+loop-again c = search (rules, carried_next)
 
 same_length : tie.Need-same-length invariant-loop decreases-loop
 same_length c = search rules
 
 returns : tie.Need-returns invariant-loop decreases-loop
-returns c = search (rules, carried-end)
+returns c = search (rules, carried_end)
 
 pub count_spec : {M : Type 1} → statement M
 count_spec =

@@ -1,7 +1,7 @@
 -- `lanes::counters::eight_more` meets its contract. Assumes nothing.
 use native.Mathlib.Omega.{arith}
 use borrow.Author.Rules.{rules}
-use Rattle.lanes.proofs.CarrySave.{eight-added}
+use Rattle.lanes.proofs.CarrySave.{eight_added}
 use Rattle.lanes.proofs.counters.eight_more.Statement.{statement}
 use Rattle.lanes.proofs.counters.eight_more.Tie as tie
 
@@ -11,7 +11,7 @@ returns c =
     let e = d.before.before.before in
     let f = e.before.before.before in
     let g = f.before.before.before in
-    eight-added (λ k.
+    eight_added (λ k.
     omega (
       arith,
       g.full-adder.ensures k,

@@ -1,7 +1,7 @@
 -- `lanes::counters::numbers` meets its contract. Assumes nothing.
 use Prim.Native.Nat.{◌-◌}
 use borrow.Author.Rules.{rules}
-use Rattle.lanes.proofs.CarrySave.{Weighing, weighing-start, weighing-few, weighing-light, weighing-double, weighing-next, weighing-end}
+use Rattle.lanes.proofs.CarrySave.{Weighing, weighing_start, weighing_few, weighing_light, weighing_double, weighing_next, weighing_end}
 use Rattle.lanes.proofs.counters.numbers.Statement.{statement}
 use Rattle.lanes.proofs.counters.numbers.Tie as tie
 
@@ -12,7 +12,7 @@ abbrev decreases-loop : tie.decreases-loop
 decreases-loop planes counts₀ weight₀ i₀ counts weight i = 12 - i
 
 loop-holds : tie.Need-loop-init invariant-loop decreases-loop
-loop-holds c = search (rules, weighing-start)
+loop-holds c = search (rules, weighing_start)
 
 slice-aggregate-add-plane : tie.Need-slice-aggregate-add-plane invariant-loop decreases-loop
 slice-aggregate-add-plane c = search rules
@@ -24,10 +24,10 @@ element-copy-out-add-plane : tie.Need-element-copy-out-add-plane invariant-loop 
 element-copy-out-add-plane c = search rules
 
 add-plane-requires : tie.Need-add-plane-requires invariant-loop decreases-loop
-add-plane-requires c κs = search (rules, weighing-light, weighing-few)
+add-plane-requires c κs = search (rules, weighing_light, weighing_few)
 
 mul-weight : tie.Need-overflow-mul-weight invariant-loop decreases-loop
-mul-weight c = search (rules, weighing-double)
+mul-weight c = search (rules, weighing_double)
 
 add-i : tie.Need-overflow-add-i invariant-loop decreases-loop
 add-i c = search rules
@@ -36,10 +36,10 @@ loop-less : tie.Need-loop-smaller invariant-loop decreases-loop
 loop-less c = search rules
 
 loop-again : tie.Need-loop-preserved invariant-loop decreases-loop
-loop-again c = search (rules, weighing-next)
+loop-again c = search (rules, weighing_next)
 
 returns : tie.Need-returns invariant-loop decreases-loop
-returns c = search (rules, weighing-end)
+returns c = search (rules, weighing_end)
 
 pub numbers-spec : {M : Type 1} → statement M
 numbers-spec =

@@ -11,7 +11,7 @@ unfolding lane times
 returns c =
     λ k.
     let p10 = first_bit k _ _ (c.before.before.before.before.before.before.before.before.before.before.masked.ensures k) in
-    let p9 = next_bit k 1 _ _ _ p10 (c.before.before.before.before.before.before.before.before.before.product-step.ensures k) in
+    let p9 = next_bit k 1 _ _ _ p10 (c.before.before.before.before.before.before.before.before.before.product_step.ensures k) in
     let p8 = next_bit k 2 _ _ _ p9 (c.before.before.before.before.before.before.before.before.product-step2.ensures k) in
     let p7 = next_bit k 3 _ _ _ p8 (c.before.before.before.before.before.before.before.product-step3.ensures k) in
     let p6 = next_bit k 4 _ _ _ p7 (c.before.before.before.before.before.before.product-step4.ensures k) in

@@ -1,7 +1,7 @@
 -- `words::bch::coefficient` meets its contract. Assumes nothing.
 use native.Mathlib.Omega.{arith}
 use borrow.Author.Rules.{rules}
-use Rattle.words.proofs.Steps.Inner.{coefficient-low, coefficient-high}
+use Rattle.words.proofs.Steps.Inner.{coefficient_low, coefficient_high}
 use Rattle.words.proofs.bch.coefficient.Statement.{statement}
 use Rattle.words.proofs.bch.coefficient.Tie as tie
 
@@ -18,7 +18,7 @@ cast-result : tie.Need-overflow-cast-result
 cast-result c = search rules
 
 returns : tie.Need-returns
-returns c = (coefficient-low _ _ _ (omega arith) (omega arith) (omega arith), omega arith)
+returns c = (coefficient_low _ _ _ (omega arith) (omega arith) (omega arith), omega arith)
 
 shr-result-2 : tie.Need-overflow-shr-result-2
 shr-result-2 c = search rules
@@ -27,7 +27,7 @@ cast-result-2 : tie.Need-overflow-cast-result-2
 cast-result-2 c = search rules
 
 returns-2 : tie.Need-returns-2
-returns-2 c = (coefficient-high _ _ _ (omega arith) (omega arith) (omega arith), omega arith)
+returns-2 c = (coefficient_high _ _ _ (omega arith) (omega arith) (omega arith), omega arith)
 
 pub coefficient-spec : {M : Type 1} → statement M
 coefficient-spec =

@@ -1,6 +1,6 @@
 -- `words::bch::errors` meets its contract. Assumes nothing.
 use borrow.Author.Rules.{rules}
-use Rattle.words.proofs.Steps.Inner.{word-errors}
+use Rattle.words.proofs.Steps.Inner.{word_errors}
 use Rattle.words.proofs.bch.errors.Statement.{statement}
 use Rattle.words.proofs.bch.errors.Tie as tie
 
@@ -17,7 +17,7 @@ errors-of-requires : tie.Need-errors-of-requires
 errors-of-requires c κs = search rules
 
 returns : tie.Need-returns
-returns c = search (rules, word-errors)
+returns c = search (rules, word_errors)
 
 pub errors-spec : {M : Type 1} → statement M
 errors-spec =

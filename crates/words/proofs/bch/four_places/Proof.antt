@@ -1,6 +1,6 @@
 -- `words::bch::four_places` meets its contract. Assumes nothing.
 use borrow.Author.Rules.{rules}
-use Rattle.words.proofs.Bits.Bytes.{half-read, half-past, half_lt}
+use Rattle.words.proofs.Bits.Bytes.{half_read, half_past, half_lt}
 use Rattle.words.proofs.bch.four_places.Statement.{statement}
 use Rattle.words.proofs.bch.four_places.Tie as tie
 
@@ -20,10 +20,10 @@ shr-result : tie.Need-overflow-shr-result
 shr-result c = search rules
 
 returns : tie.Need-returns
-returns c = search (rules, half-read, half_lt)
+returns c = search (rules, half_read, half_lt)
 
 returns-2 : tie.Need-returns-2
-returns-2 c = search (rules, half-past)
+returns-2 c = search (rules, half_past)
 
 pub four-places-spec : {M : Type 1} → statement M
 four-places-spec =

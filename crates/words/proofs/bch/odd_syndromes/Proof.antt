@@ -3,18 +3,18 @@ use mathlib.Core.Path.{◌≡◌}
 use Prim.Native.Nat.{◌-◌, ◌≤◌}
 use borrow.Author.Rules.{rules}
 use Rattle.words.specs.Steps.Limbs.{number}
-use Rattle.words.proofs.Steps.Inner.{oddUpTo, odd-none, odd-next, odd-end}
+use Rattle.words.proofs.Steps.Inner.{odd_up_to, odd_none, odd_next, odd_end}
 use Rattle.words.proofs.bch.odd_syndromes.Statement.{statement}
 use Rattle.words.proofs.bch.odd_syndromes.Tie as tie
 
 abbrev invariant-loop : tie.invariant-loop
-invariant-loop exp v w₀ i₀ w i = (i ≤ 88) × (w.at ≡ oddUpTo exp (number v.high v.low) i)
+invariant-loop exp v w₀ i₀ w i = (i ≤ 88) × (w.at ≡ odd_up_to exp (number v.high v.low) i)
 
 abbrev decreases-loop : tie.decreases-loop
 decreases-loop exp v w₀ i₀ w i = 88 - i
 
 loop-holds : tie.Need-loop-init invariant-loop decreases-loop
-loop-holds c = search (rules, odd-none)
+loop-holds c = search (rules, odd_none)
 
 sub-coefficient : tie.Need-overflow-sub-coefficient invariant-loop decreases-loop
 sub-coefficient c = search rules
@@ -35,10 +35,10 @@ loop-less : tie.Need-loop-smaller invariant-loop decreases-loop
 loop-less c = search rules
 
 loop-again : tie.Need-loop-preserved invariant-loop decreases-loop
-loop-again c = search (rules, odd-next)
+loop-again c = search (rules, odd_next)
 
 returns : tie.Need-returns invariant-loop decreases-loop
-returns c = search (rules, odd-end)
+returns c = search (rules, odd_end)
 
 pub odd-syndromes-spec : {M : Type 1} → statement M
 odd-syndromes-spec =

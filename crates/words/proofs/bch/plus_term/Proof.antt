@@ -1,19 +1,19 @@
 -- `words::bch::plus_term` meets its contract. Assumes nothing.
 use Prim.Native.Nat.{◌-◌}
 use borrow.Author.Rules.{rules}
-use Rattle.fields.proofs.Places.Filling.{Filled, filled-start}
-use Rattle.words.proofs.Steps.Inner.{exponent-fits, term_fits, termAdded, term-next, term-end}
+use Rattle.fields.proofs.Places.Filling.{Filled, filled_start}
+use Rattle.words.proofs.Steps.Inner.{exponent_fits, term_fits, term_added, term_next, term_end}
 use Rattle.words.proofs.bch.plus_term.Statement.{statement}
 use Rattle.words.proofs.bch.plus_term.Tie as tie
 
 abbrev invariant-loop : tie.invariant-loop
-invariant-loop exp c i w at₀ j₀ at j = Filled 8 (termAdded exp w.at c i) j at
+invariant-loop exp c i w at₀ j₀ at j = Filled 8 (term_added exp w.at c i) j at
 
 abbrev decreases-loop : tie.decreases-loop
 decreases-loop exp c i w at₀ j₀ at j = 8 - j
 
 loop-holds : tie.Need-loop-init invariant-loop decreases-loop
-loop-holds c = search (rules, filled-start)
+loop-holds c = search (rules, filled_start)
 
 cast-power : tie.Need-overflow-cast-power invariant-loop decreases-loop
 cast-power c = search rules
@@ -28,7 +28,7 @@ cast-power-2 : tie.Need-overflow-cast-power-2 invariant-loop decreases-loop
 cast-power-2 c = search rules
 
 mul-power-2 : tie.Need-overflow-mul-power-2 invariant-loop decreases-loop
-mul-power-2 c = search (rules, exponent-fits)
+mul-power-2 c = search (rules, exponent_fits)
 
 power-requires : tie.Need-power-requires invariant-loop decreases-loop
 power-requires c κs = search rules
@@ -58,10 +58,10 @@ loop-less : tie.Need-loop-smaller invariant-loop decreases-loop
 loop-less c = search rules
 
 loop-again : tie.Need-loop-preserved invariant-loop decreases-loop
-loop-again c = search (rules, term-next)
+loop-again c = search (rules, term_next)
 
 returns : tie.Need-returns invariant-loop decreases-loop
-returns c = search (rules, term-end)
+returns c = search (rules, term_end)
 
 pub plus-term-spec : {M : Type 1} → statement M
 plus-term-spec =

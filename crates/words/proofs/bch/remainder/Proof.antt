@@ -4,7 +4,7 @@ use borrow.Author.Rules.{rules}
 use Rattle.words.specs.Steps.Limbs.{Represents}
 use Rattle.words.specs.Bits.{bit_at}
 use Rattle.words.specs.InnerCode.{divisor, remainder}
-use Rattle.words.proofs.Steps.FourPlaces.{residues-split, remainder-none, remainder-next, remainder-end}
+use Rattle.words.proofs.Steps.FourPlaces.{residues_split, remainder_none, remainder_next, remainder_end}
 use Rattle.words.proofs.bch.remainder.Statement.{statement}
 use Rattle.words.proofs.bch.remainder.Tie as tie
 
@@ -21,7 +21,7 @@ constant-requires : tie.Need-constant-requires invariant-loop decreases-loop
 constant-requires c κs = search rules
 
 loop-holds : tie.Need-loop-init invariant-loop decreases-loop
-loop-holds c = search (rules, remainder-none)
+loop-holds c = search (rules, remainder_none)
 
 leading-requires : tie.Need-leading-requires invariant-loop decreases-loop
 leading-requires c κs = search rules
@@ -39,7 +39,7 @@ shifted-requires : tie.Need-shifted-requires invariant-loop decreases-loop
 shifted-requires c κs = search rules
 
 plus-requires : tie.Need-plus-requires invariant-loop decreases-loop
-plus-requires c κs = search (rules, residues-split)
+plus-requires c κs = search (rules, residues_split)
 
 add-i : tie.Need-overflow-add-i invariant-loop decreases-loop
 add-i c = search rules
@@ -48,10 +48,10 @@ loop-less : tie.Need-loop-smaller invariant-loop decreases-loop
 loop-less c = search rules
 
 loop-again : tie.Need-loop-preserved invariant-loop decreases-loop
-loop-again c = search (rules, remainder-next)
+loop-again c = search (rules, remainder_next)
 
 returns : tie.Need-returns invariant-loop decreases-loop
-returns c = search (rules, remainder-end)
+returns c = search (rules, remainder_end)
 
 pub remainder-spec : {M : Type 1} → statement M
 remainder-spec =

@@ -3,7 +3,7 @@ use Prim.Native.Nat.{◌-◌}
 use borrow.Author.Rules.{rules}
 use Rattle.words.specs.InnerCode.{divisor}
 use Rattle.words.specs.Steps.Limbs.{Residues}
-use Rattle.words.proofs.Steps.FourPlaces.{residues-none, residues-next, residues-end}
+use Rattle.words.proofs.Steps.FourPlaces.{residues_none, residues_next, residues_end}
 use Rattle.words.proofs.bch.residues.Statement.{statement}
 use Rattle.words.proofs.bch.residues.Tie as tie
 
@@ -17,7 +17,7 @@ constant-requires : tie.Need-constant-requires invariant-loop decreases-loop
 constant-requires c κs = search rules
 
 loop-holds : tie.Need-loop-init invariant-loop decreases-loop
-loop-holds c = search (rules, residues-none)
+loop-holds c = search (rules, residues_none)
 
 residue-requires : tie.Need-residue-requires invariant-loop decreases-loop
 residue-requires c κs = search rules
@@ -35,10 +35,10 @@ loop-less : tie.Need-loop-smaller invariant-loop decreases-loop
 loop-less c = search rules
 
 loop-again : tie.Need-loop-preserved invariant-loop decreases-loop
-loop-again c = search (rules, residues-next)
+loop-again c = search (rules, residues_next)
 
 returns : tie.Need-returns invariant-loop decreases-loop
-returns c = search (rules, residues-end)
+returns c = search (rules, residues_end)
 
 pub residues-spec : {M : Type 1} → statement M
 residues-spec =

@@ -1,6 +1,6 @@
 -- `words::bch::shifted` meets its contract. Assumes nothing.
 use borrow.Author.Rules.{rules}
-use Rattle.words.proofs.Steps.Limbs.{shifted-made}
+use Rattle.words.proofs.Steps.Limbs.{shifted_made}
 use Rattle.words.proofs.bch.shifted.Statement.{statement}
 use Rattle.words.proofs.bch.shifted.Tie as tie
 
@@ -23,7 +23,7 @@ add-t14 : tie.Need-overflow-add-t14
 add-t14 c = search rules
 
 returns : tie.Need-returns
-returns c = search (rules, shifted-made)
+returns c = search (rules, shifted_made)
 
 pub shifted-spec : {M : Type 1} → statement M
 shifted-spec = tie.close (tie.spec shl-t4 sub-t6 shr-t8 add-t9 shl-t11 add-t14 returns)

@@ -1,10 +1,10 @@
 -- `words::bch::store` meets its contract. Assumes nothing.
 use Prim.Native.Nat.{◌+◌, ◌-◌, ◌*◌}
 use borrow.Author.Rules.{rules}
-use Rattle.fields.proofs.Places.Filling.{Filled, filled-start, filled_next}
+use Rattle.fields.proofs.Places.Filling.{Filled, filled_start, filled_next}
 use Rattle.words.specs.Steps.Limbs.{number}
 use Rattle.words.specs.Bits.{number_of, bit_of}
-use Rattle.words.proofs.Bits.Bytes.{bytes-end}
+use Rattle.words.proofs.Bits.Bytes.{bytes_end}
 use Rattle.words.proofs.bch.store.Statement.{statement}
 use Rattle.words.proofs.bch.store.Tie as tie
 
@@ -15,7 +15,7 @@ abbrev decreases-loop : tie.decreases-loop
 decreases-loop v out₀ k₀ out k = 11 - k
 
 loop-holds : tie.Need-loop-init invariant-loop decreases-loop
-loop-holds c = search (rules, filled-start)
+loop-holds c = search (rules, filled_start)
 
 byte-requires : tie.Need-byte-requires invariant-loop decreases-loop
 byte-requires c κs = search rules
@@ -36,7 +36,7 @@ same_length : tie.Need-same-length invariant-loop decreases-loop
 same_length c = search rules
 
 returns : tie.Need-returns invariant-loop decreases-loop
-returns c = search (rules, bytes-end)
+returns c = search (rules, bytes_end)
 
 pub store_spec : {M : Type 1} → statement M
 store_spec =

@@ -2,12 +2,12 @@
 use Prim.Native.Nat.{◌-◌, ◌≤◌}
 use borrow.Author.Rules.{rules}
 use Rattle.words.specs.Steps.Limbs.{number, Represents}
-use Rattle.words.proofs.Steps.LimbProducts.{productSoFar, product-none, product-room, product-next, product-end}
+use Rattle.words.proofs.Steps.LimbProducts.{product_so_far, product_none, product_room, product_next, product_end}
 use Rattle.words.proofs.bch.times.Statement.{statement}
 use Rattle.words.proofs.bch.times.Tie as tie
 
 abbrev invariant-loop : tie.invariant-loop
-invariant-loop f v u₀ k₀ u k = (k ≤ 12) × Represents u.high u.low (productSoFar f (number v.high v.low) k)
+invariant-loop f v u₀ k₀ u k = (k ≤ 12) × Represents u.high u.low (product_so_far f (number v.high v.low) k)
 
 abbrev decreases-loop : tie.decreases-loop
 decreases-loop f v u₀ k₀ u k = 12 - k
@@ -16,10 +16,10 @@ constant-requires : tie.Need-constant-requires invariant-loop decreases-loop
 constant-requires c κs = search rules
 
 loop-holds : tie.Need-loop-init invariant-loop decreases-loop
-loop-holds c = search (rules, product-none)
+loop-holds c = search (rules, product_none)
 
 times-z-requires : tie.Need-times-z-requires invariant-loop decreases-loop
-times-z-requires c κs = search (rules, product-room)
+times-z-requires c κs = search (rules, product_room)
 
 sub-scaled : tie.Need-overflow-sub-scaled invariant-loop decreases-loop
 sub-scaled c = search rules
@@ -40,10 +40,10 @@ loop-less : tie.Need-loop-smaller invariant-loop decreases-loop
 loop-less c = search rules
 
 loop-again : tie.Need-loop-preserved invariant-loop decreases-loop
-loop-again c = search (rules, product-next)
+loop-again c = search (rules, product_next)
 
 returns : tie.Need-returns invariant-loop decreases-loop
-returns c = search (rules, product-end)
+returns c = search (rules, product_end)
 
 pub times-spec : {M : Type 1} → statement M
 times-spec =

@@ -1,6 +1,6 @@
 -- `words::corrector::add` meets its contract. Assumes nothing.
 use borrow.Author.Rules.{rules}
-use Rattle.words.proofs.Steps.Corrections.{added-here, added-past}
+use Rattle.words.proofs.Steps.Corrections.{added_here, added_past}
 use Rattle.words.proofs.corrector.add.Statement.{statement}
 use Rattle.words.proofs.corrector.add.Tie as tie
 
@@ -23,10 +23,10 @@ same_length : tie.Need-same-length
 same_length c = search rules
 
 returns : tie.Need-returns
-returns c = search (rules, added-here)
+returns c = search (rules, added_here)
 
 returns-2 : tie.Need-returns-2
-returns-2 c = search (rules, added-past)
+returns-2 c = search (rules, added_past)
 
 pub add_spec : {M : Type 1} → statement M
 add_spec =

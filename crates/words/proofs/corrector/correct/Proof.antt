@@ -2,12 +2,12 @@
 use mathlib.Core.Path.{◌≡◌}
 use Prim.Native.Nat.{◌-◌, ◌≤◌}
 use borrow.Author.Rules.{rules}
-use Rattle.words.proofs.Steps.Corrections.{errorsAdded, errors-start, errors-fit, errors-next, errors-end}
+use Rattle.words.proofs.Steps.Corrections.{errors_added, errors_start, errors_fit, errors_next, errors_end}
 use Rattle.words.proofs.corrector.correct.Statement.{statement}
 use Rattle.words.proofs.corrector.correct.Tie as tie
 
 abbrev invariant-loop : tie.invariant-loop
-invariant-loop word out₀ e places k₀ out k = (k ≤ places.count) × (out ≡ errorsAdded word places.at e.values k)
+invariant-loop word out₀ e places k₀ out k = (k ≤ places.count) × (out ≡ errors_added word places.at e.values k)
 
 abbrev decreases-loop : tie.decreases-loop
 decreases-loop word out₀ e places k₀ out k = places.count - k
@@ -16,7 +16,7 @@ copy-requires : tie.Need-copy-requires invariant-loop decreases-loop
 copy-requires c κs = search rules
 
 loop-holds : tie.Need-loop-init invariant-loop decreases-loop
-loop-holds c = search (rules, errors-start)
+loop-holds c = search (rules, errors_start)
 
 mul-add : tie.Need-overflow-mul-add invariant-loop decreases-loop
 mul-add c = search rules
@@ -43,13 +43,13 @@ loop-less : tie.Need-loop-smaller invariant-loop decreases-loop
 loop-less c = search rules
 
 loop-again : tie.Need-loop-preserved invariant-loop decreases-loop
-loop-again c = search (rules, errors-next)
+loop-again c = search (rules, errors_next)
 
 same_length : tie.Need-same-length invariant-loop decreases-loop
-same_length c = search (rules, errors-fit)
+same_length c = search (rules, errors_fit)
 
 returns : tie.Need-returns invariant-loop decreases-loop
-returns c = search (rules, errors-end)
+returns c = search (rules, errors_end)
 
 pub correct-spec : {M : Type 1} → statement M
 correct-spec =

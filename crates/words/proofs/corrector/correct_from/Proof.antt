@@ -1,6 +1,6 @@
 -- `words::corrector::correct_from` meets its contract. Assumes nothing.
 use borrow.Author.Rules.{rules}
-use Rattle.words.proofs.Steps.Corrections.{tables-given, word_fits, correct-outer-lost, correct-outer-found}
+use Rattle.words.proofs.Steps.Corrections.{tables_given, word_fits, correct_outer_lost, correct_outer_found}
 use Rattle.words.proofs.corrector.correct_from.Statement.{statement}
 use Rattle.words.proofs.corrector.correct_from.Tie as tie
 
@@ -26,7 +26,7 @@ slice-aggregate-decode-2 : tie.Need-slice-aggregate-decode-2
 slice-aggregate-decode-2 c = search rules
 
 decode-requires : tie.Need-decode-requires
-decode-requires c κs = (search (rules, tables-given), (search (rules, word_fits), search rules))
+decode-requires c κs = (search (rules, tables_given), (search (rules, word_fits), search rules))
 
 slice-aggregate-all-below : tie.Need-slice-aggregate-all-below
 slice-aggregate-all-below c = search rules
@@ -35,7 +35,7 @@ all-below-requires : tie.Need-all-below-requires
 all-below-requires c κs = search rules
 
 returns : tie.Need-returns
-returns c = search (rules, correct-outer-lost)
+returns c = search (rules, correct_outer_lost)
 
 correct-requires : tie.Need-correct-requires
 correct-requires c κs = search rules
@@ -47,7 +47,7 @@ same_length : tie.Need-same-length
 same_length c = search rules
 
 returns-2 : tie.Need-returns-2
-returns-2 c = search (rules, correct-outer-found)
+returns-2 c = search (rules, correct_outer_found)
 
 pub correct-from-spec : {M : Type 1} → statement M
 correct-from-spec =

@@ -1,7 +1,7 @@
 -- `words::digit_table::fill` meets its contract. Assumes nothing.
 use Prim.Native.Nat.{◌-◌, ◌*◌, ◌≤◌}
 use Rattle.words.specs.Steps.SixSymbols.{Stored}
-use Rattle.words.proofs.Steps.Joining.{stored-none, stored-end}
+use Rattle.words.proofs.Steps.Joining.{stored_none, stored_end}
 use borrow.Author.Rules.{rules}
 use Rattle.words.proofs.digit_table.fill.Statement.{statement}
 use Rattle.words.proofs.digit_table.fill.Tie as tie
@@ -13,7 +13,7 @@ abbrev decreases-loop : tie.decreases-loop
 decreases-loop units table₀ r₀ table r = 30 - r
 
 loop-holds : tie.Need-loop-init invariant-loop decreases-loop
-loop-holds c = search (rules, stored-none)
+loop-holds c = search (rules, stored_none)
 
 store-digit-requires : tie.Need-store-digit-requires invariant-loop decreases-loop
 store-digit-requires c κs = search rules
@@ -31,7 +31,7 @@ same_length : tie.Need-same-length invariant-loop decreases-loop
 same_length c = search rules
 
 returns : tie.Need-returns invariant-loop decreases-loop
-returns c = search (rules, stored-end)
+returns c = search (rules, stored_end)
 
 pub fill_spec : {M : Type 1} → statement M
 fill_spec =

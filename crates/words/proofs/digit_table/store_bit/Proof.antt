@@ -2,7 +2,7 @@
 use Prim.Native.Nat.{◌+◌, ◌-◌, ◌*◌, ◌^◌, ◌≤◌}
 use mathlib.Core.Path.{◌≡◌}
 use Rattle.words.specs.Steps.SixSymbols.{Stored}
-use Rattle.words.proofs.Steps.Joining.{bit-few, bit-width, bit-start, bit-next, bit-end}
+use Rattle.words.proofs.Steps.Joining.{bit_few, bit_width, bit_start, bit_next, bit_end}
 use borrow.Author.Rules.{rules}
 use Rattle.words.proofs.digit_table.store_bit.Statement.{statement}
 use Rattle.words.proofs.digit_table.store_bit.Tie as tie
@@ -20,7 +20,7 @@ mul-from : tie.Need-overflow-mul-from invariant-loop decreases-loop
 mul-from c = search rules
 
 loop-holds : tie.Need-loop-init invariant-loop decreases-loop
-loop-holds c = search (rules, bit-few, bit-width, bit-start)
+loop-holds c = search (rules, bit_few, bit_width, bit_start)
 
 add-plus : tie.Need-overflow-add-plus invariant-loop decreases-loop
 add-plus c = search rules
@@ -53,13 +53,13 @@ loop-less : tie.Need-loop-smaller invariant-loop decreases-loop
 loop-less c = search rules
 
 loop-again : tie.Need-loop-preserved invariant-loop decreases-loop
-loop-again c = search (rules, bit-next)
+loop-again c = search (rules, bit_next)
 
 same_length : tie.Need-same-length invariant-loop decreases-loop
 same_length c = search rules
 
 returns : tie.Need-returns invariant-loop decreases-loop
-returns c = search (rules, bit-end)
+returns c = search (rules, bit_end)
 
 pub store-bit-spec : {M : Type 1} → statement M
 store-bit-spec =

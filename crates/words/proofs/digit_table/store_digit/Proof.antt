@@ -1,5 +1,5 @@
 -- `words::digit_table::store_digit` meets its contract. Assumes nothing.
-use Rattle.words.proofs.Steps.Joining.{digit-start, unit-entry, unit-within, digit-end}
+use Rattle.words.proofs.Steps.Joining.{digit_start, unit_entry, unit_within, digit_end}
 use Prim.Native.Nat.{◌+◌, ◌-◌, ◌*◌, ◌^◌, ◌≤◌}
 use Rattle.words.specs.Steps.SixSymbols.{Stored}
 use borrow.Author.Rules.{rules}
@@ -22,7 +22,7 @@ slice-write-table : tie.Need-slice-write-table invariant-loop decreases-loop
 slice-write-table c = search rules
 
 loop-holds : tie.Need-loop-init invariant-loop decreases-loop
-loop-holds c = search (rules, digit-start)
+loop-holds c = search (rules, digit_start)
 
 mul-store-bit : tie.Need-overflow-mul-store-bit invariant-loop decreases-loop
 mul-store-bit c = search rules
@@ -34,10 +34,10 @@ mul-store-bit-2 : tie.Need-overflow-mul-store-bit-2 invariant-loop decreases-loo
 mul-store-bit-2 c = search rules
 
 shared-slice-read-store-bit : tie.Need-shared-slice-read-store-bit invariant-loop decreases-loop
-shared-slice-read-store-bit c = search (rules, unit-within)
+shared-slice-read-store-bit c = search (rules, unit_within)
 
 store-bit-requires : tie.Need-store-bit-requires invariant-loop decreases-loop
-store-bit-requires c κs = search (rules, unit-entry)
+store-bit-requires c κs = search (rules, unit_entry)
 
 add-b : tie.Need-overflow-add-b invariant-loop decreases-loop
 add-b c = search rules
@@ -52,7 +52,7 @@ same_length : tie.Need-same-length invariant-loop decreases-loop
 same_length c = search rules
 
 returns : tie.Need-returns invariant-loop decreases-loop
-returns c = search (rules, digit-end)
+returns c = search (rules, digit_end)
 
 pub store-digit-spec : {M : Type 1} → statement M
 store-digit-spec =

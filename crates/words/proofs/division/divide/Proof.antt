@@ -3,13 +3,13 @@ use mathlib.Core.Path.{◌≡◌}
 use Prim.Native.Nat.{◌-◌, ◌≤◌}
 use lib.ListN.{length}
 use borrow.Author.Rules.{rules}
-use Rattle.fields.proofs.Places.Tests.{below-lt}
-use Rattle.words.proofs.Steps.Loops.{dividedUpTo, divided-none, divided-below, divided-next, divided-end}
+use Rattle.fields.proofs.Places.Tests.{below_lt}
+use Rattle.words.proofs.Steps.Loops.{divided_up_to, divided_none, divided_below, divided_next, divided_end}
 use Rattle.words.proofs.division.divide.Statement.{statement}
 use Rattle.words.proofs.division.divide.Tie as tie
 
 abbrev invariant-loop : tie.invariant-loop
-invariant-loop low high «data» register₀ i₀ register i = (i ≤ length «data») × (register.cells ≡ dividedUpTo «data» i)
+invariant-loop low high «data» register₀ i₀ register i = (i ≤ length «data») × (register.cells ≡ divided_up_to «data» i)
 
 abbrev decreases-loop : tie.decreases-loop
 decreases-loop low high «data» register₀ i₀ register i = length «data» - i
@@ -18,7 +18,7 @@ empty-requires : tie.Need-empty-requires invariant-loop decreases-loop
 empty-requires c κs = search rules
 
 loop-holds : tie.Need-loop-init invariant-loop decreases-loop
-loop-holds c = search (rules, divided-none)
+loop-holds c = search (rules, divided_none)
 
 mul_next : tie.Need-overflow-mul-next invariant-loop decreases-loop
 mul_next c = search rules
@@ -27,7 +27,7 @@ shared-slice-read-next : tie.Need-shared-slice-read-next invariant-loop decrease
 shared-slice-read-next c = search rules
 
 next-requires : tie.Need-next-requires invariant-loop decreases-loop
-next-requires c κs = search (rules, divided-below, below-lt)
+next-requires c κs = search (rules, divided_below, below_lt)
 
 add-i : tie.Need-overflow-add-i invariant-loop decreases-loop
 add-i c = search rules
@@ -36,10 +36,10 @@ loop-less : tie.Need-loop-smaller invariant-loop decreases-loop
 loop-less c = search rules
 
 loop-again : tie.Need-loop-preserved invariant-loop decreases-loop
-loop-again c = search (rules, divided-next)
+loop-again c = search (rules, divided_next)
 
 returns : tie.Need-returns invariant-loop decreases-loop
-returns c = search (rules, divided-end)
+returns c = search (rules, divided_end)
 
 pub divide-spec : {M : Type 1} → statement M
 divide-spec =

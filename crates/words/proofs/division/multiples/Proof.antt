@@ -2,15 +2,15 @@
 use mathlib.Core.Path.{◌≡◌}
 use Prim.Native.Nat.{◌-◌}
 use borrow.Author.Rules.{rules}
-use Rattle.fields.specs.Elements.{powersA, exponentsA}
-use Rattle.fields.proofs.Places.Filling.{Filled, filled-start}
+use Rattle.fields.specs.Elements.{powers_a, exponents_a}
+use Rattle.fields.proofs.Places.Filling.{Filled, filled_start}
 use Rattle.words.specs.OuterCode as Code
-use Rattle.words.proofs.Steps.Digits.{multiple, factor-fits, multiples-next, multiples-end}
+use Rattle.words.proofs.Steps.Digits.{multiple, factor_fits, multiples_next, multiples_end}
 use Rattle.words.proofs.division.multiples.Statement.{statement}
 use Rattle.words.proofs.division.multiples.Tie as tie
 
 abbrev invariant-loop : tie.invariant-loop
-invariant-loop unit exp log generator table₀ n₀ table n = (exp ≡ powersA) × (log ≡ exponentsA) × (generator ≡ Code.generator) × Filled 512 (multiple unit) n table
+invariant-loop unit exp log generator table₀ n₀ table n = (exp ≡ powers_a) × (log ≡ exponents_a) × (generator ≡ Code.generator) × Filled 512 (multiple unit) n table
 
 abbrev decreases-loop : tie.decreases-loop
 decreases-loop unit exp log generator table₀ n₀ table n = 512 - n
@@ -25,7 +25,7 @@ generator-requires : tie.Need-generator-requires invariant-loop decreases-loop
 generator-requires c κs = search rules
 
 loop-holds : tie.Need-loop-init invariant-loop decreases-loop
-loop-holds c = search (rules, filled-start)
+loop-holds c = search (rules, filled_start)
 
 cast-k : tie.Need-overflow-cast-k invariant-loop decreases-loop
 cast-k c = search rules
@@ -37,7 +37,7 @@ slice-aggregate-product-2 : tie.Need-slice-aggregate-product-2 invariant-loop de
 slice-aggregate-product-2 c = search rules
 
 mul-product : tie.Need-overflow-mul-product invariant-loop decreases-loop
-mul-product c = search (rules, factor-fits)
+mul-product c = search (rules, factor_fits)
 
 add-product : tie.Need-overflow-add-product invariant-loop decreases-loop
 add-product c = search rules
@@ -64,10 +64,10 @@ loop-less : tie.Need-loop-smaller invariant-loop decreases-loop
 loop-less c = search rules
 
 loop-again : tie.Need-loop-preserved invariant-loop decreases-loop
-loop-again c = search (rules, multiples-next)
+loop-again c = search (rules, multiples_next)
 
 returns : tie.Need-returns invariant-loop decreases-loop
-returns c = search (rules, multiples-end)
+returns c = search (rules, multiples_end)
 
 pub multiples-spec : {M : Type 1} → statement M
 multiples-spec =

@@ -1,20 +1,20 @@
 -- `words::packed::join` meets its contract. Assumes nothing.
 use Prim.Native.Nat.{◌-◌, ◌≤◌}
 use mathlib.Core.Path.{◌≡◌}
-use Rattle.words.specs.Steps.SixSymbols.{joinedFrom}
-use Rattle.words.proofs.Steps.Joining.{joined-none, joined-next, joined_end, joined_small}
+use Rattle.words.specs.Steps.SixSymbols.{joined_from}
+use Rattle.words.proofs.Steps.Joining.{joined_none, joined_next, joined_end, joined_small}
 use borrow.Author.Rules.{rules}
 use Rattle.words.proofs.packed.join.Statement.{statement}
 use Rattle.words.proofs.packed.join.Tie as tie
 
 abbrev invariant-loop : tie.invariant-loop
-invariant-loop word i n x₀ j₀ x j = (j ≤ n) × (x ≡ joinedFrom word i j)
+invariant-loop word i n x₀ j₀ x j = (j ≤ n) × (x ≡ joined_from word i j)
 
 abbrev decreases-loop : tie.decreases-loop
 decreases-loop word i n x₀ j₀ x j = n - j
 
 loop-holds : tie.Need-loop-init invariant-loop decreases-loop
-loop-holds c = search (rules, joined-none)
+loop-holds c = search (rules, joined_none)
 
 shl-plus : tie.Need-overflow-shl-plus invariant-loop decreases-loop
 shl-plus c = search rules
@@ -41,7 +41,7 @@ loop-less : tie.Need-loop-smaller invariant-loop decreases-loop
 loop-less c = search rules
 
 loop-again : tie.Need-loop-preserved invariant-loop decreases-loop
-loop-again c = search (rules, joined-next)
+loop-again c = search (rules, joined_next)
 
 returns : tie.Need-returns invariant-loop decreases-loop
 returns c = search (rules, joined_end, joined_small)

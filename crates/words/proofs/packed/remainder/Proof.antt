@@ -1,6 +1,6 @@
 -- `words::packed::remainder` meets its contract. Assumes nothing.
-use Rattle.fields.proofs.Places.Tests.{below-take}
-use Rattle.words.proofs.Steps.Joining.{packs-remainder}
+use Rattle.fields.proofs.Places.Tests.{below_take}
+use Rattle.words.proofs.Steps.Joining.{packs_remainder}
 use borrow.Author.Rules.{rules}
 use Rattle.words.proofs.packed.remainder.Statement.{statement}
 use Rattle.words.proofs.packed.remainder.Tie as tie
@@ -18,7 +18,7 @@ part-divide-end : tie.Need-slice-bounds-divide-end
 part-divide-end c = search rules
 
 divide-requires : tie.Need-divide-requires
-divide-requires c κs = search (rules, below-take)
+divide-requires c κs = search (rules, below_take)
 
 join-requires : tie.Need-join-requires
 join-requires c κs = search rules
@@ -51,7 +51,7 @@ plus-requires-3 : tie.Need-plus-requires-3
 plus-requires-3 c κs = search rules
 
 returns : tie.Need-returns
-returns c = search (rules, packs-remainder)
+returns c = search (rules, packs_remainder)
 
 pub remainder-spec : {M : Type 1} → statement M
 remainder-spec =

@@ -1,6 +1,6 @@
 -- `words::packed::root_values` meets its contract. Assumes nothing.
 use borrow.Author.Rules.{rules}
-use Rattle.words.proofs.Steps.Joining.{cells-valued}
+use Rattle.words.proofs.Steps.Joining.{cells_valued}
 use Rattle.words.proofs.packed.root_values.Statement.{statement}
 use Rattle.words.proofs.packed.root_values.Tie as tie
 
@@ -14,7 +14,7 @@ root-values-requires : tie.Need-root-values-requires
 root-values-requires c κs = search rules
 
 returns : tie.Need-returns
-returns c = search (rules, cells-valued)
+returns c = search (rules, cells_valued)
 
 pub root-values-spec : {M : Type 1} → statement M
 root-values-spec =

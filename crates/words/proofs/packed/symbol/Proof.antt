@@ -1,5 +1,5 @@
 -- `words::packed::symbol` meets its contract. Assumes nothing.
-use Rattle.words.proofs.Steps.Joining.{symbol-masked, symbol-fits}
+use Rattle.words.proofs.Steps.Joining.{symbol_masked, symbol_fits}
 use borrow.Author.Rules.{rules}
 use Rattle.words.proofs.packed.symbol.Statement.{statement}
 use Rattle.words.proofs.packed.symbol.Tie as tie
@@ -17,10 +17,10 @@ shr-result : tie.Need-overflow-shr-result
 shr-result c = search rules
 
 cast-result : tie.Need-overflow-cast-result
-cast-result c = search (rules, symbol-fits)
+cast-result c = search (rules, symbol_fits)
 
 returns : tie.Need-returns
-returns c = search (rules, symbol-masked)
+returns c = search (rules, symbol_masked)
 
 pub symbol-spec : {M : Type 1} → statement M
 symbol-spec =

@@ -1,7 +1,7 @@
 -- `words::packed::unpacked` meets its contract. Assumes nothing.
 use Prim.Native.Nat.{◌-◌}
-use Rattle.fields.proofs.Places.Filling.{Filled, filled-start}
-use Rattle.words.proofs.Steps.Joining.{cell_of, cells-next, cells-end}
+use Rattle.fields.proofs.Places.Filling.{Filled, filled_start}
+use Rattle.words.proofs.Steps.Joining.{cell_of, cells_next, cells_end}
 use borrow.Author.Rules.{rules}
 use Rattle.words.proofs.packed.unpacked.Statement.{statement}
 use Rattle.words.proofs.packed.unpacked.Tie as tie
@@ -13,7 +13,7 @@ abbrev decreases-loop : tie.decreases-loop
 decreases-loop p cells₀ i₀ cells i = 16 - i
 
 loop-holds : tie.Need-loop-init invariant-loop decreases-loop
-loop-holds c = search (rules, filled-start)
+loop-holds c = search (rules, filled_start)
 
 number-requires : tie.Need-number-requires invariant-loop decreases-loop
 number-requires c κs = search rules
@@ -34,10 +34,10 @@ loop-less : tie.Need-loop-smaller invariant-loop decreases-loop
 loop-less c = search rules
 
 loop-again : tie.Need-loop-preserved invariant-loop decreases-loop
-loop-again c = search (rules, cells-next)
+loop-again c = search (rules, cells_next)
 
 returns : tie.Need-returns invariant-loop decreases-loop
-returns c = search (rules, cells-end)
+returns c = search (rules, cells_end)
 
 pub unpacked-spec : {M : Type 1} → statement M
 unpacked-spec =

@@ -1,13 +1,13 @@
 -- `words::reed_solomon::generator` meets its contract. Assumes nothing.
 use borrow.Author.Rules.{rules}
-use Rattle.fields.specs.Elements.{xor, scale, doubled, timesFrom, times, power}
+use Rattle.fields.specs.Elements.{xor, scale, doubled, times_from, times, power}
 use Rattle.fields.specs.Lists.{tabulate}
-use Rattle.words.specs.ReedSolomon.{withRoot, generatorOf}
+use Rattle.words.specs.ReedSolomon.{with_root, generator_of}
 use Rattle.words.proofs.reed_solomon.generator.Statement.{statement}
 use Rattle.words.proofs.reed_solomon.generator.Tie as tie
 
 returns : tie.Need-returns
-unfolding generatorOf withRoot tabulate xor scale doubled times timesFrom power
+unfolding generator_of with_root tabulate xor scale doubled times times_from power
 returns c = search rules
 
 pub generator-spec : {M : Type 1} → statement M

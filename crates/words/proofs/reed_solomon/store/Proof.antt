@@ -2,7 +2,7 @@
 use Prim.Native.Nat.{◌-◌}
 use lib.ListN.{get_or}
 use borrow.Author.Rules.{rules}
-use Rattle.fields.proofs.Places.Filling.{Filled, filled-start, filled_next, filled-list}
+use Rattle.fields.proofs.Places.Filling.{Filled, filled_start, filled_next, filled_list}
 use Rattle.words.proofs.reed_solomon.store.Statement.{statement}
 use Rattle.words.proofs.reed_solomon.store.Tie as tie
 
@@ -13,7 +13,7 @@ abbrev decreases-loop : tie.decreases-loop
 decreases-loop out₀ cells i₀ out i = 16 - i
 
 loop-holds : tie.Need-loop-init invariant-loop decreases-loop
-loop-holds c = search (rules, filled-start)
+loop-holds c = search (rules, filled_start)
 
 mul-out : tie.Need-overflow-mul-out invariant-loop decreases-loop
 mul-out c = search rules
@@ -40,7 +40,7 @@ same_length : tie.Need-same-length invariant-loop decreases-loop
 same_length c = search rules
 
 returns : tie.Need-returns invariant-loop decreases-loop
-returns c = search (rules, filled-list)
+returns c = search (rules, filled_list)
 
 pub store_spec : {M : Type 1} → statement M
 store_spec =

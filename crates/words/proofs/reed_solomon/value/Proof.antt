@@ -3,12 +3,12 @@ use mathlib.Core.Path.{◌≡◌}
 use Prim.Native.Nat.{◌-◌, ◌≤◌}
 use lib.ListN.{length}
 use borrow.Author.Rules.{rules}
-use Rattle.words.proofs.Steps.Loops.{valueUpTo, value_none, value-next, value-end}
+use Rattle.words.proofs.Steps.Loops.{value_up_to, value_none, value_next, value_end}
 use Rattle.words.proofs.reed_solomon.value.Statement.{statement}
 use Rattle.words.proofs.reed_solomon.value.Tie as tie
 
 abbrev invariant-loop : tie.invariant-loop
-invariant-loop exp log word x v₀ i₀ v i = (i ≤ length word) × (v ≡ valueUpTo exp log word x i)
+invariant-loop exp log word x v₀ i₀ v i = (i ≤ length word) × (v ≡ value_up_to exp log word x i)
 
 abbrev decreases-loop : tie.decreases-loop
 decreases-loop exp log word x v₀ i₀ v i = length word - i
@@ -35,10 +35,10 @@ loop-less : tie.Need-loop-smaller invariant-loop decreases-loop
 loop-less c = search rules
 
 loop-again : tie.Need-loop-preserved invariant-loop decreases-loop
-loop-again c = search (rules, value-next)
+loop-again c = search (rules, value_next)
 
 returns : tie.Need-returns invariant-loop decreases-loop
-returns c = search (rules, value-end)
+returns c = search (rules, value_end)
 
 pub value_spec : {M : Type 1} → statement M
 value_spec =

@@ -1,6 +1,6 @@
 -- `words::wrong_places::explains` meets its contract. Assumes nothing.
 use borrow.Author.Rules.{rules}
-use Rattle.words.proofs.Steps.Inner.{explains-rest, explains-not}
+use Rattle.words.proofs.Steps.Inner.{explains_rest, explains_not}
 use Rattle.words.proofs.wrong_places.explains.Statement.{statement}
 use Rattle.words.proofs.wrong_places.explains.Tie as tie
 
@@ -14,10 +14,10 @@ is-binary-requires : tie.Need-is-binary-requires
 is-binary-requires c κs = search rules
 
 returns : tie.Need-returns
-returns c = search (rules, explains-rest)
+returns c = search (rules, explains_rest)
 
 returns-2 : tie.Need-returns-2
-returns-2 c = search (rules, explains-not)
+returns-2 c = search (rules, explains_not)
 
 pub explains-spec : {M : Type 1} → statement M
 explains-spec =

@@ -1,11 +1,11 @@
 -- `words::wrong_places::flip` meets its contract. Assumes nothing.
 use borrow.Author.Rules.{rules}
-use Rattle.words.proofs.Steps.Inner.{flip-none, flip_one, flip-past}
+use Rattle.words.proofs.Steps.Inner.{flip_none, flip_one, flip_past}
 use Rattle.words.proofs.wrong_places.flip.Statement.{statement}
 use Rattle.words.proofs.wrong_places.flip.Tie as tie
 
 returns : tie.Need-returns
-returns c = search (rules, flip-none)
+returns c = search (rules, flip_none)
 
 slice-read-out : tie.Need-slice-read-out
 slice-read-out c = search rules
@@ -26,7 +26,7 @@ returns-2 : tie.Need-returns-2
 returns-2 c = search (rules, flip_one)
 
 returns-3 : tie.Need-returns-3
-returns-3 c = search (rules, flip-past)
+returns-3 c = search (rules, flip_past)
 
 pub flip-spec : {M : Type 1} → statement M
 flip-spec =

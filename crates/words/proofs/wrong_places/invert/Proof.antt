@@ -1,6 +1,6 @@
 -- `words::wrong_places::invert` meets its contract. Assumes nothing.
 use borrow.Author.Rules.{rules}
-use Rattle.words.proofs.Steps.Inner.{Inverted, inverted-none, inverted-next, inverted-end}
+use Rattle.words.proofs.Steps.Inner.{Inverted, inverted_none, inverted_next, inverted_end}
 use Prim.Native.Nat.{◌-◌, ◌≤◌}
 use Rattle.words.proofs.wrong_places.invert.Statement.{statement}
 use Rattle.words.proofs.wrong_places.invert.Tie as tie
@@ -12,7 +12,7 @@ abbrev decreases-loop : tie.decreases-loop
 decreases-loop step first out₀ e places k₀ out k = e.places.count - k
 
 loop-holds : tie.Need-loop-init invariant-loop decreases-loop
-loop-holds c = search (rules, inverted-none)
+loop-holds c = search (rules, inverted_none)
 
 mul-bit-place : tie.Need-overflow-mul-bit-place invariant-loop decreases-loop
 mul-bit-place c = search rules
@@ -39,13 +39,13 @@ loop-less : tie.Need-loop-smaller invariant-loop decreases-loop
 loop-less c = search rules
 
 loop-again : tie.Need-loop-preserved invariant-loop decreases-loop
-loop-again c = (search rules, inverted-next _ _ _ _ _ _ _ c.before.before.before.before.before.before.before.before.loop.invariant.1 _ c.before.before.before.before.bit-place.ensures _ (search rules) c.before.before.flip.ensures)
+loop-again c = (search rules, inverted_next _ _ _ _ _ _ _ c.before.before.before.before.before.before.before.before.loop.invariant.1 _ c.before.before.before.before.bit-place.ensures _ (search rules) c.before.before.flip.ensures)
 
 same_length : tie.Need-same-length invariant-loop decreases-loop
 same_length c = search rules
 
 returns : tie.Need-returns invariant-loop decreases-loop
-returns c = search (rules, inverted-end)
+returns c = search (rules, inverted_end)
 
 pub invert-spec : {M : Type 1} → statement M
 invert-spec =

@@ -1,7 +1,7 @@
 -- `words::wrong_places::syndromes` meets its contract. Assumes nothing.
 use borrow.Author.Rules.{rules}
 use Rattle.words.specs.Steps.InnerDecoding.{Syndromes}
-use Rattle.words.proofs.Steps.Inner.{syndromes-none, syndromes-next, syndromes-end}
+use Rattle.words.proofs.Steps.Inner.{syndromes_none, syndromes_next, syndromes_end}
 use Prim.Native.Nat.{◌-◌, ◌≤◌}
 use Rattle.words.proofs.wrong_places.syndromes.Statement.{statement}
 use Rattle.words.proofs.wrong_places.syndromes.Tie as tie
@@ -13,7 +13,7 @@ abbrev decreases-loop : tie.decreases-loop
 decreases-loop exp log odd t₀ i₀ t i = 8 - i
 
 loop-holds : tie.Need-loop-init invariant-loop decreases-loop
-loop-holds c = search (rules, syndromes-none)
+loop-holds c = search (rules, syndromes_none)
 
 mul-t : tie.Need-overflow-mul-t invariant-loop decreases-loop
 mul-t c = search rules
@@ -64,10 +64,10 @@ loop-less : tie.Need-loop-smaller invariant-loop decreases-loop
 loop-less c = search rules
 
 loop-again : tie.Need-loop-preserved invariant-loop decreases-loop
-loop-again c = search (rules, syndromes-next)
+loop-again c = search (rules, syndromes_next)
 
 returns : tie.Need-returns invariant-loop decreases-loop
-returns c = search (rules, syndromes-end)
+returns c = search (rules, syndromes_end)
 
 pub syndromes-spec : {M : Type 1} → statement M
 syndromes-spec =

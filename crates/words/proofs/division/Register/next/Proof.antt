@@ -4,14 +4,14 @@ use Prim.Native.Nat.{◌-◌}
 use lib.ListN.{get_or}
 use borrow.Author.Rules.{rules}
 use Rattle.fields.specs.Elements.{xor}
-use Rattle.fields.proofs.Places.Filling.{FilledOver, over-start}
-use Rattle.words.proofs.Steps.Digits.{DigitMultiples, digits-add}
-use Rattle.words.proofs.Steps.Shifting.{nextCell, shifting-next, shifting-end}
+use Rattle.fields.proofs.Places.Filling.{FilledOver, over_start}
+use Rattle.words.proofs.Steps.Digits.{DigitMultiples, digits_add}
+use Rattle.words.proofs.Steps.Shifting.{next_cell, shifting_next, shifting_end}
 use Rattle.words.proofs.division.Register.next.Statement.{statement}
 use Rattle.words.proofs.division.Register.next.Tie as tie
 
 abbrev invariant-loop : tie.invariant-loop
-invariant-loop low high s self₀ f l h i₀ self i = (f ≡ xor (get_or self₀.cells 0 0) s) × DigitMultiples low high f l h × FilledOver 16 (nextCell self₀.cells f) self₀.cells i self.cells
+invariant-loop low high s self₀ f l h i₀ self i = (f ≡ xor (get_or self₀.cells 0 0) s) × DigitMultiples low high f l h × FilledOver 16 (next_cell self₀.cells f) self₀.cells i self.cells
 
 abbrev decreases-loop : tie.decreases-loop
 decreases-loop low high s self₀ f l h i₀ self i = 15 - i
@@ -35,7 +35,7 @@ mul-h : tie.Need-overflow-mul-h invariant-loop decreases-loop
 mul-h c = search rules
 
 loop-holds : tie.Need-loop-init invariant-loop decreases-loop
-loop-holds c = search (rules, digits-add, over-start)
+loop-holds c = search (rules, digits_add, over_start)
 
 add-sum : tie.Need-overflow-add-sum invariant-loop decreases-loop
 add-sum c = search rules
@@ -83,7 +83,7 @@ loop-less : tie.Need-loop-smaller invariant-loop decreases-loop
 loop-less c = search rules
 
 loop-again : tie.Need-loop-preserved invariant-loop decreases-loop
-loop-again c = search (rules, shifting-next)
+loop-again c = search (rules, shifting_next)
 
 add-sum-4 : tie.Need-overflow-add-sum-4 invariant-loop decreases-loop
 add-sum-4 c = search rules
@@ -110,7 +110,7 @@ element-write-self-2 : tie.Need-element-write-self-2 invariant-loop decreases-lo
 element-write-self-2 c = search rules
 
 returns : tie.Need-returns invariant-loop decreases-loop
-returns c = search (rules, shifting-end)
+returns c = search (rules, shifting_end)
 
 pub next-spec : {M : Type 1} → statement M
 next-spec =

@@ -2,6 +2,8 @@
 // call and what it is lent, and gives the answer: a product, or 0 or the refusal's number; of a correction then its numbers: changed symbols of an outer word, changed bytes of
 // a G.709 frame or row, changed data places and parity places of an inner word, the sum of a frame's report and the digests of its data places and its parity
 // places; last the buffer. `stdout` is what tests/vectors makes with the second encoder and decoder.
+#![tactic(auto)]
+
 mod calls;
 mod damage;
 mod data;

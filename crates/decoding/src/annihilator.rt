@@ -12,7 +12,7 @@ const CELLS: usize = RADIUS + COEFFICIENTS;
 
 // A row of the elimination. Cells 0 to 7: what a polynomial makes of the syndromes from 0, .. 7 on. Cells 8 to 16: its coefficients, highest power
 // first.
-#[derive(Drop)]
+#[derive(Clone, Copy)]
 pub struct Row {
     pub cells: [u16; CELLS],
 }
@@ -126,7 +126,7 @@ fn eliminated(exp: &[u16], log: &[u16], t: [u16; SYNDROMES]) -> [u16; COEFFICIEN
 // The shortest recurrence of the syndromes up to a step of Berlekamp and Massey's algorithm: the coefficients of its connection polynomial, lowest power
 // first, without those above x^8, and its order. `previous` are the coefficients before the order last changed, `discrepancy` is the one for which it
 // did, and `since` the number of steps up to then.
-#[derive(Drop)]
+#[derive(Clone, Copy)]
 struct Recurrence {
     coefficients: [u16; COEFFICIENTS],
     previous: [u16; COEFFICIENTS],

@@ -28,7 +28,7 @@ fn filtered(exp: &[u16], log: &[u16], x: u16, t: [u16; SYNDROMES]) -> [u16; SYND
 }
 
 // A sequence from which the powers of some locators are filtered out, and the factor by which that multiplied the powers of another.
-#[derive(Drop)]
+#[derive(Clone, Copy)]
 struct Filter {
     sequence: [u16; SYNDROMES],
     factor: u16,
@@ -88,7 +88,7 @@ fn less_error(exp: &[u16], log: &[u16], x: u16, v: u16, t: [u16; SYNDROMES]) -> 
 
 // The errors found: their places, and the values to be added there. `left` is what they leave of the word's syndromes: all zero, if the word with the
 // values added is a code word.
-#[derive(Drop)]
+#[derive(Clone, Copy)]
 pub struct Errors {
     pub places: Places,
     pub values: [u16; RADIUS],

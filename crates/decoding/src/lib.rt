@@ -8,6 +8,8 @@
 // The test is the caller's: if nothing is left of the syndromes, the word less these errors is a code word, near enough; else there is none. Any polynomial that
 // annihilates will do: the values tell which of its roots are errors. The modules `symbols` and `exponents` have what these steps do with single symbols. The laws behind
 // it, power sums, locators and the minimum distance, are in proofs/Algebra; those of the decoder in proofs/Decoding.
+#![tactic(auto)]
+
 ghost use Rattle.std.specs.Prelude.{◌≡◌, ◌%◌, ◌≤◌, ◌<◌, length};
 ghost use Rattle.fields.specs.Elements.{powers_b};
 ghost use Rattle.decoding.specs.Steps.Decoder.{Tables, locator, Decoded, change_between, weight_between};

@@ -197,7 +197,7 @@ fn table_start(log: &[u16], c: u16, d: usize, n: usize) -> usize
 }
 
 // For the terms of degree 1, 2, .. 8 of a polynomial: the first entry of its table, and which entry from there on is its value at place 0.
-#[derive(Drop)]
+#[derive(Clone, Copy)]
 struct TermTables {
     bases: [usize; RADIUS],
     starts: [usize; RADIUS],

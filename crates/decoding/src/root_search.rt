@@ -11,7 +11,7 @@ use crate::{COEFFICIENTS, RADIUS, locator, symbols};
 
 // The terms of a polynomial at a locator, but for those that are zero. The first `count` of `exponents` are their exponents; the first `count` of `steps`
 // say by how much these fall from one place to the next.
-#[derive(Drop)]
+#[derive(Clone, Copy)]
 struct Terms {
     exponents: [usize; COEFFICIENTS],
     steps: [usize; COEFFICIENTS],
@@ -140,7 +140,7 @@ fn next_root(exp: &[u16], log: &[u16], polynomial: [u16; COEFFICIENTS], n: usize
 }
 
 // A polynomial, divided by x + r for each of its roots r that are found.
-#[derive(Drop)]
+#[derive(Clone, Copy)]
 struct Quotient {
     coefficients: [u16; COEFFICIENTS],
 }
@@ -161,7 +161,7 @@ fn divided(exp: &[u16], log: &[u16], q: Quotient, r: u16) -> Quotient
 }
 
 // The first `count` of `at` are places of a word, in ascending order.
-#[derive(Drop)]
+#[derive(Clone, Copy)]
 pub struct Places {
     pub at: [u16; RADIUS],
     pub count: usize,

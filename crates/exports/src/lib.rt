@@ -1,6 +1,8 @@
 // What the programs of tests/ and bench/ call and a terminal does not, exported for C and Rust: the entries on single words, the corrector with its report, those of
 // G.709 frames and rows with their counts, the worst list of any counts, and chains of products through tables that are bound once and lent. An answer of more than
 // one number comes packed into one, and a list in a buffer that is lent.
+#![tactic(auto)]
+
 ghost use Rattle.std.specs.Prelude.{◌≡◌, ◌+◌, ◌≤◌};
 ghost use Rattle.fields.specs.Elements.{powers_a, exponents_a, powers_b, exponents_b, powers_c, exponents_c};
 ghost use Rattle.words.specs.Answers.{outer_checked, outer_encoded, inner_checked, inner_encoded, refusal_of, changed_of, inner_refusal_of, data_changed_of, parity_changed_of, outer_corrected, inner_corrected};

@@ -7,6 +7,8 @@
 // any other content and length are answered too, as `by_table` and `by_tables` say, and never read out of range.
 //
 // exp_a, log_a and those of fields B and C hand the tables out by value. A caller binds them once and lends them on: what it lends is not copied again.
+#![tactic(auto)]
+
 ghost use Rattle.std.specs.Prelude.{◌≡◌, ℕ, ◌-◌, ◌%◌, ◌^◌, ◌<◌, length, get_or};
 ghost use Rattle.fields.specs.Elements.{times, power, inverse, powers, powers_a, exponents_a, powers_b, exponents_b, powers_c, exponents_c};
 ghost use Rattle.fields.specs.Field.{Field};

@@ -12,6 +12,8 @@
 // Every input is answered: an entry returns 0, or the number of the refusal; a refusal leaves the output buffer as it was. Where there is more than one
 // fault, the order is 1 (length of the payload) or 2 (length of the block), 3 (size of the output buffer), then 4 (no frame) or 5
 // (uncorrectable).
+#![tactic(auto)]
+
 ghost use Rattle.std.specs.Prelude.{◌≡◌, true, ◌&&◌, length};
 ghost use Rattle.std.proofs.Math.Option.{some};
 ghost use Rattle.words.specs.Bits.{bit_at};
@@ -31,7 +33,7 @@ mod outer_test;
 mod outer_words;
 
 // The frame and its parts.
-#[derive(Drop)]
+#[derive(Clone, Copy)]
 pub struct Frame;
 
 impl Frame {
@@ -123,7 +125,7 @@ pub fn extract_payload(block: &[u8], out: &mut [u8]) -> u8
 
 // What a correction answers: the refusal's number, or 0; then for each inner word in how many of its data places, and in how many of its parity places, received
 // block and restored frame differ, and the sum of all these counts. A refusal carries its number and nothing else: its counts are 0.
-#[derive(Drop)]
+#[derive(Clone, Copy)]
 pub struct Report {
     pub refusal: u8,
     pub data: [u16; Frame::INNER_WORDS],

@@ -90,7 +90,7 @@ fn is_code_word(table: &[u64], block: &[u8], w: usize) -> bool
 }
 
 // The parities of two outer words.
-#[derive(Drop)]
+#[derive(Clone, Copy)]
 struct Two {
     first: Packed,
     second: Packed,

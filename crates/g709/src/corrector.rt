@@ -70,7 +70,7 @@ fn correct_word(e: Errors, r: usize, k: usize, out: &mut [u8]) -> Correction
 }
 
 // Whether all words so far have a code word near them, and how many bytes were changed.
-#[derive(Drop)]
+#[derive(Clone, Copy)]
 pub struct RowProgress {
     pub reached: bool,
     pub changed: u16,

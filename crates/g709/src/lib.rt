@@ -9,6 +9,8 @@
 //
 // Every input is answered: an entry returns 0, or the number of the refusal; a refusal leaves the output buffer as it was. Frames: 1 or 2 (length), 3 (size of the output
 // buffer), then 4 (no frame) or 5 (uncorrectable). Single rows: 8 (length), 3, then 4 or 5.
+#![tactic(auto)]
+
 ghost use Rattle.std.specs.Prelude.{◌≡◌};
 ghost use Rattle.g709.specs.Answers.{row_encoded, row_checked, row_extracted, row_corrected, rows_encoded, rows_checked, rows_extracted, rows_corrected};
 

@@ -24,7 +24,7 @@ fn flip_places(flips: &[u64], mask: u64, block: &mut [u8])
 }
 
 // Number j has the inner words that are to be inverted in more than j of the places so far.
-#[derive(Drop)]
+#[derive(Clone, Copy)]
 pub struct Above {
     pub r0: u64,
     pub r1: u64,

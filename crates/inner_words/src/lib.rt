@@ -2,6 +2,8 @@
 // factors of the divisor (modules residues and factor_residues) give the parity bits (module parity), and tell which inner words of a block are no code words.
 // Those with a single wrong place are corrected at sight (module singles), many others at once, as candidates that are tested (module candidates, over crate
 // lanes), what is left one by one (module one_by_one); each way answers the words that it leaves wrong.
+#![tactic(auto)]
+
 ghost use Rattle.std.specs.Prelude.{◌≡◌, length};
 ghost use Rattle.fields.specs.Steps.Buffers.{Placed};
 ghost use Rattle.words.specs.Bits.{bit_at, bytes_of};
@@ -22,7 +24,7 @@ mod residues;
 mod singles;
 
 // The inner words, interleaved bit by bit.
-#[derive(Drop)]
+#[derive(Clone, Copy)]
 pub struct Interleaved;
 
 impl Interleaved {

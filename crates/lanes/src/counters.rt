@@ -23,7 +23,7 @@ const SIXTY_FOURS: usize = EIGHTS / STEP;
 const PLANES: usize = 12;
 
 // For each inner word the sum of three bits, as a binary number of two digits.
-#[derive(Drop)]
+#[derive(Clone, Copy)]
 struct Added {
     sum: u64,
     carry: u64,
@@ -39,7 +39,7 @@ fn full_adder(a: u64, b: u64, c: u64) -> Added
 }
 
 // The planes of weight 1, 2 and 4, and the carry of weight 8 of the last step.
-#[derive(Drop)]
+#[derive(Clone, Copy)]
 pub struct Planes {
     pub ones: u64,
     pub twos: u64,

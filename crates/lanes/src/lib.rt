@@ -10,6 +10,8 @@
 // What comes out are candidates: how wrong places are found is free, and the crate above takes a word only after a test.
 //
 // Apart from these, module counters counts for all inner words at once: in how many places two blocks differ.
+#![tactic(auto)]
+
 pub mod candidates;
 pub mod counters;
 mod elements;
@@ -32,7 +34,7 @@ pub const WORD_BLOCKS: usize = 185;
 pub const ALL: u64 = 0xffff_ffff_ffff_ffff;
 
 // The eleven coefficients of 64 elements or residues, the lowest power first.
-#[derive(Drop)]
+#[derive(Clone, Copy)]
 pub struct Lanes {
     pub r0: u64,
     pub r1: u64,

@@ -95,7 +95,7 @@ fn follow(other: &mut [u64; BANK], mask: u64, locator: &[u64; BANK]) {
 }
 
 // Number j, from 1 to 9, has the inner words in which the shortest recurrence of the syndromes so far has at least length j.
-#[derive(Drop)]
+#[derive(Clone, Copy)]
 struct Lengths {
     at: [u64; COEFFICIENTS + 1],
 }
@@ -129,7 +129,7 @@ fn lengthened(lengths: Lengths, r: usize, mask: u64) -> Lengths
 }
 
 // What a step hands to the next: the discrepancy at which a length last grew, and the lengths.
-#[derive(Drop)]
+#[derive(Clone, Copy)]
 struct Progress {
     factor: Lanes,
     lengths: Lengths,

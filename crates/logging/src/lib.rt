@@ -2,6 +2,8 @@
 //
 //     counters     what the corrector's answers add up to: cleared at the start, then counted once an answer
 //     worst list   the first inner word in the order of the list, then the first of the others, up to eight
+#![tactic(auto)]
+
 ghost use Rattle.std.specs.Prelude.{◌≡◌, cond, ◌+◌, ◌≤◌, eqb};
 ghost use Rattle.logging.specs.Counting.{limited, cleared, counted};
 ghost use Rattle.logging.specs.WorstList.{count_in, count_of, is_before, is_open, earlier, first_open, worst_words};
@@ -9,7 +11,7 @@ ghost use Rattle.logging.specs.WorstList.{count_in, count_of, is_before, is_open
 use frames::{Frame, Report};
 
 // What the corrector's answers since the last clearing add up to ("tally"). Each number stops at the largest that it can be.
-#[derive(Drop)]
+#[derive(Clone, Copy)]
 pub struct Counters {
     // Frames taken.
     pub frames: u32,

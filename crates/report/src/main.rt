@@ -1,6 +1,8 @@
 // One received block goes in on standard input, and a report on its correction comes out on standard output: a line "mended" with the number of wrong bits,
 // then a line "inner" for each inner word of the worst list, with its number, its wrong data places and its wrong parity places; or the single line "refused"
 // with the refusal's number. What is printed is the answer of frames::correct_frame and logging::worst_words.
+#![tactic(auto)]
+
 use frames::{Frame, Report};
 
 fn wide(n: u16) -> u64 {

@@ -25,7 +25,7 @@ const HIGH_BITS: usize = Inner::PARITY - LOW_BITS;
 const HIGH_VALUES: u64 = 1 << HIGH_BITS;
 
 // A binary polynomial: bit i of `low` is the coefficient of z^i, bit i of `high` that of z^(48 + i).
-#[derive(Drop)]
+#[derive(Clone, Copy)]
 pub struct Polynomial {
     pub high: u64,
     pub low: u64,

@@ -49,7 +49,7 @@ pub(crate) fn high_multiples() -> [u16; CELLS]
 }
 
 // The division register: the remainder so far, highest power first.
-#[derive(Drop)]
+#[derive(Clone, Copy)]
 pub struct Register {
     pub cells: [u16; Outer::PARITY],
 }

@@ -14,6 +14,8 @@
 // Every input is answered: an entry returns 0, or the number of the refusal; a refusal leaves the output buffer as it was. Where a word has more
 // than one fault, the order is 6 (its length), 3 (the size of the output buffer), 7 (a symbol above 1,023), then 4 (no code word) or 5 (no code word
 // within eight).
+#![tactic(auto)]
+
 ghost use Rattle.std.specs.Prelude.{◌≡◌};
 ghost use Rattle.words.specs.Answers.{outer_checked, outer_encoded, inner_checked, inner_encoded, outer_corrected, inner_corrected};
 
@@ -28,7 +30,7 @@ pub mod reed_solomon;
 pub mod wrong_places;
 
 // The outer code. Lengths are counted in symbols.
-#[derive(Drop)]
+#[derive(Clone, Copy)]
 pub struct Outer;
 
 impl Outer {
@@ -53,7 +55,7 @@ impl Outer {
 }
 
 // The inner code. A word is lent as bytes of eight places each.
-#[derive(Drop)]
+#[derive(Clone, Copy)]
 pub struct Inner;
 
 impl Inner {
@@ -75,14 +77,14 @@ impl Inner {
 }
 
 // What the correction of Reed-Solomon words answers: how many symbols it changed, or the refusal's number.
-#[derive(Drop)]
+#[derive(Clone, Copy)]
 pub enum Correction {
     Corrected { changed: u16 },
     Refused { number: u8 },
 }
 
 // What the correction of an inner word answers: how many data places and how many parity places it changed, or the refusal's number.
-#[derive(Drop)]
+#[derive(Clone, Copy)]
 pub enum InnerCorrection {
     Corrected { data: u16, parity: u16 },
     Refused { number: u8 },

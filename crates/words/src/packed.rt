@@ -48,7 +48,7 @@ fn join(word: &[u16], i: usize, n: usize) -> u64
 }
 
 // The division register: its cells 0 to 5, 6 to 11, and 12 to 15 with two zeros after them.
-#[derive(Drop)]
+#[derive(Clone, Copy)]
 pub struct Packed {
     pub high: u64,
     pub middle: u64,

@@ -12,7 +12,7 @@ use decoding::error_values::Errors;
 use decoding::symbols;
 
 // The values of a polynomial, or of a word, at a, a^3, .. a^15.
-#[derive(Drop)]
+#[derive(Clone, Copy)]
 pub struct OddSyndromes {
     pub at: [u16; Inner::RADIUS],
 }

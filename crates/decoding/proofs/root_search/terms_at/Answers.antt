@@ -1,0 +1,14 @@
+use borrow.Author.Rules.{rules}
+use Rattle.decoding.proofs.Steps.Search.{terms_none, terms_next, terms_end}
+use Rattle.decoding.proofs.root_search.terms_at.Goals as goal
+
+pub loop-d-init : goal.loop-d-init
+loop-d-init c = search (rules, terms_none)
+
+pub loop-d-preserved : goal.loop-d-preserved
+loop-d-preserved c =
+    terms_next _ _ _ _ _ _ _ c.loop-d.invariant _ _ _ _ c.loop-d-test.true
+    c.product-value.ensures.0 c.power.ensures.0 c.with_term-t.ensures c.product-power.ensures.0
+
+pub returns : goal.returns
+returns c = search (rules, terms_end)

@@ -1,0 +1,6 @@
+use borrow.Author.Rules.{rules}
+use Rattle.exports.proofs.Packed.{frame_packed}
+use Rattle.exports.proofs.exports_correct_frame.Goals as goal
+
+pub returns : goal.returns
+returns c = search (rules, frame_packed)

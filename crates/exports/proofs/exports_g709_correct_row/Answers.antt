@@ -1,0 +1,6 @@
+use borrow.Author.Rules.{rules}
+use Rattle.exports.proofs.Packed.{word_packed}
+use Rattle.exports.proofs.exports_g709_correct_row.Goals as goal
+
+pub returns : goal.returns
+returns c = search (rules, word_packed)

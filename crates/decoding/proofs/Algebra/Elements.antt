@@ -41,7 +41,7 @@ module _ (m p : ℕ) where
         record {
           add_comm = F.sum_comm;
           add_assoc = F.sum_assoc;
-          add_self = F.Sum-self;
+          add_self = F.sum_self;
           zero-add = λ a. F.sum_comm 0 a ∙ F.sum_zero a;
           mul_comm = λ a b. F.times_comm _ _ (low a) (low b);
           mul_assoc = λ a b c. rw (product_low a (b % 2 ^ m), product_low b (c % 2 ^ m)) (F.times_assoc _ _ _ (low a) (low b) (low c));

@@ -22,7 +22,7 @@ module _ (m p : ℕ) (F : Field m p) where
   unfolding differs
   distance_support b c n =
       support_count (ops m p) is_zero (λ i. xor (b i) (c i)) (λ i. differs (b i) (c i)) (λ i z. rw (eq-eqb (b i) (c i) (eq_of_add (ops m p) (laws m p F) z)))
-      (λ i z. rw (ne_eqb (b i) (c i) (λ e. z (rw e (F.Sum-self (c i)))))) n
+      (λ i z. rw (ne_eqb (b i) (c i) (λ e. z (rw e (F.sum_self (c i)))))) n
 
   -- words of n elements with the same values at a^s .. a^(s+k-1) that differ in at most k places are equal
   pub far : (s k n : ℕ) → n ≤ 2 ^ m - 1 → (b c : ℕ → ℕ) → ((i : ℕ) → b i < 2 ^ m) → ((i : ℕ) → c i < 2 ^ m) →
@@ -30,7 +30,7 @@ module _ (m p : ℕ) (F : Field m p) where
       (i : ℕ) → i < n → b i ≡ c i
   unfolding power
   far s k n small b c hb hc agree few =
-      distance (ops m p) (laws m p F) is_zero (power m p 1) (power m p) refl (power_next m p F) (λ i e. omega (arith, F.Power-pos i)) n
+      distance (ops m p) (laws m p F) is_zero (power m p 1) (power m p) refl (power_next m p F) (λ i e. omega (arith, F.power_pos i)) n
       (λ i j h l. powers_distinct m p F i j h (omega arith)) s k b c hb hc
       (λ j h. sym (value_abstract m p F _ (F.power_lt (s + j)) b hb n) ∙ agree j h ∙ value_abstract m p F _ (F.power_lt (s + j)) c hc n)
       (rw (distance_support b c n) few)

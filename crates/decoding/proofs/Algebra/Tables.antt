@@ -86,7 +86,7 @@ module _ (m p : ℕ) (F : Field m p) where
         first = table_power_lem m p F 0;
         next = λ i. table_power_lem m p F (suc i) ∙ power_next m p F i ∙ sym (table_product_lem m p F _ _ ∙ ap₂ (λ (a b : ℕ). times m p (a % 2 ^ m) (b % 2 ^ m)) (table_power_lem m p F 1) (table_power_lem m p F i));
         inside = λ i. rw (exponents_length, table_power_lem m p F i) (F.power_lt i);
-        nonzero = λ i e. omega (arith, F.Power-pos i, table_power_lem m p F i);
+        nonzero = λ i e. omega (arith, F.power_pos i, table_power_lem m p F i);
         distinct = λ i j h l e. powers_distinct m p F i j h (rw powers_length at l) (sym (table_power_lem m p F i) ∙ e ∙ table_power_lem m p F j);
       }
 

@@ -8,7 +8,7 @@ loop-d-init c = search (rules, terms_none)
 pub loop-d-preserved : goal.loop-d-preserved
 loop-d-preserved c =
     terms_next _ _ _ _ _ _ _ c.loop-d.invariant _ _ _ _ c.loop-d-test.true
-    c.product-value.ensures.0 c.power.ensures.0 c.with_term-t.ensures c.product-power.ensures.0
+    c.product-value.ensures.by_tables c.power.ensures.by_table c.with_term-t.ensures c.product-power.ensures.by_tables
 
 pub returns : goal.returns
 returns c = search (rules, terms_end)

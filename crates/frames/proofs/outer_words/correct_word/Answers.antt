@@ -10,4 +10,7 @@ pub returns-then-is_zero : goal.returns-then-is_zero
 returns-then-is_zero c = search (rules, code_kept)
 
 pub restore-requires : goal.restore-requires
-restore-requires c = (search (rules, space_long), search (rules, word_remainder))
+restore-requires c = record {
+    w_bound = search (rules, space_long);
+    packs = search (rules, word_remainder);
+}

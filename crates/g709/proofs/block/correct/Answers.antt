@@ -9,7 +9,10 @@ pub returns-then-out-n : goal.returns-then-out-n
 returns-then-out-n c = refused_space c.args.n c.args.long c.args.block.now c.args.out.now c.if-block-n.false c.if-out-n.true
 
 pub restore-p-requires : goal.restore-p-requires
-restore-p-requires c = (search rules, search (rules, restoring_start))
+restore-p-requires c = record {
+    n_bound = search rules;
+    restoring = search (rules, restoring_start);
+}
 
 pub returns-then-p : goal.returns-then-p
 returns-then-p c = search (rules, answer_restored)

@@ -6,7 +6,10 @@ pub returns-then-not-all_below : goal.returns-then-not-all_below
 returns-then-not-all_below c = (search (rules, word_lost), search rules)
 
 pub add_values-requires : goal.add_values-requires
-add_values-requires c = (search (rules, few_errors), search (rules, byte_values))
+add_values-requires c = record {
+    from_bound = search (rules, few_errors);
+    byte_values = search (rules, byte_values);
+}
 
 pub weight-requires : goal.weight-requires
 weight-requires c = search (rules, few_errors)

@@ -10,4 +10,7 @@ pub loop-p-preserved : goal.loop-p-preserved
 loop-p-preserved c = (search (rules, writing_next), search (rules, raising_next))
 
 pub returns : goal.returns
-returns c = (search (rules, writing_end), search (rules, raising_end))
+returns c = record {
+    block = search (rules, writing_end);
+    many = search (rules, raising_end);
+}

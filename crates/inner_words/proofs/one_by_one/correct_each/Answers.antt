@@ -12,7 +12,12 @@ pub overflow_mul-left : goal.overflow_mul-left
 overflow_mul-left c = search (rules, going_twice)
 
 pub correct_wrong-requires : goal.correct_wrong-requires
-correct_wrong-requires c = (search rules, (search rules, (search (rules, going_wrong), λ q. search (rules, going_residues))))
+correct_wrong-requires c = record {
+    exp_value = search rules;
+    residues_len = search rules;
+    k_value = search (rules, going_wrong);
+    word_residues = λ q. search (rules, going_residues);
+}
 
 pub overflow_add-left : goal.overflow_add-left
 overflow_add-left c = search (rules, going_fits)

@@ -3,7 +3,13 @@ use Rattle.inner_words.proofs.Passes.WordErrors.{not_explained, word_explained}
 use Rattle.inner_words.proofs.one_by_one.correct_word.Goals as goal
 
 pub returns-then-not-explains : goal.returns-then-not-explains
-returns-then-not-explains c = (search (rules, not_explained), search rules)
+returns-then-not-explains c = record {
+    put = search (rules, not_explained);
+    tables = search rules;
+}
 
 pub returns : goal.returns
-returns c = (search (rules, word_explained), search rules)
+returns c = record {
+    put = search (rules, word_explained);
+    tables = search rules;
+}

@@ -3,7 +3,13 @@ use Rattle.inner_words.proofs.Passes.InnerPass.{wrong_residues, right_restored}
 use Rattle.inner_words.proofs.one_by_one.correct_wrong.Goals as goal
 
 pub correct_word-requires : goal.correct_word-requires
-correct_word-requires c = (search rules, (search rules, search rules, search rules, search (rules, wrong_residues)))
+correct_word-requires c = record {
+    exp_value = search rules;
+    residues_len = (search rules, search rules, search rules, search (rules, wrong_residues));
+}
 
 pub returns : goal.returns
-returns c = (search (rules, right_restored), search rules)
+returns c = record {
+    put = search (rules, right_restored);
+    tables = search rules;
+}

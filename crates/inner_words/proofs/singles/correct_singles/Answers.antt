@@ -9,7 +9,11 @@ pub overflow_mul-left : goal.overflow_mul-left
 overflow_mul-left c = search (rules, going_twice)
 
 pub try_single-requires : goal.try_single-requires
-try_single-requires c = (search rules, (search (rules, going_wrong), λ q. search (rules, going_residues)))
+try_single-requires c = record {
+    exp_value = search rules;
+    k_value = search (rules, going_wrong);
+    word_residues = λ q. search (rules, going_residues);
+}
 
 pub overflow_add-left : goal.overflow_add-left
 overflow_add-left c = search (rules, going_fits)

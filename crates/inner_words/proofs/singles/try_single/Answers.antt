@@ -3,7 +3,10 @@ use Rattle.inner_words.proofs.Passes.InnerPass.{wrong_residues, wrong_stays, rig
 use Rattle.inner_words.proofs.singles.try_single.Goals as goal
 
 pub correct_single-requires : goal.correct_single-requires
-correct_single-requires c = (search rules, search (rules, wrong_residues))
+correct_single-requires c = record {
+    exp_value = search rules;
+    word_residues = search (rules, wrong_residues);
+}
 
 pub returns-then-correct_single : goal.returns-then-correct_single
 returns-then-correct_single c = search (rules, restored_nearer)

@@ -3,7 +3,10 @@ use Rattle.words.proofs.Steps.Corrections.{tables_given, word_fits, correct_oute
 use Rattle.words.proofs.corrector.correct_from.Goals as goal
 
 pub decode-e-requires : goal.decode-e-requires
-decode-e-requires c = (search (rules, tables_given), (search (rules, word_fits), search rules))
+decode-e-requires c = record {
+    tables = search (rules, tables_given);
+    n_in_bounds = (search (rules, word_fits), search rules);
+}
 
 pub returns-then-not-all_below : goal.returns-then-not-all_below
 returns-then-not-all_below c = search (rules, correct_outer_lost)

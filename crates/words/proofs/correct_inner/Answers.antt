@@ -16,5 +16,5 @@ returns-then-not-explains c = search (rules, correct_inner_none)
 
 pub returns : goal.returns
 returns c =
-    let bytes : (k : ℕ) → get_or c.correct.new.1.1.0 k 0 ≤ 255 = λ k. omega (arith, c.slice_known-2-1.given k) in
+    let bytes : (k : ℕ) → get_or c.correct.new.out k 0 ≤ 255 = λ k. omega (arith, c.slice_known-2-1.given k) in
     search (rules, correct_inner_found, bytes)

@@ -1,5 +1,5 @@
 -- Sixteen polynomials side by side, evaluated at one power of a after another. Assumes nothing.
-use mathlib.Core.Path.{◌≡◌, refl, sym, ap, ap₂, ◌∙◌}
+use mathlib.Core.Path.{◌≡◌, refl, sym, subst, ap, ap₂, ◌∙◌}
 use mathlib.Core.List.{List}
 use Prim.Native.Nat.{ℕ, zero, suc, ◌+◌, ◌-◌, ◌*◌, ◌/◌, ◌%◌, ◌≤◌, ◌<◌}
 use native.Mathlib.Decide.{dec_lt}
@@ -158,6 +158,12 @@ module _ (t terms values next stored : List ℕ) (e : ℕ) (E : EvaluatedTo t e 
       sum_below (λ d. at terms (k + 16 * d)) (term_after t e k) 8 (λ d l. let s : k + 16 * d ≡ 16 * d + k = omega arith in ap (at terms) s ∙ E.moved d k (omega arith) h)
       ∙ sym (value_terms t E.bytes k e)
 
+  -- the column of the constant term stays as it is
+  moved_last : (k : ℕ) → k < 16 → at (columns_scaled terms 8) (16 * 8 + k) ≡ term_after t (suc e) k 8
+  moved_last k h =
+      let w : at t (16 * 8 + k) < 256 = E.bytes (16 * 8 + k) in
+      scaled_behind terms long 8 (16 * 8 + k) (omega arith) ∙ E.moved 8 k (omega arith) h ∙ iter_none e (at t (16 * 8 + k)) w ∙ sym (iter_none (suc e) (at t (16 * 8 + k)) w)
+
   moved_next : (d k : ℕ) → d < 9 → k < 16 → at next (16 * d + k) ≡ term_after t (suc e) k d
   unfolding iter
   moved_next d k l h = ap (λ (o : List ℕ). at o (16 * d + k)) en ∙ go (dec_lt d 8)
@@ -165,10 +171,8 @@ module _ (t terms values next stored : List ℕ) (e : ℕ) (E : EvaluatedTo t e 
       go : Dec (d < 8) → at (columns_scaled terms 8) (16 * d + k) ≡ term_after t (suc e) k d
       go (yes m) = scaled_at terms long 8 d k (le_refl 8) m h ∙ ap (by (8 - d)) (E.moved d k l h)
       go (no m) =
-          let s : d ≡ 8 = omega arith in
-          let w : at t (16 * 8 + k) < 256 = E.bytes (16 * 8 + k) in
-          rw s
-          (scaled_behind terms long 8 (16 * 8 + k) (omega arith) ∙ E.moved 8 k (omega arith) h ∙ iter_none e (at t (16 * 8 + k)) w ∙ sym (iter_none (suc e) (at t (16 * 8 + k)) w))
+          let s : 8 ≡ d = omega arith in
+          subst (λ (x : ℕ). at (columns_scaled terms 8) (16 * x + k) ≡ term_after t (suc e) k x) s (moved_last k h)
 
   done_next : (i k : ℕ) → i < suc e → k < 16 → at stored (16 * i + k) ≡ value_at_power t k i
   done_next i k l h = ap (λ (o : List ℕ). at o (16 * i + k)) es ∙ go (dec_lt i e)

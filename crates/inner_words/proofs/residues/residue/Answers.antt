@@ -25,6 +25,6 @@ returns-in-6 c = by_factor 6 c.args.j _ _ (search rules) c.residue_6.ensures
 
 pub returns-in_default : goal.returns-in_default
 returns-in_default c =
-    let n = c.in_default.rest in
+    let n = c.in_default.in_default-own.rest in
     let last = last_factor _ n.0.0.0.0.0.0.1 n.0.0.0.0.0.1 n.0.0.0.0.1 n.0.0.0.1 n.0.0.1 n.0.1 n.1 c.requires.0 in
     by_factor 7 _ _ _ last c.residue_7.ensures

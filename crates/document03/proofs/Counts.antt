@@ -1,11 +1,11 @@
 -- Where document 03 speaks of the count of an inner word, a report has two since document 02, A.1: of its data places and of its parity places. Theirs is the sum.
 -- Assumes nothing.
-use mathlib.Core.Path.{◌≡◌, sym, ap, ap₂, ◌∙◌}
+use mathlib.Core.Path.{◌≡◌, ◌∙◌}
 use mathlib.Core.List.{List}
 use Prim.Native.Nat.{ℕ, ◌+◌, ◌<◌}
 use lib.ListN.{length, get_or}
 use Rattle.fields.specs.Lists.{tabulate}
-use Rattle.fields.specs.Places.{at, sum_to}
+use Rattle.fields.specs.Places.{at}
 use Rattle.fields.proofs.Lists.{tabulate_at, tabulate_length}
 use Rattle.fields.proofs.Places.Counting.{sum_add, sum_same}
 use Rattle.frames.specs.Correction.{total}

@@ -1,8 +1,8 @@
 -- FieldTables the tables of a field, the functions over tables give the field's powers, products and inverses. For any degree m and polynomial p.
 -- Assumes nothing.
-use mathlib.Core.Path.{◌≡◌, sym, ap, ◌∙◌}
+use mathlib.Core.Path.{◌≡◌, sym, ◌∙◌}
 use mathlib.Core.List.{List}
-use Prim.Native.Nat.{ℕ, ◌+◌, ◌-◌, ◌%◌, ◌^◌, ◌≤◌, ◌<◌}
+use Prim.Native.Nat.{ℕ, ◌+◌, ◌-◌, ◌%◌, ◌^◌, ◌<◌}
 use native.Mathlib.Nat.{mod-lt}
 use native.Mathlib.Decide.{ℕ_discrete}
 use native.Mathlib.Omega.{arith}
@@ -12,7 +12,7 @@ use lib.ListN.{length, get_or}
 use lib.Pow.{pow_pos}
 use Rattle.fields.specs.Elements.{times, power, exponent, inverse, powers, exponents}
 use Rattle.fields.specs.Field.{Field}
-use Rattle.fields.specs.Steps.ByTables.{place_in, wrapped, power_near, table_power, product_at, table_product, inverse_at, table_inverse, FieldTables}
+use Rattle.fields.specs.Steps.ByTables.{place_in, power_near, table_power, product_at, table_product, inverse_at, table_inverse, FieldTables}
 use Rattle.fields.proofs.Doubling.{two_le}
 use Rattle.fields.proofs.Lists.{tabulate_at, tabulate_length}
 use Rattle.fields.proofs.Ways.{wrapped_modulo}

@@ -1,6 +1,6 @@
 -- Demand 3, the first half: lost inner words cost an outer word at most eight symbols, so the sent frame comes back, and the report counts the wrong bits.
 -- Assumes nothing.
-use mathlib.Core.Path.{◌≡◌, refl, sym, ◌∙◌}
+use mathlib.Core.Path.{◌≡◌, refl, ◌∙◌}
 use mathlib.Core.Bool.{Bool, true, false, cond}
 use mathlib.Core.List.{List, []}
 use mathlib.Core.Option.{some}

@@ -9,7 +9,7 @@ use lib.ListN.{length}
 use Rattle.fields.specs.Places.{apart}
 use Rattle.fields.proofs.Places.Differences.{apart_none}
 use Rattle.words.specs.Answers.{answered}
-use Rattle.frames.specs.Frames.{is_payload, is_block_lem, outer_words, frame_of_words, frame_of, payload_of}
+use Rattle.frames.specs.Frames.{is_payload, is_block_lem, outer_words, frame_of, payload_of}
 use Rattle.frames.specs.Answers.{is_frame, frame_encoded, frame_checked, payload_extracted}
 use Rattle.frames.proofs.Frames.FrameBits.{payload_is, block_is, frame_length, frame_block}
 use Rattle.frames.proofs.Proved.{frame_laws}

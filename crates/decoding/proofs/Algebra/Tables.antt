@@ -2,7 +2,7 @@
 use mathlib.Core.Path.{◌≡◌, refl, sym, ap, ap₂, ◌∙◌, fun_ext, subst}
 use mathlib.Core.List.{List}
 use Prim.Native.Nat.{ℕ, zero, suc, ◌+◌, ◌-◌, ◌%◌, ◌^◌, ◌<◌}
-use native.Mathlib.Nat.{le_refl, mod-eq_of_lt, zero-add, suc-add, one-mul}
+use native.Mathlib.Nat.{le_refl, mod-eq_of_lt, zero-add, suc-add}
 use native.Mathlib.Omega.{arith}
 use lib.ListN.{length}
 use Rattle.fields.specs.Elements.{xor, times, power, exponent, powers, exponents, powers_b, exponents_b}
@@ -15,7 +15,7 @@ use Rattle.fields.proofs.Instances.{field_tables_b}
 use Rattle.decoding.specs.Steps.ByTables.{table_value}
 use Rattle.decoding.specs.Steps.Decoder.{Tables, locator, xor_to, times_power, syndrome}
 use Rattle.decoding.specs.Steps.Annihilator.{applied}
-use Rattle.decoding.proofs.Algebra.Field.{Ops, Laws, upto, mul-zero, mul_comm, mul-add}
+use Rattle.decoding.proofs.Algebra.Field.{Ops, Laws, upto, mul-zero}
 use Rattle.decoding.proofs.Algebra.PowerSums.{sum, power_sum, value_at}
 use Rattle.decoding.proofs.Algebra.Locators.{applied_to}
 use Rattle.decoding.proofs.Algebra.Elements.{laws, power_next, powers_distinct}

@@ -9,7 +9,6 @@ use native.Mathlib.Omega.{arith}
 use lib.Dec.{eqb, eqb-suc-zero}
 use lib.ListN.{length, get_or}
 use Rattle.fields.specs.Places.{at, sum_to, differs}
-use Rattle.fields.specs.Places as Places
 use Rattle.fields.proofs.Places.Counting.{sum_same, apart_sum}
 use Rattle.words.specs.Bits as Bits
 use Rattle.words.specs.InnerWords.{with_parity}

@@ -4,8 +4,8 @@ use Rattle.frames.proofs.restore_frame.Goals as goal
 
 pub outer_pass-requires : goal.outer_pass-requires
 outer_pass-requires c = record {
-    frame_len = search rules;
-    frame_value = λ t. search (rules, none_left);
+  frame_len = search rules;
+  frame_value = λ t. search (rules, none_left);
 }
 
 pub returns : goal.returns

@@ -9,7 +9,7 @@ use lib.Bits.{bit_and, bit_xor}
 use lib.ListN.{length, set}
 use Rattle.fields.specs.Lists.{tabulate}
 use Rattle.fields.specs.Elements.{xor, scale}
-use Rattle.fields.specs.Places.{at, every, differs, apart}
+use Rattle.fields.specs.Places.{at, differs, apart}
 use Rattle.fields.specs.Steps.Buffers.{Placed}
 use Rattle.fields.proofs.Lists.{tabulate_at, tabulate_length, tabulate_same}
 use Rattle.fields.proofs.Xor.{xor_cancel, xor_zero_r}

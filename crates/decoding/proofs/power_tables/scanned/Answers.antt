@@ -9,8 +9,8 @@ loop-i-init c = search (rules, scanning_none)
 
 pub block-p-requires : goal.block-p-requires
 block-p-requires c = record {
-    tables_len = (tables_long c.requires.tables_for, c.loop-i.invariant.few, place_small c.requires.tables_for (omega arith));
-    by_index = (bases_most _ _ c.tables_of-s.ensures.0, starts_most _ _ _ _ c.tables_of-s.ensures.1);
+  tables_len = (tables_long c.requires.tables_for, c.loop-i.invariant.few, place_small c.requires.tables_for (omega arith));
+  by_index = (bases_most _ _ c.tables_of-s.ensures.0, starts_most _ _ _ _ c.tables_of-s.ensures.1);
 }
 
 pub loop-i-preserved : goal.loop-i-preserved

@@ -7,9 +7,9 @@ loop-i-init c = search (rules, search_none)
 
 pub next_root-i-requires-in-loop-i : goal.next_root-i-requires-in-loop-i
 next_root-i-requires-in-loop-i c = record {
-    tables = search rules;
-    n_in_bounds = search rules;
-    by_index = search_elements _ _ _ _ _ _ _ c.loop-i.invariant (search rules) _ _ c.divided-q.ensures;
+  tables = search rules;
+  n_in_bounds = search rules;
+  by_index = search_elements _ _ _ _ _ _ _ c.loop-i.invariant (search rules) _ _ c.divided-q.ensures;
 }
 
 pub loop-i-preserved : goal.loop-i-preserved

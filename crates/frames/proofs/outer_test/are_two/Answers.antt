@@ -4,8 +4,8 @@ use Rattle.frames.proofs.outer_test.are_two.Goals as goal
 
 pub ends_with-requires : goal.ends_with-requires
 ends_with-requires c = record {
-    block_len = search rules;
-    packs = data_packs _ _ _ _ _ (search rules) c.divide_two-two.ensures.first;
+  block_len = search rules;
+  packs = data_packs _ _ _ _ _ (search rules) c.divide_two-two.ensures.first;
 }
 
 pub returns-then-not-ends_with : goal.returns-then-not-ends_with
@@ -13,8 +13,8 @@ returns-then-not-ends_with c = search (rules, two_first)
 
 pub ends_with-requires-2 : goal.ends_with-requires-2
 ends_with-requires-2 c = record {
-    block_len = search rules;
-    packs = search (rules, data_packs);
+  block_len = search rules;
+  packs = search (rules, data_packs);
 }
 
 pub returns : goal.returns

@@ -4,8 +4,8 @@ use Rattle.frames.proofs.outer_test.divide.Goals as goal
 
 pub six_more-p-requires : goal.six_more-p-requires
 six_more-p-requires c = record {
-    table_value = (search rules, search rules, search rules, search rules, search rules);
-    packs = search rules;
+  table_value = (search rules, search rules, search rules, search rules, search rules);
+  packs = search rules;
 }
 
 pub returns : goal.returns

@@ -11,6 +11,6 @@ returns-then-is_zero c = search (rules, code_kept)
 
 pub restore-requires : goal.restore-requires
 restore-requires c = record {
-    w_bound = search (rules, space_long);
-    packs = search (rules, word_remainder);
+  w_bound = search (rules, space_long);
+  packs = search (rules, word_remainder);
 }

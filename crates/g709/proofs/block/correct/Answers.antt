@@ -10,8 +10,8 @@ returns-then-out-n c = refused_space c.args.n c.args.long c.args.block.now c.arg
 
 pub restore-p-requires : goal.restore-p-requires
 restore-p-requires c = record {
-    n_bound = search rules;
-    restoring = search (rules, restoring_start);
+  n_bound = search rules;
+  restoring = search (rules, restoring_start);
 }
 
 pub returns-then-p : goal.returns-then-p

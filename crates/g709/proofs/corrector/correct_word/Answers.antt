@@ -7,8 +7,8 @@ returns-then-not-all_below c = (search (rules, word_lost), search rules)
 
 pub add_values-requires : goal.add_values-requires
 add_values-requires c = record {
-    from_bound = search (rules, few_errors);
-    byte_values = search (rules, byte_values);
+  from_bound = search (rules, few_errors);
+  byte_values = search (rules, byte_values);
 }
 
 pub weight-requires : goal.weight-requires

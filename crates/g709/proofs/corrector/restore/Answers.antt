@@ -4,9 +4,9 @@ use Rattle.g709.proofs.corrector.restore.Goals as goal
 
 pub correct_row-p-requires : goal.correct_row-p-requires
 correct_row-p-requires c = record {
-    exp_value = (search rules, search rules);
-    r_bound = (search rules, search rules);
-    restoring = search rules;
+  exp_value = (search rules, search rules);
+  r_bound = (search rules, search rules);
+  restoring = search rules;
 }
 
 pub loop-r-preserved : goal.loop-r-preserved

@@ -8,8 +8,7 @@ pub loop-i-init : goal.loop-i-init
 loop-i-init c = search (rules, quotient_start)
 
 pub loop-i-preserved : goal.loop-i-preserved
-loop-i-preserved c =
-    (
+loop-i-preserved c = (
   search rules,
   search rules,
   search rules,

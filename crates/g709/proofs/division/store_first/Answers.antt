@@ -3,7 +3,6 @@ use mathlib.Core.Path.{ap, ◌∙◌}
 use Prim.Native.Nat.{◌+◌}
 use Rattle.fields.specs.Elements.{xor}
 use Rattle.fields.specs.Places.{at}
-use Rattle.g709.specs.Steps.Folding.{taps}
 use Rattle.g709.proofs.Overlays.{over_start, over_next, over_end}
 use borrow.Author.Rules.{rules}
 use Rattle.g709.proofs.division.store_first.Goals as goal
@@ -12,8 +11,7 @@ pub loop-i-init : goal.loop-i-init
 loop-i-init c = search (rules, over_start)
 
 pub loop-i-preserved : goal.loop-i-preserved
-loop-i-preserved c =
-    (
+loop-i-preserved c = (
   search rules,
   search rules,
   search rules,

@@ -1,5 +1,4 @@
 use native.Mathlib.Omega.{arith}
-use Rattle.g709.specs.Steps.Folding.{taps}
 use Rattle.g709.proofs.Overlays.{over_start, over_next, over_end}
 use borrow.Author.Rules.{rules}
 use Rattle.g709.proofs.division.store_last.Goals as goal

@@ -8,8 +8,8 @@ annihilator-polynomial-requires c = search (rules, tables_given)
 
 pub set_polynomial-requires : goal.set_polynomial-requires
 set_polynomial-requires c = record {
-    k_bound = search rules;
-    by_index = byte_coefficients _ _ _ _ c.requires.exp_value.1 c.annihilator-polynomial.ensures;
+  k_bound = search rules;
+  by_index = byte_coefficients _ _ _ _ c.requires.exp_value.1 c.annihilator-polynomial.ensures;
 }
 
 pub returns : goal.returns

@@ -8,8 +8,7 @@ pub loop-j-init : goal.loop-j-init
 loop-j-init c = search (rules, over_start)
 
 pub loop-j-preserved : goal.loop-j-preserved
-loop-j-preserved c =
-    (
+loop-j-preserved c = (
   search rules,
   search rules,
   search rules,

@@ -7,8 +7,7 @@ pub loop-e-init : goal.loop-e-init
 loop-e-init c = search (rules, evaluated_start)
 
 pub loop-e-preserved : goal.loop-e-preserved
-loop-e-preserved c =
-    (
+loop-e-preserved c = (
   search rules,
   search rules,
   search rules,

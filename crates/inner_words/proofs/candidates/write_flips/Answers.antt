@@ -11,6 +11,6 @@ loop-p-preserved c = (search (rules, writing_next), search (rules, raising_next)
 
 pub returns : goal.returns
 returns c = record {
-    block = search (rules, writing_end);
-    many = search (rules, raising_end);
+  block = search (rules, writing_end);
+  many = search (rules, raising_end);
 }

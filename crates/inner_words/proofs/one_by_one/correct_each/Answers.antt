@@ -13,10 +13,10 @@ overflow_mul-left c = search (rules, going_twice)
 
 pub correct_wrong-requires : goal.correct_wrong-requires
 correct_wrong-requires c = record {
-    exp_value = search rules;
-    residues_len = search rules;
-    k_value = search (rules, going_wrong);
-    word_residues = λ q. search (rules, going_residues);
+  exp_value = search rules;
+  residues_len = search rules;
+  k_value = search (rules, going_wrong);
+  word_residues = λ q. search (rules, going_residues);
 }
 
 pub overflow_add-left : goal.overflow_add-left

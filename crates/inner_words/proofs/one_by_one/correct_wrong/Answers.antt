@@ -4,12 +4,12 @@ use Rattle.inner_words.proofs.one_by_one.correct_wrong.Goals as goal
 
 pub correct_word-requires : goal.correct_word-requires
 correct_word-requires c = record {
-    exp_value = search rules;
-    residues_len = (search rules, search rules, search rules, search (rules, wrong_residues));
+  exp_value = search rules;
+  residues_len = (search rules, search rules, search rules, search (rules, wrong_residues));
 }
 
 pub returns : goal.returns
 returns c = record {
-    put = search (rules, right_restored);
-    tables = search rules;
+  put = search (rules, right_restored);
+  tables = search rules;
 }

@@ -10,9 +10,9 @@ overflow_mul-left c = search (rules, going_twice)
 
 pub try_single-requires : goal.try_single-requires
 try_single-requires c = record {
-    exp_value = search rules;
-    k_value = search (rules, going_wrong);
-    word_residues = λ q. search (rules, going_residues);
+  exp_value = search rules;
+  k_value = search (rules, going_wrong);
+  word_residues = λ q. search (rules, going_residues);
 }
 
 pub overflow_add-left : goal.overflow_add-left

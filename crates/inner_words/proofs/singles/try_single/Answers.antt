@@ -4,8 +4,8 @@ use Rattle.inner_words.proofs.singles.try_single.Goals as goal
 
 pub correct_single-requires : goal.correct_single-requires
 correct_single-requires c = record {
-    exp_value = search rules;
-    word_residues = search (rules, wrong_residues);
+  exp_value = search rules;
+  word_residues = search (rules, wrong_residues);
 }
 
 pub returns-then-correct_single : goal.returns-then-correct_single

@@ -4,8 +4,8 @@ use Rattle.words.proofs.corrector.correct_from.Goals as goal
 
 pub decode-e-requires : goal.decode-e-requires
 decode-e-requires c = record {
-    tables = search (rules, tables_given);
-    n_in_bounds = (search (rules, word_fits), search rules);
+  tables = search (rules, tables_given);
+  n_in_bounds = (search (rules, word_fits), search rules);
 }
 
 pub returns-then-not-all_below : goal.returns-then-not-all_below

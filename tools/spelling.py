@@ -55,10 +55,11 @@ def table():
         by_new[snake(name)].add(name)
     to = {}
     for new, olds in by_new.items():
-        # first what has no dash, then what has no capital: that one keeps the name
-        for i, old in enumerate(sorted(olds, key=lambda o: ("-" in o, bool(CAMEL.search(o)), o))):
-            if wants(old) and old not in library:
-                to[old] = new if i == 0 and new not in library else new + "_lem"
+        # first what has no dash, a definition with a capital inside before a lemma that the port script had respelled: that one keeps the name
+        for i, old in enumerate(sorted(olds, key=lambda o: ("-" in o, ("-" in o) == bool(CAMEL.search(o)), o))):
+            end = new if i == 0 and new not in library else new + "_lem"
+            if (wants(old) or i > 0) and old not in library and end != old:
+                to[old] = end
     ends = collections.Counter(to.values())
     assert all(n == 1 for n in ends.values()), [n for n in ends if ends[n] > 1]
     assert not (set(to.values()) & (defined - set(to))), set(to.values()) & (defined - set(to))
@@ -66,7 +67,7 @@ def table():
 
 
 def renamed(text, to, dashes):
-    return TOKEN.sub(lambda m: to[m[0]] if m[0] in to and (dashes or "-" not in m[0]) else m[0], text)
+    return TOKEN.sub(lambda m: to[m[0]] if m[0] in to and (dashes or "-" not in m[0] and CAMEL.search(m[0])) else m[0], text)
 
 
 def prose(text, to):

@@ -9,7 +9,7 @@ use lib.ListN.{length}
 use Rattle.fields.specs.Places.{apart}
 use Rattle.fields.proofs.Places.Differences.{apart_none}
 use Rattle.words.specs.Answers.{answered}
-use Rattle.frames.specs.Frames.{is_payload, is_block_lem, outer_words, frame_of, payload_of}
+use Rattle.frames.specs.Frames.{is_payload, is_block, outer_words, frame_of, payload_of}
 use Rattle.frames.specs.Answers.{is_frame, frame_encoded, frame_checked, payload_extracted}
 use Rattle.frames.proofs.Frames.FrameBits.{payload_is, block_is, frame_length, frame_block}
 use Rattle.frames.proofs.Proved.{frame_laws}
@@ -45,7 +45,7 @@ module _ (block : List ℕ) (size : eqb (length block) 16320 ≡ true) (frame : 
 
   written : (is_payload (payload_of block) ≡ true) × (frame_of (payload_of block) ≡ block)
   unfolding frame_of
-  written = frame_laws.written_only block (subst (λ (b : List ℕ). is_block_lem b ≡ true) same (frame_block (outer_words (payload_of block)))) frame
+  written = frame_laws.written_only block (subst (λ (b : List ℕ). is_block b ≡ true) same (frame_block (outer_words (payload_of block)))) frame
 
 pub checked_only : (block : List ℕ) → frame_checked block ≡ 0 → (payload : List ℕ) × (is_payload payload ≡ true) × (frame_of payload ≡ block)
 unfolding frame_checked

@@ -15,7 +15,7 @@ use Rattle.words.specs.Nearest.{is_some, nearest}
 use Rattle.words.specs.InnerWords.{inner_word, inner_pass, is_lost}
 use Rattle.words.specs.Answers.{unless, within, refusal_of, changed_of, inner_refusal_of, data_changed_of, parity_changed_of, outer_checked, outer_encoded, outer_corrected, inner_checked, inner_encoded, inner_corrected}
 use Rattle.words.specs.Codes.{Codes}
-use Rattle.frames.specs.Frames.{is_payload, is_block_lem, data_in, frame_of_words, frame_of, wrong_bits}
+use Rattle.frames.specs.Frames.{is_payload, is_block, data_in, frame_of_words, frame_of, wrong_bits}
 use Rattle.frames.specs.Correction.{received_bit, received_word, is_permitted, outer_restored, restored_frame, data_counts, parity_counts, all_counted}
 use Rattle.frames.specs.Answers.{is_frame, frame_encoded, frame_checked, payload_extracted, refused, frame_corrected, without_report}
 use Rattle.frames.specs.FrameLaws.{FrameLaws}
@@ -131,7 +131,7 @@ pub record TwoPasses : Type 0 where
       ((words : List (List ℕ)) × Restored (inner_pass (bit_at block)) words) ⊎ ((w : ℕ) × (w < 16) × Uncorrectable (inner_pass (bit_at block)) w)
   -- a restored frame is a frame that the encoder writes
   pub corrected_frame : (block buffer d p frame : List ℕ) (sum : ℕ) → frame_corrected block buffer ≡ (0, d, p, sum, frame) →
-      (is_block_lem frame ≡ true) × (is_frame frame ≡ true)
+      (is_block frame ≡ true) × (is_frame frame ≡ true)
   -- of the report: the two counts of an inner word together are its distance from the restored one, and the sum is the number of all bits that differ
   pub counted : (block frame : List ℕ) (k : ℕ) → k < 64 →
       at (data_counts block frame) k + at (parity_counts block frame) k ≡ apart (inner_word (bit_at block) k) (inner_word (bit_at frame) k)

@@ -5,7 +5,7 @@ use Rattle.words.specs.Bits.{bit_at}
 use Rattle.words.specs.OuterCode.{is_outer}
 use Rattle.words.specs.InnerCode.{is_inner, inner_parity}
 use Rattle.words.specs.InnerWords.{inner_data, inner_word, parity_place}
-use Rattle.frames.specs.Frames.{is_payload, is_block_lem, outer_word, frame_of, payload_place, payload_of}
+use Rattle.frames.specs.Frames.{is_payload, is_block, outer_word, frame_of, payload_place, payload_of}
 use Rattle.frames.specs.Answers.{is_frame}
 use Rattle.frames.specs.Examples.{AllHold, examples}
 
@@ -13,8 +13,8 @@ pub record FrameLaws : Type 0 where
   -- the payload of the frame of a payload is that payload
   pub payload_back : (p : List ℕ) → is_payload p ≡ true → payload_of (frame_of p) ≡ p
   -- the frame of a payload is accepted; and an accepted block is the frame of a payload, the one that stands in it: the encoder writes no other
-  pub written_accepted : (p : List ℕ) → is_payload p ≡ true → (is_block_lem (frame_of p) ≡ true) × (is_frame (frame_of p) ≡ true)
-  pub written_only : (b : List ℕ) → is_block_lem b ≡ true → is_frame b ≡ true → (is_payload (payload_of b) ≡ true) × (frame_of (payload_of b) ≡ b)
+  pub written_accepted : (p : List ℕ) → is_payload p ≡ true → (is_block (frame_of p) ≡ true) × (is_frame (frame_of p) ≡ true)
+  pub written_only : (b : List ℕ) → is_block b ≡ true → is_frame b ≡ true → (is_payload (payload_of b) ≡ true) × (frame_of (payload_of b) ≡ b)
   -- each outer word of a payload and each inner word of a frame is a code word
   pub outer_words_lem : (p : List ℕ) (w : ℕ) → is_payload p ≡ true → is_outer (outer_word p w) ≡ true
   pub inner_words : (p : List ℕ) (k : ℕ) → is_payload p ≡ true → k < 64 → is_inner (inner_word (bit_at (frame_of p)) k) ≡ true

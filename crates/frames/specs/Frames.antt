@@ -11,8 +11,8 @@ use Rattle.words.specs.InnerWords.{with_parity}
 unfoldable pub is_payload : List ℕ → Bool
 is_payload p = eqb (length p) 15296 && all_below 256 p
 
-unfoldable pub is_block_lem : List ℕ → Bool
-is_block_lem b = eqb (length b) 16320 && all_below 256 b
+unfoldable pub is_block : List ℕ → Bool
+is_block b = eqb (length b) 16320 && all_below 256 b
 
 -- outer words 0 to 14 have 765 data symbols, word 15 has 762
 unfoldable pub data_in : ℕ → ℕ

@@ -53,10 +53,10 @@ module _ (r f : List ℕ) (long : length r ≡ 272) where
   cells_behind zero i h = refl
   cells_behind (suc n) i h = over_behind (cells_stored r f n) (16 * n) 16 _ i (omega arith) ∙ cells_behind n i (omega arith)
 
-  cells_at : (n c j : ℕ) → n ≤ 16 → c < n → j < 16 → at (cells_stored r f n) (16 * c + j) ≡ xor (at r (16 * c + 16 + j)) (times_c (at f j) (at (generator_of 8 285 0 16) (suc c)))
+  cells_at_lem : (n c j : ℕ) → n ≤ 16 → c < n → j < 16 → at (cells_stored r f n) (16 * c + j) ≡ xor (at r (16 * c + 16 + j)) (times_c (at f j) (at (generator_of 8 285 0 16) (suc c)))
   unfolding cells_stored cell_stored
-  cells_at zero c j hn hc hj = absurd (not-suc-le-zero hc)
-  cells_at (suc n) c j hn hc hj = go (λ l. cells_at n c j (omega arith) l hj) (dec_lt c n)
+  cells_at_lem zero c j hn hc hj = absurd (not-suc-le-zero hc)
+  cells_at_lem (suc n) c j hn hc hj = go (λ l. cells_at_lem n c j (omega arith) l hj) (dec_lt c n)
     where
       go : (c < n → at (cells_stored r f n) (16 * c + j) ≡ xor (at r (16 * c + 16 + j)) (times_c (at f j) (at (generator_of 8 285 0 16) (suc c)))) → Dec (c < n) → at (cell_stored (cells_stored r f n) f n (at (generator_of 8 285 0 16) (suc n))) (16 * c + j) ≡ xor (at r (16 * c + 16 + j)) (times_c (at f j) (at (generator_of 8 285 0 16) (suc c)))
       go rest (yes l) = over_front (cells_stored r f n) (16 * n) 16 _ (16 * c + j) (omega arith) ∙ rest l
@@ -128,7 +128,7 @@ module _ (d : ℕ → ℕ) (s : ℕ) (row : List ℕ) (from : ℕ) (column : (k 
       go (yes h) =
           let up : 16 * c + 16 + j ≡ 16 * suc c + j = omega arith in
           let zero : j ≡ 16 * 0 + j = omega arith in
-          cells_at R F long 16 c j (omega arith) h hj
+          cells_at_lem R F long 16 c j (omega arith) h hj
           ∙ ap₂ (λ (x y : ℕ). xor x (times_c y (at (generator_of 8 285 0 16) (suc c)))) (ap (at R) up ∙ registers_at d s (suc c) j (omega arith) hj)
           (leading_at R row from j hj ∙ ap₂ xor (ap (at R) zero ∙ registers_at d s 0 j (omega arith) hj) (column j hj))
           ∙ sym (lane_next d s j c h)

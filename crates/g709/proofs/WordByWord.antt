@@ -367,9 +367,9 @@ module _ (n : ℕ) (b : List ℕ) (long : length b ≡ 4080 * n) (o : List ℕ) 
   unfolding word_of
   word_lt i l = omega arith
 
-  is_block : (out : List ℕ) → length out ≡ 4080 * n → ((i : ℕ) → i < 4080 * n → at out i ≡ at o i) → out ≡ block_of_words n ws
+  is_block_lem : (out : List ℕ) → length out ≡ 4080 * n → ((i : ℕ) → i < 4080 * n → at out i ≡ at o i) → out ≡ block_of_words n ws
   unfolding word_of byte_place
-  is_block out room same =
+  is_block_lem out room same =
       ext_get_or 0 out (block_of_words n ws) (room ∙ sym (block_length n ws)) (λ i l.
       let m : i < 4080 * n = omega arith in
       same i m ∙ A.done i (omega arith) (word_lt i m)
@@ -395,7 +395,7 @@ module _ (n : ℕ) (b : List ℕ) (long : length b ≡ 4080 * n) (o : List ℕ) 
         eq-eqb (length buffer) (4080 * n) room,
         all_there,
         ← count_is,
-        is_block out (ap length e ∙ over_length buffer 0 (4080 * n) (λ i. at o (0 + i)) ∙ room) (λ i l.
+        is_block_lem out (ap length e ∙ over_length buffer 0 (4080 * n) (λ i. at o (0 + i)) ∙ room) (λ i l.
             let z : 0 + i ≡ i = omega arith in
             ap (λ (o : List ℕ). at o i) e ∙ ap (at (over buffer 0 (4080 * n) (λ i. at o (0 + i)))) (sym z)
             ∙ over_in buffer 0 (4080 * n) (λ i. at o (0 + i)) i l (omega arith) ∙ ap (at o) z),

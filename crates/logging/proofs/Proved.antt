@@ -5,7 +5,7 @@ use mathlib.Core.List.{List, [], ◌∷◌, map}
 use Prim.Native.Nat.{ℕ, ◌+◌}
 use lib.Dec.{eqb}
 use Rattle.frames.specs.declared.Report.{Report}
-use Rattle.logging.specs.Counting.{frames_of, uncorrectable_of, corrected_bits_of, limited, Call, clear, count, since, sum_over_lem, totals}
+use Rattle.logging.specs.Counting.{frames_of, uncorrectable_of, corrected_bits_of, limited, Call, clear, count, since, sum_over, totals}
 use Rattle.logging.specs.Laws.{CorrectorCall, number_promised, sum_promised, given, CounterLaws, Logging}
 use Rattle.logging.proofs.Sequences.{since_clearing}
 use Rattle.logging.proofs.Order.{in_words, irreflexive, transitive, comparable}
@@ -22,11 +22,11 @@ since_given (clear ∷ earlier) = refl
 since_given (count c ∷ earlier) = ap (λ (answers : List Report). c.report ∷ answers) (since_given earlier)
 
 -- what the reports add, where each adds what is promised
-sum_over : (f : Report → ℕ) (g : CorrectorCall → ℕ) → ((c : CorrectorCall) → f c.report ≡ g c) → (cs : List CorrectorCall) →
-    sum_over_lem f (map (λ c. c.report) cs) ≡ sum_over_lem g cs
-unfolding sum_over_lem
-sum_over f g same [] = refl
-sum_over f g same (c ∷ cs) = ap₂ ◌+◌ (same c) (sum_over f g same cs)
+sum_over_lem : (f : Report → ℕ) (g : CorrectorCall → ℕ) → ((c : CorrectorCall) → f c.report ≡ g c) → (cs : List CorrectorCall) →
+    sum_over f (map (λ c. c.report) cs) ≡ sum_over g cs
+unfolding sum_over
+sum_over_lem f g same [] = refl
+sum_over_lem f g same (c ∷ cs) = ap₂ ◌+◌ (same c) (sum_over_lem f g same cs)
 
 -- number and sum are those of the promise
 module _ (c : CorrectorCall) where
@@ -51,12 +51,12 @@ module _ (c : CorrectorCall) where
 of_corrections : (cs : List CorrectorCall) →
     totals (map (λ c. c.report) cs)
     ≡ record {
-      frames = limited (sum_over_lem (λ c. cond (eqb (number_promised c) 0) 1 0) cs);
-      uncorrectable = limited (sum_over_lem (λ c. cond (eqb (number_promised c) 5) 1 0) cs);
-      bits = limited (sum_over_lem (λ c. cond (eqb (number_promised c) 0) (sum_promised c) 0) cs);
+      frames = limited (sum_over (λ c. cond (eqb (number_promised c) 0) 1 0) cs);
+      uncorrectable = limited (sum_over (λ c. cond (eqb (number_promised c) 5) 1 0) cs);
+      bits = limited (sum_over (λ c. cond (eqb (number_promised c) 0) (sum_promised c) 0) cs);
     }
 unfolding totals
-of_corrections cs = rw (sum_over _ _ frames_promised cs, sum_over _ _ uncorrectable_promised cs, sum_over _ _ bits_promised cs)
+of_corrections cs = rw (sum_over_lem _ _ frames_promised cs, sum_over_lem _ _ uncorrectable_promised cs, sum_over_lem _ _ bits_promised cs)
 
 pub counters : CounterLaws
 counters =

@@ -7,7 +7,7 @@ use native.Mathlib.Omega.{arith}
 use lib.Dec.{eqb}
 use Rattle.frames.specs.declared.Report.{Report}
 use Rattle.logging.specs.declared.Counters.{Counters}
-use Rattle.logging.specs.Counting.{frames_of, uncorrectable_of, corrected_bits_of, limited, cleared, counted, Call, clear, count, after, since, sum_over_lem, totals}
+use Rattle.logging.specs.Counting.{frames_of, uncorrectable_of, corrected_bits_of, limited, cleared, counted, Call, clear, count, after, since, sum_over, totals}
 
 -- ---- what one call gives
 
@@ -24,8 +24,8 @@ counting c r f u b x y z ex ey ez ef eu eb = rw (ef, eu, eb, ex, ey, ez)
 -- ---- every sequence of calls
 
 -- a number that stops is the limit of the whole sum, wherever it stopped on the way
-next : (f : Report → ℕ) (answers : List Report) (r : Report) → limited (limited (sum_over_lem f answers) + f r) ≡ limited (sum_over_lem f (r ∷ answers))
-unfolding sum_over_lem
+next : (f : Report → ℕ) (answers : List Report) (r : Report) → limited (limited (sum_over f answers) + f r) ≡ limited (sum_over f (r ∷ answers))
+unfolding sum_over
 next f answers r = omega arith
 
 counted_totals : (answers : List Report) (r : Report) → counted (totals answers) r ≡ totals (r ∷ answers)
@@ -33,7 +33,7 @@ unfolding counted totals
 counted_totals answers r = rw (next frames_of answers r, next uncorrectable_of answers r, next corrected_bits_of answers r)
 
 cleared_totals : cleared ≡ totals []
-unfolding cleared totals sum_over_lem
+unfolding cleared totals sum_over
 cleared_totals = refl
 
 pub since_clearing : (calls : List (Call Report)) → after calls ≡ totals (since calls)

@@ -48,14 +48,14 @@ since (clear ∷ earlier) = []
 since (count a ∷ earlier) = a ∷ since earlier
 
 -- what answers add up to, and the counters that show it
-unfoldable pub sum_over_lem : {A : Type 0} → (A → ℕ) → List A → ℕ
-sum_over_lem f [] = 0
-sum_over_lem f (a ∷ rest) = f a + sum_over_lem f rest
+unfoldable pub sum_over : {A : Type 0} → (A → ℕ) → List A → ℕ
+sum_over f [] = 0
+sum_over f (a ∷ rest) = f a + sum_over f rest
 
 unfoldable pub totals : List Report → Counters
 totals answers =
     record {
-      frames = limited (sum_over_lem frames_of answers);
-      uncorrectable = limited (sum_over_lem uncorrectable_of answers);
-      bits = limited (sum_over_lem corrected_bits_of answers);
+      frames = limited (sum_over frames_of answers);
+      uncorrectable = limited (sum_over uncorrectable_of answers);
+      bits = limited (sum_over corrected_bits_of answers);
     }

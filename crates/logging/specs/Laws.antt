@@ -2,7 +2,7 @@
 use Rattle.std.specs.Prelude.{◌≡◌, ◌⊎◌, true, cond, List, map, ℕ, ◌<◌, eqb, length, get_or}
 use Rattle.frames.specs.Answers.{frame_corrected}
 use Rattle.frames.specs.declared.Report.{Report}
-use Rattle.logging.specs.Counting.{limited, Call, clear, count, after, since, sum_over_lem, totals}
+use Rattle.logging.specs.Counting.{limited, Call, clear, count, after, since, sum_over, totals}
 use Rattle.logging.specs.WorstList.{Counts, count_of, data_of, is_before, worst_words}
 
 -- ---- counters
@@ -34,9 +34,9 @@ pub record CounterLaws : Type 0 where
   pub corrections : (calls : List (Call CorrectorCall)) →
       after (map given calls)
       ≡ record {
-        frames = limited (sum_over_lem (λ c. cond (eqb (number_promised c) 0) 1 0) (since calls));
-        uncorrectable = limited (sum_over_lem (λ c. cond (eqb (number_promised c) 5) 1 0) (since calls));
-        bits = limited (sum_over_lem (λ c. cond (eqb (number_promised c) 0) (sum_promised c) 0) (since calls));
+        frames = limited (sum_over (λ c. cond (eqb (number_promised c) 0) 1 0) (since calls));
+        uncorrectable = limited (sum_over (λ c. cond (eqb (number_promised c) 5) 1 0) (since calls));
+        bits = limited (sum_over (λ c. cond (eqb (number_promised c) 0) (sum_promised c) 0) (since calls));
       }
 
 -- ---- worst list

@@ -28,7 +28,7 @@ use Rattle.frames.specs.Steps.Received.{outer_codes}
 use Rattle.frames.specs.Steps.Symbols.{Concatenated, Sent, word_in}
 use Rattle.frames.specs.Steps.Passes.{provided, words_in}
 use Rattle.frames.proofs.OuterSymbols.Received.{received_cases, received_first, received_padding, received_last, symbols_room}
-use Rattle.frames.proofs.Answers.FrameAnswers.{frame_written, is_block}
+use Rattle.frames.proofs.Answers.FrameAnswers.{frame_written, is_block_lem}
 use Rattle.frames.proofs.Correction.RestoredWords.{frame_kept, answer_is}
 
 -- ---- the two passes
@@ -73,7 +73,7 @@ symbols_words outer long =
 pub pass_kept : (passed : List ℕ) (s t : Bool) → length passed ≡ 16320 → ((i : ℕ) → Fits w8 (get_or passed i 0)) →
     (s ≡ true → inner_codes (bit_at passed) ≡ true) → s ≡ true → t ≡ outer_codes (bit_at passed) → t ≡ true → provided true passed ≡ outer_frame (bit_at passed)
 unfolding provided
-pass_kept passed s t long bytes inner hs et h = sym (frame_kept passed (is_block passed long bytes) (sym et ∙ h) (inner hs))
+pass_kept passed s t long bytes inner hs et h = sym (frame_kept passed (is_block_lem passed long bytes) (sym et ∙ h) (inner hs))
 
 module _ (passed next : List ℕ) (t : Bool) (restored : provided t (words_in next) ≡ every_of (outer_pass (bit_at passed))) where
   pub pass_none : not t ≡ true → provided false passed ≡ outer_frame (bit_at passed)

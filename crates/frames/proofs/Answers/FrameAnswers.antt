@@ -17,7 +17,7 @@ use Rattle.words.specs.InnerWords.{with_parity}
 use Rattle.words.proofs.Bits.Bytes.{bits_same}
 use Rattle.inner_words.specs.Steps.Passes.{inner_codes}
 use Rattle.inner_words.proofs.Interleaving.InterleavedBits.{data_same, parity_before, parity_after, parity_cases}
-use Rattle.frames.specs.Frames.{is_block_lem, outer_words, sent_bit, frame_of_words, frame_of}
+use Rattle.frames.specs.Frames.{is_block, outer_words, sent_bit, frame_of_words, frame_of}
 use Rattle.frames.specs.Answers.{is_frame, frame_encoded, frame_checked, payload_extracted}
 use Rattle.frames.specs.Steps.Received.{received_symbols, outer_codes}
 use Rattle.frames.specs.Steps.Symbols.{Concatenated, Sent, payload_in}
@@ -63,13 +63,13 @@ module _ (b : List ℕ) (outer : Bool) (test : outer ≡ outer_codes (bit_at b))
   pub words_refused : outer ≡ false → false ≡ (outer_codes (bit_at b) && inner_codes (bit_at b))
   words_refused t = rw (← test, t)
 
-pub is_block : (b : List ℕ) → length b ≡ 16320 → ((i : ℕ) → Fits w8 (get_or b i 0)) → is_block_lem b ≡ true
-unfolding is_block_lem
-is_block b e bytes = rw (eq-eqb (length b) 16320 e, below_all 256 b (λ i l. omega (arith, bytes i)))
+pub is_block_lem : (b : List ℕ) → length b ≡ 16320 → ((i : ℕ) → Fits w8 (get_or b i 0)) → is_block b ≡ true
+unfolding is_block
+is_block_lem b e bytes = rw (eq-eqb (length b) 16320 e, below_all 256 b (λ i l. omega (arith, bytes i)))
 
 -- the test of a block decides
 block_tested : (b : List ℕ) → length b ≡ 16320 → ((i : ℕ) → Fits w8 (get_or b i 0)) → (t : Bool) → t ≡ (outer_codes (bit_at b) && inner_codes (bit_at b)) → is_frame b ≡ t
-block_tested b e bytes t test = is_frame_lem b (is_block b e bytes) ∙ sym test
+block_tested b e bytes t test = is_frame_lem b (is_block_lem b e bytes) ∙ sym test
 
 module _ (b : List ℕ) where
   pub check_length : (length b ≡ 16320 → ⊥) → 2 ≡ frame_checked b

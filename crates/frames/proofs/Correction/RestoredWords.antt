@@ -27,7 +27,7 @@ use Rattle.words.proofs.Codes.Proved.{codes}
 use Rattle.inner_words.specs.Steps.Passes.{inner_codes}
 use Rattle.inner_words.proofs.Interleaving.InterleavedBits.{inner_word_length}
 use Rattle.inner_words.proofs.Passes.InnerPass.{restored_none, restored_some, restored_length, restored_is}
-use Rattle.frames.specs.Frames.{is_block_lem, data_in, outer_word, outer_words, frame_of_words, frame_of, payload_of}
+use Rattle.frames.specs.Frames.{is_block, data_in, outer_word, outer_words, frame_of_words, frame_of, payload_of}
 use Rattle.frames.specs.Correction.{received_word, is_permitted, outer_restored, outer_pass, outer_frame, restored_frame, data_counts, parity_counts, all_counted}
 use Rattle.frames.specs.Answers.{is_frame, CorrectorAnswer, refused, reported, concluded, frame_corrected}
 use Rattle.frames.specs.Steps.Received.{outer_codes}
@@ -147,7 +147,7 @@ module _ (b : ℕ → ℕ) where
       ap is_outer (received_words ws padding w k (r.long w k) (outer_is (get_or ws w []) code).symbols) ∙ code) (frame_inner ws))
 
 -- a block whose outer and inner words are all code words is the frame that the outer pass gives
-pub frame_kept : (b : List ℕ) → is_block_lem b ≡ true → outer_codes (bit_at b) ≡ true → inner_codes (bit_at b) ≡ true →
+pub frame_kept : (b : List ℕ) → is_block b ≡ true → outer_codes (bit_at b) ≡ true → inner_codes (bit_at b) ≡ true →
     outer_frame (bit_at b) ≡ some b
 unfolding outer_frame outer_codes inner_codes frame_of outer_words
 frame_kept b h outer inner = rw (restored_pass (bit_at b) (outer_words p) words) (ap some same)
@@ -198,12 +198,12 @@ module _ (block : List ℕ) where
       go (inr lost) = lost
 
   -- it is a frame that the encoder writes
-  pub is_frame_lem : (frame : List ℕ) → restored_frame block ≡ some frame → (is_block_lem frame ≡ true) × (is_frame frame ≡ true)
+  pub is_frame_lem : (frame : List ℕ) → restored_frame block ≡ some frame → (is_block frame ≡ true) × (is_frame frame ≡ true)
   is_frame_lem frame e = go (one_or_other (passed block))
     where
-      go : ((ws : List (List ℕ)) × Restored (passed block) ws) ⊎ ((w : ℕ) × (w < 16) × Uncorrectable (passed block) w) → (is_block_lem frame ≡ true) × (is_frame frame ≡ true)
+      go : ((ws : List (List ℕ)) × Restored (passed block) ws) ⊎ ((w : ℕ) × (w < 16) × Uncorrectable (passed block) w) → (is_block frame ≡ true) × (is_frame frame ≡ true)
       go (inl (ws, r)) =
-          subst (λ (f : List ℕ). (is_block_lem f ≡ true) × (is_frame f ≡ true)) (some_same (frame_of_words ws) frame (sym (restored ws r) ∙ e))
+          subst (λ (f : List ℕ). (is_block f ≡ true) × (is_frame f ≡ true)) (some_same (frame_of_words ws) frame (sym (restored ws r) ∙ e))
           (frame_block ws, restored_frame_lem (passed block) ws r)
       go (inr (w, k, far)) = absurd (some_not_none frame (sym e ∙ none_restored w k far))
 
@@ -248,12 +248,12 @@ module _ (block buffer : List ℕ) where
         go (inr lost) = lost
 
   pub corrected_frame : (d p frame : List ℕ) (sum : ℕ) → frame_corrected block buffer ≡ (0, d, p, sum, frame) →
-      (is_block_lem frame ≡ true) × (is_frame frame ≡ true)
+      (is_block frame ≡ true) × (is_frame frame ≡ true)
   unfolding frame_corrected concluded reported refused
   corrected_frame d p frame sum e = go (eqb (length block) 16320) (eqb (length buffer) 16320) (restored_frame block) refl e
     where
       go : (s t : Bool) (o : Option (List ℕ)) → restored_frame block ≡ o → concluded (unless s 2 (unless t 3 0)) block buffer o ≡ (0, d, p, sum, frame) →
-          (is_block_lem frame ≡ true) × (is_frame frame ≡ true)
+          (is_block frame ≡ true) × (is_frame frame ≡ true)
       go false t o r e = absurd (omega (arith, ap (λ (a : CorrectorAnswer). a.0) e))
       go true false o r e = absurd (omega (arith, ap (λ (a : CorrectorAnswer). a.0) e))
       go true true none r e = absurd (omega (arith, ap (λ (a : CorrectorAnswer). a.0) e))

@@ -20,14 +20,14 @@ use Rattle.words.proofs.Bits.Numbers.{bit_of_lt, bit_of_number, number_of_lt}
 use Rattle.words.proofs.Bits.Bytes.{bit_at_lt, place_past, bytes_length, bytes_below, bytes_bit, bytes_same}
 use Rattle.words.proofs.Codes.Proved.{codes}
 use Rattle.inner_words.proofs.Interleaving.InterleavedBits.{data_same, places_code, parity_before, parity_after, with_parity_lt}
-use Rattle.frames.specs.Frames.{symbol_at, is_payload, is_block_lem, data_in, outer_data, outer_word, outer_words, outer_bit, outer_place, sent_bit, frame_of_words, frame_of, payload_place, payload_of}
+use Rattle.frames.specs.Frames.{symbol_at, is_payload, is_block, data_in, outer_data, outer_word, outer_words, outer_bit, outer_place, sent_bit, frame_of_words, frame_of, payload_place, payload_of}
 
 pub payload_is : (p : List ℕ) → is_payload p ≡ true → (length p ≡ 15296) × (all_below 256 p ≡ true)
 unfolding is_payload
 payload_is p h = let b = (and-eq-true_iff (eqb (length p) 15296) (all_below 256 p)).0 h in (eqb-true (length p) 15296 b.0, b.1)
 
-pub block_is : (b : List ℕ) → is_block_lem b ≡ true → (length b ≡ 16320) × (all_below 256 b ≡ true)
-unfolding is_block_lem
+pub block_is : (b : List ℕ) → is_block b ≡ true → (length b ≡ 16320) × (all_below 256 b ≡ true)
+unfolding is_block
 block_is b h = let t = (and-eq-true_iff (eqb (length b) 16320) (all_below 256 b)).0 h in (eqb-true (length b) 16320 t.0, t.1)
 
 -- past the payload's end a bit is 0
@@ -62,8 +62,8 @@ module _ (ws : List (List ℕ)) where
   unfolding frame_of_words
   frame_below = bytes_below 16320 (with_parity (sent_bit ws)) (with_parity_lt (sent_bit ws) (sent_bit_lt ws))
 
-  pub frame_block : is_block_lem (frame_of_words ws) ≡ true
-  unfolding is_block_lem
+  pub frame_block : is_block (frame_of_words ws) ≡ true
+  unfolding is_block
   frame_block = rw (frame_length, frame_below)
 
   pub frame_bit : (i : ℕ) → i < 130560 → bit_at (frame_of_words ws) i ≡ with_parity (sent_bit ws) i

@@ -22,7 +22,7 @@ use Rattle.words.proofs.Bits.Numbers.{bit_of_zero, number_of_bits_lem, number_of
 use Rattle.words.proofs.Codes.Horner.{horner_zero}
 use Rattle.words.proofs.Codes.ReedSolomon.{is_code_lem}
 use Rattle.words.proofs.Bits.Bytes.{bytes_same}
-use Rattle.frames.specs.Frames.{symbol_at, is_block_lem, data_in, frame_of, payload_place, payload_of}
+use Rattle.frames.specs.Frames.{symbol_at, is_block, data_in, frame_of, payload_place, payload_of}
 use Rattle.frames.specs.Correction.{received_bit, received_symbol, received_word}
 use Rattle.frames.proofs.OuterSymbols.Received.{received_cases, code_words_frame}
 
@@ -67,10 +67,10 @@ module _ (b : ℕ → ℕ) (z : (i : ℕ) → b i ≡ 0) where
   zero_inners k = zero_inner _ (tabulate_length 2040 _) (zero_table 2040 _ (λ p. z (64 * p + k)))
 
 pub zero_frame : (p f : List ℕ) → length p ≡ 15296 → length f ≡ 16320 → Zero p → Zero f → frame_of p ≡ f
-unfolding is_block_lem payload_of
+unfolding is_block payload_of
 zero_frame p f lp lf zp zf =
     let bits = zero_bit f zf in
-    let block : is_block_lem f ≡ true = rw (lf, zero_below 256 f (lit< tt) zf) in
+    let block : is_block f ≡ true = rw (lf, zero_below 256 f (lit< tt) zf) in
     let same : payload_of f ≡ p =
     bytes_same 15296 (λ i. bit_at f (payload_place i)) p lp (zero_below 256 p (lit< tt) zp) (λ i l. bits (payload_place i) ∙ sym (zero_bit p zp i)) in
     ap frame_of (sym same) ∙ code_words_frame f block (λ w k. zero_outers (bit_at f) bits w) (λ k m. zero_inners (bit_at f) bits k)

@@ -23,7 +23,7 @@ use Rattle.words.proofs.Codes.OuterWords.{outer_is}
 use Rattle.words.proofs.Codes.Proved.{codes}
 use Rattle.inner_words.specs.Steps.Passes.{inner_codes}
 use Rattle.inner_words.proofs.Interleaving.InterleavedBits.{data_same, code_places, parity_cases}
-use Rattle.frames.specs.Frames.{symbol_at, is_block_lem, data_in, outer_data, outer_word, outer_words, outer_bit, outer_place, sent_bit, frame_of_words, frame_of, payload_place, payload_of}
+use Rattle.frames.specs.Frames.{symbol_at, is_block, data_in, outer_data, outer_word, outer_words, outer_bit, outer_place, sent_bit, frame_of_words, frame_of, payload_place, payload_of}
 use Rattle.frames.specs.Answers.{is_frame}
 use Rattle.frames.specs.Correction.{received_bit, received_symbol, received_word}
 use Rattle.frames.specs.Steps.Received.{outer_codes}
@@ -168,7 +168,7 @@ module _ (b : List ℕ) where
         (λ h. ap (λ (d : List ℕ). at (inner_parity d) (i / 64 - 1952)) (data_same _ _ sent_same (i % 64) (omega arith))
         ∙ code_places (bit_at b) (i % 64) (inner (i % 64) (omega arith)) (i / 64 - 1952) (omega arith) ∙ ap (bit_at b) (omega arith))
 
-pub code_words_frame : (b : List ℕ) → is_block_lem b ≡ true → ((w : ℕ) → w < 16 → is_outer (received_word (bit_at b) w) ≡ true) →
+pub code_words_frame : (b : List ℕ) → is_block b ≡ true → ((w : ℕ) → w < 16 → is_outer (received_word (bit_at b) w) ≡ true) →
     ((k : ℕ) → k < 64 → is_inner (inner_word (bit_at b) k) ≡ true) → frame_of (payload_of b) ≡ b
 unfolding frame_of frame_of_words
 code_words_frame b h outer inner =
@@ -176,7 +176,7 @@ code_words_frame b h outer inner =
     bytes_same 16320 (with_parity (sent_bit (outer_words (payload_of b)))) b t.0 t.1 (bit_same b outer inner)
 
 -- the test for frames: by definition, and by its words
-pub frame_same : (b : List ℕ) → is_block_lem b ≡ true → is_frame b ≡ true → frame_of (payload_of b) ≡ b
+pub frame_same : (b : List ℕ) → is_block b ≡ true → is_frame b ≡ true → frame_of (payload_of b) ≡ b
 unfolding is_frame frame_of
 frame_same b h t =
     apart_none (frame_of (payload_of b)) b (frame_length (outer_words (payload_of b)) ∙ sym (block_is b h).0) (eqb-true (apart (frame_of (payload_of b)) b) 0 t)
@@ -194,7 +194,7 @@ unfolding frame_of outer_codes inner_codes
 own_words p long =
     (and-eq-true_iff _ _).1 (every_true 16 _ (λ w k. ap is_outer (received_own p long w k) ∙ outer_code p w), every_true 64 _ (frame_inner (outer_words p)))
 
-pub is_frame_lem : (b : List ℕ) → is_block_lem b ≡ true → is_frame b ≡ (outer_codes (bit_at b) && inner_codes (bit_at b))
+pub is_frame_lem : (b : List ℕ) → is_block b ≡ true → is_frame b ≡ (outer_codes (bit_at b) && inner_codes (bit_at b))
 unfolding outer_codes inner_codes
 is_frame_lem b h =
     tests_agree (is_frame b) (code_words (bit_at b))

@@ -84,8 +84,8 @@ six_symbol x k i h =
 -- a table, as it is read, and the coefficients of a generator
 module _ (g : List ℕ) (table : ℕ → ℕ) where
   -- the cells of the parity of bit i, as they stand in the table; and whether its three numbers are those of a register
-  abbrev cells_at_lem : ℕ → List ℕ
-  cells_at_lem i = tabulate 18 (λ j. symbol_of (table (60 * (j / 6) + i)) (j % 6))
+  abbrev cells_at : ℕ → List ℕ
+  cells_at i = tabulate 18 (λ j. symbol_of (table (60 * (j / 6) + i)) (j % 6))
 
   abbrev holds : ℕ → List ℕ → Bool
   holds i r = every 3 (λ k. eqb (table (60 * k + i)) (six r (6 * k)))
@@ -94,7 +94,7 @@ module _ (g : List ℕ) (table : ℕ → ℕ) where
   begun = every 10 (λ i. holds i (step_by g [] (2 ^ i)))
 
   abbrev continued : Bool
-  continued = every 50 (λ i. holds (10 + i) (step_by g (cells_at_lem i) 0))
+  continued = every 50 (λ i. holds (10 + i) (step_by g (cells_at i) 0))
 
   -- the whole test
   abbrev tested : Bool
@@ -109,7 +109,7 @@ module _ (g : List ℕ) (table : ℕ → ℕ) where
         eqb-true _ _ (every_at 3 (λ k. eqb (table (60 * k + i)) (six (step_by g [] (2 ^ i)) (6 * k))) (every_at 10 (λ i. holds i (step_by g [] (2 ^ i))) b i h) k l)
         ∙ ap (λ (r : List ℕ). six r (6 * k)) (rw e (sym (parity_one (2 ^ i) (pow-lt {i = i} {j = 10} h))))
 
-    cell_same : (i : ℕ) → Unit i → (j : ℕ) → j < 17 → at (cells_at_lem i) j ≡ at (six_parity (2 ^ i)) j
+    cell_same : (i : ℕ) → Unit i → (j : ℕ) → j < 17 → at (cells_at i) j ≡ at (six_parity (2 ^ i)) j
     cell_same i u j h =
         let z : 6 * (j / 6) + j % 6 ≡ j = omega arith in
         tabulate_at 18 _ j 0 (omega arith) ∙ ap (λ (x : ℕ). symbol_of x (j % 6)) (u (j / 6) (omega arith))
@@ -117,11 +117,11 @@ module _ (g : List ℕ) (table : ℕ → ℕ) where
 
     unit_next : (i : ℕ) → i < 50 → Unit i → Unit (10 + i)
     unit_next i h u k l =
-        let r = step_by g (cells_at_lem i) 0 in
+        let r = step_by g (cells_at i) 0 in
         let small : 2 ^ i < 2 ^ 50 = pow-lt {i = i} {j = 50} h in
         let p : 2 ^ (10 + i) ≡ 2 ^ i * 1024 = pow-add 2 10 i ∙ omega arith in
-        eqb-true _ _ (every_at 3 (λ k. eqb (table (60 * k + (10 + i))) (six r (6 * k))) (every_at 50 (λ i. holds (10 + i) (step_by g (cells_at_lem i) 0)) c i h) k l)
-        ∙ ap (λ (r : List ℕ). six r (6 * k)) (rw e (step_same (cells_at_lem i) (six_parity (2 ^ i)) 0 (cell_same i u)) ∙ sym (ap six_parity p ∙ parity_ahead (2 ^ i) small))
+        eqb-true _ _ (every_at 3 (λ k. eqb (table (60 * k + (10 + i))) (six r (6 * k))) (every_at 50 (λ i. holds (10 + i) (step_by g (cells_at i) 0)) c i h) k l)
+        ∙ ap (λ (r : List ℕ). six r (6 * k)) (rw e (step_same (cells_at i) (six_parity (2 ^ i)) 0 (cell_same i u)) ∙ sym (ap six_parity p ∙ parity_ahead (2 ^ i) small))
 
     unit_at : (q i : ℕ) → i < 10 → 10 * q + i < 60 → Unit (10 * q + i)
     unit_at zero i h l = let z : 10 * 0 + i ≡ i = omega arith in rw z (unit_first i h)

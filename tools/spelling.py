@@ -32,7 +32,12 @@ def wants(name):
     return "-" in name[1:-1] and re.match(r"[^\W\d_]", name) or name[:1].islower() and CAMEL.search(name)
 
 
+TYPES = {"Two-passes": "TwoPasses", "Demand-3": "Demand3"}
+
+
 def snake(name):
+    if name in TYPES:
+        return TYPES[name]
     if name[0].islower():
         name = CAMEL.sub(lambda m: "_" + m[0].lower(), name)
     return name.replace("-", "_")

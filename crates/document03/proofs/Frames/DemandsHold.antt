@@ -26,7 +26,7 @@ use Rattle.document03.proofs.Words.InnerAgrees.{inner_length, inner_agrees}
 use Rattle.document03.proofs.Words.StatementsHold.{codes}
 use Rattle.document03.proofs.Words.SaysHold.{far_is}
 use Rattle.document03.proofs.Frames.Statements.{inner_word, frame_of_words, frame_of, all_bytes}
-use Rattle.document03.proofs.Frames.Menders.{Mends, Beyond, Two_passes, Lost, wrong_symbols, symbols_in, Demand_3}
+use Rattle.document03.proofs.Frames.Menders.{Mends, Beyond, TwoPasses, Lost, wrong_symbols, symbols_in, Demand3}
 use Rattle.document03.proofs.Frames.Says.{Demands}
 use Rattle.document03.proofs.Frames.FramesAgree.{sixteen_words}
 use Rattle.document03.proofs.Frames.BlocksAgree.{inner_word_agrees, block_bits}
@@ -93,7 +93,7 @@ module _ (block : List ℕ) (long : length block ≡ 130560) (bits : all_bits bl
             (words_frame_agrees ws (sixteen_words ws r.sixteen r.long) ∙ ap bits_of e ∙ sym (frame_agrees payload payload_long_lem)) (mends ws r)
         go (inr (w, l, far)) = absurd (some_not_none frame (sym sent ∙ (Ours.two_passes).none_restored bytes w l far))
 
-pub two_passes : Two_passes
+pub two_passes : TwoPasses
 two_passes =
     record {
       one_or_other = one_or_other;
@@ -101,7 +101,7 @@ two_passes =
       not_both = λ block f bits. not_both block f;
     }
 
-pub demand_3 : Demand_3
+pub demand_3 : Demand3
 demand_3 =
     record {
       first_half = λ payload block lost hp bp hb bits. first_half block hb bits payload lost hp bp;

@@ -1,4 +1,4 @@
--- Document 03 on correction: its definitions as it writes them, and its statements `Two_passes` and `Demand_3`. Its test `is_in` is that of the fields.
+-- Document 03 on correction: its definitions as it writes them, and its statements `TwoPasses` and `Demand3`. Its test `is_in` is that of the fields.
 -- Assumes nothing.
 use mathlib.Core.Path.{◌≡◌}
 use mathlib.Core.Logic.{◌⊎◌}
@@ -71,7 +71,7 @@ total [] = 0
 total (x ∷ xs) = x + total xs
 
 -- each block is mended or beyond reach, and in one way
-pub record Two_passes : Type 0 where
+pub record TwoPasses : Type 0 where
   pub one_or_other : (block : List ℕ) → length block ≡ 130560 → all_bits block ≡ true → ((frame : List ℕ) × Mends block frame) ⊎ Beyond block
   pub one_frame : (block f g : List ℕ) → all_bits block ≡ true → Mends block f → Mends block g → f ≡ g
   pub not_both : (block f : List ℕ) → all_bits block ≡ true → Mends block f → Beyond block → true ≡ false
@@ -99,7 +99,7 @@ wrong_symbols (suc n) s w lost block sent = when (wrong_from (bits_held w s) (78
 abbrev pub symbols_in : ℕ → ℕ
 symbols_in w = pick (ltb w 15) 781 778
 
-pub record Demand_3 : Type 0 where
+pub record Demand3 : Type 0 where
   -- lost names just the inner words beyond eight of every code word; the others have at most eight wrong bits
   pub first_half : (payload block lost : List ℕ) → length payload ≡ 15296 → all_bytes payload ≡ true → length block ≡ 130560 → all_bits block ≡ true → ((k : ℕ) → k < 64 → is_in k lost ≡ true → Lost (inner_word k block)) → ((k : ℕ) → k < 64 → is_in k lost ≡ false → apart (inner_word k block) (inner_word k (frame_of payload)) ≤ 8) → ((w : ℕ) → w < 16 → wrong_symbols (symbols_in w) 0 w lost block (frame_of payload) ≤ 8) → Mends block (frame_of payload)
   pub second_half : (p q : List ℕ) → length p ≡ 15296 → length q ≡ 15296 → all_bytes p ≡ true → all_bytes q ≡ true → same p q ≡ false → 17 ≤ apart (frame_of p) (frame_of q)

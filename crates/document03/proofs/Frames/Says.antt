@@ -11,7 +11,7 @@ use Rattle.document03.proofs.Fields.{pick, Fields}
 use Rattle.document03.proofs.Words.Statements.{when, same, Codes}
 use Rattle.document03.proofs.Words.Says.{first_of, bits_of, bytes_of}
 use Rattle.document03.proofs.Frames.Statements.{frame_of, payload_of, all_bytes}
-use Rattle.document03.proofs.Frames.Menders.{Mends, Beyond, report_of, total, Two_passes, Demand_3}
+use Rattle.document03.proofs.Frames.Menders.{Mends, Beyond, report_of, total, TwoPasses, Demand3}
 
 -- payloads of 15,296 bytes, blocks of 16,320
 abbrev pub payload_long : ℕ
@@ -60,6 +60,6 @@ MendSays b o o' number counts sum = MendWith (mend_fault b o) b o o' number coun
 pub record Demands : Type 0 where
   pub fields : Fields
   pub codes : Codes
-  pub passes : Two_passes
+  pub passes : TwoPasses
   pub reads_back : (p : List ℕ) → length p ≡ payload_long → all_bytes p ≡ true → payload_of (bits_of (frame_bytes p)) ≡ p
-  pub third : Demand_3
+  pub third : Demand3

@@ -1,5 +1,7 @@
 // Data that a row lends or has encoded, named by a number: below 65,536 the value that all of them have, else one of the names here.
 use crate::lines::{part, text};
+use std::io;
+use std::io::Write;
 
 // Bytes that are counted modulo 251.
 pub(crate) const COUNTED: usize = 70_000;
@@ -68,18 +70,16 @@ pub(crate) fn value_at(data: usize, i: usize) -> u16 {
     sparse(data, i)
 }
 
-pub(crate) fn describe(data: usize) {
+pub(crate) fn describe<W: Write>(writer: &mut W, data: usize) -> io::Result<()> {
     if data < 65536 {
-        part(b", each ", data);
-        return;
+        return part(writer, b", each ", data);
     }
     if BIT <= data {
-        part(b", zeros but for bit ", data - BIT);
-        return;
+        return part(writer, b", zeros but for bit ", data - BIT);
     }
     match data {
-        COUNTED => text(b", counted modulo 251"),
-        NEAR => text(b", nine symbols of a code word, then zeros"),
-        _ => text(b", zeros but for four symbols or bits"),
+        COUNTED => text(writer, b", counted modulo 251"),
+        NEAR => text(writer, b", nine symbols of a code word, then zeros"),
+        _ => text(writer, b", zeros but for four symbols or bits"),
     }
 }

@@ -16,19 +16,22 @@ mod rows;
 mod values;
 mod word_rows;
 
-fn main() {
-    word_rows::outer();
-    word_rows::inner();
-    word_rows::corrections();
-    frame_rows::payloads();
-    frame_rows::refusals(calls::FRAME);
-    frame_rows::corrections();
-    logging_rows::counters();
-    logging_rows::worst_lists();
-    g709_rows::payloads();
-    frame_rows::refusals(calls::G709);
-    g709_rows::refusals();
-    g709_rows::row_corrections();
-    g709_rows::frame_corrections();
-    product_rows::fields_a_to_c();
+use std::io;
+
+fn main(rt: HostRuntime) -> io::Result<()> {
+    let mut writer = io::writer(&rt);
+    word_rows::outer(&mut writer)?;
+    word_rows::inner(&mut writer)?;
+    word_rows::corrections(&mut writer)?;
+    frame_rows::payloads(&mut writer)?;
+    frame_rows::refusals(&mut writer, calls::FRAME)?;
+    frame_rows::corrections(&mut writer)?;
+    logging_rows::counters(&mut writer)?;
+    logging_rows::worst_lists(&mut writer)?;
+    g709_rows::payloads(&mut writer)?;
+    frame_rows::refusals(&mut writer, calls::G709)?;
+    g709_rows::refusals(&mut writer)?;
+    g709_rows::row_corrections(&mut writer)?;
+    g709_rows::frame_corrections(&mut writer)?;
+    product_rows::fields_a_to_c(&mut writer)
 }

@@ -4,45 +4,75 @@ use crate::damage::{add_errors, fill};
 use crate::data::describe;
 use crate::lines::{buffer, part, text};
 use crate::values::{MOST, wide};
+use std::io;
+use std::io::Write;
 
-pub(crate) fn head(operation: usize, code: usize, n: usize, data: usize) {
-    name(operation);
-    name(code);
-    part(b", length ", n);
-    describe(data);
+pub(crate) fn head<W: Write>(
+    writer: &mut W,
+    operation: usize,
+    code: usize,
+    n: usize,
+    data: usize,
+) -> io::Result<()> {
+    name(writer, operation)?;
+    name(writer, code)?;
+    part(writer, b", length ", n)?;
+    describe(writer, data)
 }
 
 // The rest of a line: the call with the first n values and a buffer of nines.
-pub(crate) fn row(operation: usize, code: usize, values: &[u16], n: usize, space: usize) {
+pub(crate) fn row<W: Write>(
+    writer: &mut W,
+    operation: usize,
+    code: usize,
+    values: &[u16],
+    n: usize,
+    space: usize,
+) -> io::Result<()> {
     let mut out = [9u16; MOST];
-    part(b", buffer of ", space);
-    text(b":");
-    call(operation, code, values, n, &mut out, 0, space);
-    buffer(&out, space);
+    part(writer, b", buffer of ", space)?;
+    text(writer, b":")?;
+    call(writer, operation, code, values, n, &mut out, 0, space)?;
+    buffer(writer, &out, space)
 }
 
 // Lends n values of the data.
-pub(crate) fn lent(operation: usize, code: usize, n: usize, data: usize, space: usize) {
-    head(operation, code, n, data);
+pub(crate) fn lent<W: Write>(
+    writer: &mut W,
+    operation: usize,
+    code: usize,
+    n: usize,
+    data: usize,
+    space: usize,
+) -> io::Result<()> {
+    head(writer, operation, code, n, data)?;
     let mut values = [0u16; MOST];
     fill(&mut values, data);
-    row(operation, code, &values, n, space);
+    row(writer, operation, code, &values, n, space)
 }
 
 // Writes the word, frame or row of n values that is sent for d values of the data, and prints the encoder's answer. A word is its data with the parity after
 // them; a frame or row is written whole.
-pub(crate) fn send(code: usize, d: usize, data: usize, n: usize, word: &mut [u16]) {
+pub(crate) fn send<W: Write>(
+    writer: &mut W,
+    code: usize,
+    d: usize,
+    data: usize,
+    n: usize,
+    word: &mut [u16],
+) -> io::Result<()> {
     let mut values = [0u16; MOST];
     let parity = if code == OUTER || code == INNER { d } else { 0 };
-    part(b", encoded to ", n);
-    text(b":");
+    part(writer, b", encoded to ", n)?;
+    text(writer, b":")?;
     fill(&mut values, data);
     fill(word, data);
-    call(ENCODE, code, &values, d, word, parity, n);
+    call(writer, ENCODE, code, &values, d, word, parity, n)
 }
 
 // Lends what is received, n values, when the word, frame or row of d values is sent. Errors have one value, and their places are `step` apart.
-pub(crate) fn received(
+pub(crate) fn received<W: Write>(
+    writer: &mut W,
     operation: usize,
     code: usize,
     d: usize,
@@ -53,14 +83,14 @@ pub(crate) fn received(
     first: usize,
     step: u16,
     space: usize,
-) {
+) -> io::Result<()> {
     let mut word = [0u16; MOST];
-    head(operation, code, d, data);
-    send(code, d, data, n, &mut word);
-    part(b", errors ", count);
-    part(b" of value ", wide(error));
-    part(b" from ", first);
-    part(b" apart ", wide(step));
+    head(writer, operation, code, d, data)?;
+    send(writer, code, d, data, n, &mut word)?;
+    part(writer, b", errors ", count)?;
+    part(writer, b" of value ", wide(error))?;
+    part(writer, b" from ", first)?;
+    part(writer, b" apart ", wide(step))?;
     add_errors(code, &mut word, count, error, first, step);
-    row(operation, code, &word, n, space);
+    row(writer, operation, code, &word, n, space)
 }

@@ -1,6 +1,4 @@
-use mathlib.Core.Path.{◌≡◌}
-use Prim.Native.Nat.{◌-◌, ◌≤◌, ◌<◌}
-use lib.ListN.{length}
+use Rattle.std.proofs.Common.{length, ◌-◌, ◌<◌, ◌≡◌, ◌≤◌}
 use Rattle.acceptance.proofs.damage.add_errors.Given as goal
 
 abbrev pub invariant-loop-j : goal.invariant-loop-j

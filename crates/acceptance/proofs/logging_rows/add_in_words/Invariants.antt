@@ -1,6 +1,4 @@
-use mathlib.Core.Path.{◌≡◌}
-use Prim.Native.Nat.{◌-◌}
-use lib.ListN.{length}
+use Rattle.std.proofs.Common.{length, ◌-◌, ◌≡◌}
 use Rattle.acceptance.proofs.logging_rows.add_in_words.Given as goal
 
 abbrev pub invariant-loop-k : goal.invariant-loop-k

@@ -1,0 +1,4 @@
+pub mod Written
+pub mod Lines
+pub mod Filled
+pub mod Longer

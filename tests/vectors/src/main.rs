@@ -4,8 +4,8 @@
 //!     vectors FOLDER    writes the samples into the folder
 //!
 //! A row gives data to a call, or what is received when the word or frame of the data is sent (`errors`); the call is made, and what goes in and what comes out
-//! are printed (`rows`, `lines`). The rows themselves: `word_rows`, `frame_rows`, `g709_rows`, `logging_rows`, and `product_rows`, which have no refusals. Payloads,
-//! damage and the table of refusals are those of the crate `cases`.
+//! are printed (`rows`, `lines`). The rows themselves: `word_rows`, `frame_rows`, `g709_rows`, `logging_rows`. Payloads, damage and the table of refusals
+//! are those of the crate `cases`.
 //!
 //! What comes out is held to how the row is made. The number of the answer follows, by the table, from the lengths and from what the row says its content is.
 //! Where a correction is not refused, the sent word or frame has to come back, with the numbers of the errors that were made. Where nine errors are refused,
@@ -17,7 +17,6 @@ mod frame_rows;
 mod g709_rows;
 mod lines;
 mod logging_rows;
-mod product_rows;
 mod rows;
 mod samples;
 mod word_rows;
@@ -30,5 +29,4 @@ fn main() {
     frame_rows::print();
     logging_rows::print();
     g709_rows::print();
-    product_rows::print();
 }

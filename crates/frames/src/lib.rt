@@ -27,7 +27,6 @@ use decoding::symbols;
 use inner_words::Interleaved;
 
 mod bits;
-pub mod c_entries;
 mod comparison;
 mod outer_test;
 mod outer_words;

@@ -17,7 +17,6 @@ ghost use Rattle.g709.specs.Answers.{row_encoded, row_checked, row_extracted, ro
 use words::Correction;
 
 mod block;
-mod c_entries;
 mod columns;
 mod corrector;
 mod division;

@@ -1,4 +1,4 @@
-// Links the archives that `rt staticlib` writes of the crates frames, g709 and exports.
+// Links the archives that tests/archives writes of the crates frames_c, g709_c and exports.
 use std::path::Path;
 
 fn main() {
@@ -7,7 +7,7 @@ fn main() {
     for name in ["frames", "g709", "exports"] {
         let archive = folder.join(format!("lib{name}.a"));
         if !archive.exists() {
-            panic!("there is no lib{name}.a: 'rt staticlib {name}' proves and writes it");
+            panic!("there is no lib{name}.a: 'bash tests/archives {name}' proves and writes it");
         }
         println!("cargo:rerun-if-changed={}", archive.display());
         println!("cargo:rustc-link-lib=static={name}");

@@ -43,7 +43,7 @@ without_count a = (refusal_of a.0, a.1)
 abbrev pub without_counts : InnerCorrection × List ℕ → ℕ × List ℕ
 without_counts a = (inner_refusal_of a.0, a.1)
 
--- each entry's answer, as its contract gives it (words/src/lib.rt, frames/src/lib.rt, frames/src/c_entries.rt), and its rules
+-- each entry's answer, as its contract gives it (words/src/lib.rt, frames/src/lib.rt, frames_c/src/lib.rt), and its rules
 pub record Demand1 : Type 0 where
   -- encoder: 1, length of the payload; 3, size of the buffer
   pub encode : (payload buffer : List ℕ) →

@@ -13,22 +13,19 @@ DEGREE = 11
 SOURCE = """\
 // The residues of the inner words modulo each of the eight factors of the divisor: a step by one place, and the walk over all places, for each factor.
 // tests/generated/residues.py writes this file: the eight texts differ in the factor's coefficients alone, which the compiler has to know.
-use crate::places::first_five;
-use crate::places::load;
-use lanes::DEGREE;
-use lanes::Lanes;
-ghost use mathlib.Core.Path.{_≡_};
-ghost use Prim.Native.Nat.{_+_, _*_, _≤_, _<_};
-ghost use lib.ListN.{length};
-ghost use Rattle·lanes.specs.Steps.Sliced.{cells};
-ghost use Rattle·inner_words·specs.specs.Steps.InnerResidues.{loadedAt, advanced, residueOf};
+ghost use Rattle.std.specs.Prelude.{◌≡◌, ◌+◌, ◌*◌, ◌≤◌, ◌<◌, length};
+ghost use Rattle.lanes.specs.Steps.Sliced.{cells};
+ghost use Rattle.inner_words.specs.Steps.InnerResidues.{loaded_at, advanced, residue_of};
+
+use crate::places::{first_five, load};
+use lanes::{DEGREE, Lanes};
 """
 
 STEP = """
 // One place more, modulo factor @J@: z times the residue, plus the place.
 fn step_@J@(bytes: &[u8], p: usize, s: Lanes) -> Lanes
-    requires { ⌜ (p < 2040) × (8 * p + 8 ≤ length (now bytes)) ⌝ }
-    ensures { λ r. ⌜ cells r ≡ advanced @FACTOR@ (cells s) (loadedAt (now (bytes .entry)) p) ⌝ }
+    requires { (p < 2040) × (8 * p + 8 ≤ length bytes.now) }
+    ensures { cells result ≡ advanced @FACTOR@ (cells s) (loaded_at bytes.now p) }
 {
     let x = load(bytes, p);
     let f = s.r10;
@@ -40,8 +37,8 @@ fn step_@J@(bytes: &[u8], p: usize, s: Lanes) -> Lanes
 WALK = """
 // The residues modulo factor @J@ of the first 5 + 11 * blocks places. After eleven places each coefficient is back where it stood, so that none has to move.
 pub(crate) fn residue_@J@(bytes: &[u8], blocks: usize) -> Lanes
-    requires { ⌜ (blocks ≤ 185) × (40 + 88 * blocks ≤ length (now bytes)) ⌝ }
-    ensures { λ r. ⌜ cells r ≡ residueOf @J@ (now (bytes .entry)) (5 + 11 * blocks) ⌝ }
+    requires { (blocks ≤ 185) × (40 + 88 * blocks ≤ length bytes.now) }
+    ensures { cells result ≡ residue_of @J@ bytes.now (5 + 11 * blocks) }
 {
     let mut s = first_five(bytes);
     let mut i: usize = 0;
@@ -53,67 +50,74 @@ pub(crate) fn residue_@J@(bytes: &[u8], blocks: usize) -> Lanes
 }
 """
 
-STEP_PROOF = """\
--- `inner_words::factor_residues::step_@J@` meets its contract. Written by tests/generated/residues.py. Assumes nothing.
+STEP_ANSWERS = """\
 use mathlib.Core.Path.{ap}
-use borrow.Author.Needs.{needs}
-use Rattle·fields.specs.Elements.{xor, scale}
-use Rattle·fields.specs.Lists.{tabulate}
-use Rattle·lanes.specs.Steps.Sliced.{cells}
-use Rattle·inner_words·specs.specs.Steps.InnerResidues.{advanced}
-use Rattle·inner_words·proofs.proofs.factor_residues.step_@J@.Statement.{statement}
-use Rattle·inner_words·proofs.proofs.factor_residues.step_@J@.Tie as tie
+use Rattle.fields.specs.Elements.{xor, scale}
+use Rattle.fields.specs.Lists.{tabulate}
+use Rattle.lanes.specs.Steps.Sliced.{cells}
+use Rattle.inner_words.specs.Steps.InnerResidues.{advanced}
+use Rattle.inner_words.proofs.factor_residues.step_@J@.Goals as goal
 
-load-requires : tie.Need-load-requires
-load-requires c κs = search needs
-
-returns : tie.Need-returns
+pub returns : goal.returns
 unfolding advanced tabulate scale xor
-returns c = ap (advanced @FACTOR@ (cells (@ARGS@ .args .s))) (@LOAD@ .load .ensures)
-
-pub step-@J@-spec : {M : Type 1} → statement M
-step-@J@-spec = tie.close (tie.spec load-requires returns)
+returns c = ap (advanced @FACTOR@ (cells c.args.s)) c.load-x.ensures
 """
 
-WALK_PROOF = """\
--- `inner_words::factor_residues::residue_@J@` meets its contract. Written by tests/generated/residues.py. Assumes nothing.
-use mathlib.Core.Path.{_≡_}
-use Prim.Native.Nat.{_+_, _*_, _-_, _≤_}
-use borrow.Author.Needs.{needs}
+WALK_INVARIANTS = """\
+use mathlib.Core.Path.{◌≡◌}
+use Prim.Native.Nat.{◌+◌, ◌*◌, ◌-◌, ◌≤◌}
+use Rattle.lanes.specs.Steps.Sliced.{cells}
+use Rattle.inner_words.specs.Steps.InnerResidues.{residue_of}
+use Rattle.inner_words.proofs.factor_residues.residue_@J@.Given as goal
+
+abbrev pub invariant-loop-i : goal.invariant-loop-i
+invariant-loop-i l = (l.i ≤ l.blocks) × (cells l.s ≡ residue_of @J@ l.bytes (5 + 11 * l.i))
+
+abbrev pub decreases-loop-i : goal.decreases-loop-i
+decreases-loop-i l = l.blocks - l.i
+"""
+
+WALK_ANSWERS = """\
+use borrow.Author.Rules.{rules}
 use lib.Dec.{lit<}
-use Rattle·lanes.specs.Steps.Sliced.{cells}
-use Rattle·words.specs.InnerCode.{factors}
-use Rattle·inner_words·specs.specs.Steps.InnerResidues.{residueOf}
-use Rattle·inner_words·proofs.proofs.Remainders.ResidueSteps.{place-first, place-inside, place-fits, block-within, block-fits, block-less, eleven-places, residue-start, residue-turn, residue-end}
-use Rattle·inner_words·proofs.proofs.factor_residues.residue_@J@.Statement.{statement}
-use Rattle·inner_words·proofs.proofs.factor_residues.residue_@J@.Tie as tie
+use Rattle.words.specs.InnerCode.{factors}
+use Rattle.inner_words.proofs.Remainders.ResidueSteps.{place_first, place_inside, place_fits, block_within, block_fits, block_less, eleven_places, residue_start, residue_turn, residue_end}
+use Rattle.inner_words.proofs.factor_residues.residue_@J@.Goals as goal
 
-abbrev Inv-loop : tie.InvT-loop
-Inv-loop bytes blocks s₀ i₀ s i = (i ≤ blocks) × (cells s ≡ residueOf @J@ bytes (5 + 11 * i))
+pub loop-i-init : goal.loop-i-init
+loop-i-init c = (search rules, residue_start _ _ c.first_five-s.ensures)
 
-abbrev μ-loop : tie.MeasureT-loop
-μ-loop bytes blocks s₀ i₀ s i = blocks - i
+pub step_@J@-s1-requires : goal.step_@J@-s1-requires
+step_@J@-s1-requires c = place_first _ _ _ c.loop-i-test.true c.requires
 
-loop-again : tie.Need-loop-again Inv-loop μ-loop
+@INSIDE@pub overflow_add-i : goal.overflow_add-i
+overflow_add-i c = block_fits _ _ _ c.loop-i-test.true c.requires
+
+pub loop-i-smaller : goal.loop-i-smaller
+loop-i-smaller c = block_less _ _ _ c.loop-i-test.true c.requires
+
+pub loop-i-preserved : goal.loop-i-preserved
 unfolding factors
-loop-again c = (
-  block-within _ _ _ (@LAST@),
-  residue-turn _ _ _ (@INV@ .loop .inv .1)
-      (eleven-places _ _ _ _
+loop-i-preserved c =
+    (
+  block_within _ _ _ c.loop-i-test.true c.requires,
+  residue_turn _ _ _ c.loop-i.invariant.1
+      (eleven_places _ _ _ _
 @PLACES@),
 )
 
-pub residue-@J@-spec : {M : Type 1} → statement M
-residue-@J@-spec =
-    tie.close
-    (tie.spec
-    Inv-loop
-    μ-loop
-    (λ c κs. search needs) (λ c. (search needs, residue-start _ _ (c .first-five .ensures)))
-    (λ c. search needs) (λ c. search needs)
-    (λ c κs. place-first _ _ _ (@FIRST@))
-@INSIDE@    (λ c. block-fits _ _ _ (@LAST@)) (λ c. block-less _ _ _ (@LAST@)) loop-again
-    (λ c. residue-end _ _ _ _ (c .before .loop .inv .1) (search needs) (search needs)))
+pub returns : goal.returns
+returns c = residue_end _ _ _ _ c.loop-i.invariant.1 (search rules) (search rules)
+"""
+
+# What is asked at each place of a block but the first.
+WALK_INSIDE = """\
+pub overflow_add-p-in-loop-i@N@ : goal.overflow_add-p-in-loop-i@N@
+overflow_add-p-in-loop-i@N@ c = place_fits _ _ _ c.loop-i-test.true c.requires @PLACE@ (lit< tt)
+
+pub step_@J@-@S@-requires : goal.step_@J@-@S@-requires
+step_@J@-@S@-requires c = place_inside _ _ _ c.loop-i-test.true c.requires @PLACE@ (lit< tt)
+
 """
 
 
@@ -123,14 +127,9 @@ def filled(text, **words):
     return text
 
 
-def before(n):
-    """What is known n steps before."""
-    return "c" + " .before" * n
-
-
-def given(n):
-    """The loop's test and the contract's premise, where n places of the eleven are done."""
-    return f"{before(n)} .loop-test .taken) ({before(n + 4)} .pre"
+def name_at(n):
+    """The local that the step to place n + 1 of a block gives."""
+    return "s" if n == DEGREE - 1 else f"s{n + 1}"
 
 
 def step(j, factor):
@@ -144,31 +143,25 @@ def step(j, factor):
 def walk(j):
     steps = ""
     for n in range(DEGREE):
-        target = "s" if n == DEGREE - 1 else f"let s{n + 1}"
+        target = "s" if n == DEGREE - 1 else f"let {name_at(n)}"
         place = "p" if n == 0 else f"p + {n}"
-        steps += f"        {target} = step_{j}(bytes, {place}, {'s' if n == 0 else f's{n}'});\n"
+        steps += f"        {target} = step_{j}(bytes, {place}, {'s' if n == 0 else name_at(n - 1)});\n"
     return filled(WALK, J=j, STEPS=steps)
 
 
-def step_proof(j, factor):
-    sums = bin(factor % 2**DEGREE).count("1")
-    return filled(STEP_PROOF, J=j, FACTOR=factor, ARGS=before(sums + 1), LOAD=before(sums - 1))
-
-
-def walk_proof(j):
-    places = [f"      ({before(DEGREE - 1 - n)} .step-{j}{n + 1 if n else ''} .ensures)" for n in range(DEGREE)]
-    inside = ""
-    for n in range(1, DEGREE):
-        inside += f"    (λ c. place-fits _ _ _ ({given(n)}) {n} (lit< tt)) (λ c κs. place-inside _ _ _ ({given(n)}) {n} (lit< tt))\n"
-    return filled(WALK_PROOF, J=j, LAST=given(DEGREE), INV=before(DEGREE + 1), FIRST=given(0), PLACES="\n".join(places), INSIDE=inside)
+def walk_answers(j):
+    places = "\n".join(f"      c.step_{j}-{name_at(n)}.ensures" for n in range(DEGREE))
+    inside = "".join(filled(WALK_INSIDE, J=j, N=f"-{n}" if n > 1 else "", S=name_at(n), PLACE=n) for n in range(1, DEGREE))
+    return filled(WALK_ANSWERS, J=j, INSIDE=inside, PLACES=places)
 
 
 def main():
     crate = pathlib.Path(sys.argv[1]) / "crates/inner_words"
     texts = {"src/factor_residues.rt": SOURCE + "".join(step(j, f) + walk(j) for j, f in enumerate(FACTORS))}
     for j, factor in enumerate(FACTORS):
-        texts[f"proofs/factor_residues/step_{j}/Proof.antt"] = step_proof(j, factor)
-        texts[f"proofs/factor_residues/residue_{j}/Proof.antt"] = walk_proof(j)
+        texts[f"proofs/factor_residues/step_{j}/Answers.antt"] = filled(STEP_ANSWERS, J=j, FACTOR=factor)
+        texts[f"proofs/factor_residues/residue_{j}/Invariants.antt"] = filled(WALK_INVARIANTS, J=j)
+        texts[f"proofs/factor_residues/residue_{j}/Answers.antt"] = walk_answers(j)
     for name, text in texts.items():
         path = crate / name
         path.parent.mkdir(parents=True, exist_ok=True)

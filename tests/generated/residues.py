@@ -98,8 +98,7 @@ loop-i-smaller c = block_less _ _ _ c.loop-i-test.true c.requires
 
 pub loop-i-preserved : goal.loop-i-preserved
 unfolding factors
-loop-i-preserved c =
-    (
+loop-i-preserved c = (
   block_within _ _ _ c.loop-i-test.true c.requires,
   residue_turn _ _ _ c.loop-i.invariant.1
       (eleven_places _ _ _ _

@@ -5,7 +5,7 @@ use Rattle.std.proofs.Math.Logic.{⊎_elim}
 use Rattle.std.specs.declared.option.Option.{Option}
 use Rattle.std.specs.Io.KnownBytes.{Appends}
 use Rattle.frames.specs.Answers.{refused, concluded, frame_corrected}
-use Rattle.report.specs.Printed.{answer_printed, answered}
+use Rattle.report.specs.Printed.{answer_printed, report_on}
 
 wrong_length : (block buffer : List ℕ) → eqb (length block) 16320 ≡ false → frame_corrected block buffer ≡ refused 2 buffer
 unfolding frame_corrected concluded
@@ -19,8 +19,8 @@ same_answer input buffer = ⊎_elim
     (cases_lt 16321 (length input))
 
 pub answers : (known a b : Option (List ℕ)) (block text : List ℕ) → IfSome known (λ input. block ≡ take 16321 input)
-    → text ≡ answer_printed (frame_corrected block (replicate 16320 0)) → Appends a b text → IfSome known (λ input. Appends a b (answered input))
-unfolding answered
+    → text ≡ answer_printed (frame_corrected block (replicate 16320 0)) → Appends a b text → IfSome known (λ input. Appends a b (report_on input))
+unfolding report_on
 answers None a b block text e f w = tt
 answers (Some input) a b block text e f w =
     subst (Appends a b) (f ∙ ap (λ x. answer_printed (frame_corrected x (replicate 16320 0))) e ∙ ap answer_printed (same_answer input (replicate 16320 0))) w

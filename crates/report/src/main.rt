@@ -5,7 +5,7 @@
 
 ghost use Rattle.std.specs.Prelude.{◌≡◌, ◌≤◌, length, take, IfOk, OnOk, IfSome};
 ghost use Rattle.std.specs.Io.KnownBytes.{Appends};
-ghost use Rattle.report.specs.Printed.{line, inner_word, listed, printed, answered};
+ghost use Rattle.report.specs.Printed.{line, inner_line, listed, printed, report_on};
 
 use frames::{Frame, Report};
 use std::io;
@@ -27,14 +27,14 @@ fn line<W: Write>(writer: &mut W, before: &[u8], n: u64) -> io::Result<()>
 }
 
 // The line of inner word k; none for an empty place of the list.
-#[tactic(auto, using(crate::proofs::Written::appends_then, crate::proofs::Written::appends_nothing), unfolding(crate::specs::Printed::inner_word))]
+#[tactic(auto, using(crate::proofs::Written::appends_then, crate::proofs::Written::appends_nothing), unfolding(crate::specs::Printed::inner_line))]
 fn inner_word<W: Write>(
     writer: &mut W,
     data: &[u16; Frame::INNER_WORDS],
     parity: &[u16; Frame::INNER_WORDS],
     k: usize,
 ) -> io::Result<()>
-    ensures { OnOk result (Appends (W.contents writer.old) (W.contents writer.new) (inner_word («data».now, parity.now) k)) }
+    ensures { OnOk result (Appends (W.contents writer.old) (W.contents writer.new) (inner_line («data».now, parity.now) k)) }
 {
     if k < logging::EMPTY {
         let data_places = wide(data[k]);
@@ -88,7 +88,7 @@ fn read_full<R: Read>(reader: &mut R, buffer: &mut [u8]) -> io::Result<usize>
 
 // Takes one block from the reader and writes the report on it. One byte more than a block is asked for: longer input has it, and is refused by its length.
 fn answer<R: Read, W: Write>(reader: &mut R, writer: &mut W) -> io::Result<()>
-    ensures { OnOk result (IfSome (R.remaining reader.old) (λ input. Appends (W.contents writer.old) (W.contents writer.new) (answered input))) }
+    ensures { OnOk result (IfSome (R.remaining reader.old) (λ input. Appends (W.contents writer.old) (W.contents writer.new) (report_on input))) }
 {
     let mut input = [0u8; Frame::BYTES + 1];
     let n = read_full(reader, &mut input)?;

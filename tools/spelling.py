@@ -1,9 +1,10 @@
 #!/usr/bin/env python3
 """Brings the names that this repository defines in specs/ and proofs/ to one spelling: snake case for all but types and modules.
 
-Run once, from the project's root, after the toolchain's port script. A name is renamed where it is defined in a file of specs/ or proofs/ and has a dash or a capital inside;
-names that the toolchain makes (goals, `tie.` terms) are not. Where two names would fall together, the one with the dash, which is the lemma, gets `_lem`.
-In sources only imports and clauses have such names; in comments and pages only what stands in backquotes, or has a capital inside, is renamed.
+Run once, after the toolchain's port script; it changes the checkout that it stands in. A name is renamed where it is defined in a file of specs/ or proofs/ and has a dash or a
+capital inside: both become `_`. Names that the toolchain makes (goals, `tie.` terms), and names that are also imported from the toolchain's library, stay. Where two names would
+fall together, a definition (a capital inside, no dash) keeps the plain one and the law (a dash, or a name that the port script had respelled) gets `_lem`; so does one whose new
+name the library has. In sources only imports and clauses have such names; in comments and pages only what stands in backquotes, or has a capital inside, is renamed.
 """
 import collections
 import os
@@ -32,6 +33,7 @@ def wants(name):
     return "-" in name[1:-1] and re.match(r"[^\W\d_]", name) or name[:1].islower() and CAMEL.search(name)
 
 
+# two records of document03, which have the names of those of frames that they follow from, in another crate
 TYPES = {"Two-passes": "TwoPasses", "Demand-3": "Demand3"}
 
 
@@ -62,12 +64,13 @@ def table():
     for new, olds in by_new.items():
         # first what has no dash, a definition with a capital inside before a lemma that the port script had respelled: that one keeps the name
         for i, old in enumerate(sorted(olds, key=lambda o: ("-" in o, ("-" in o) == bool(CAMEL.search(o)), o))):
-            end = new if i == 0 and new not in library else new + "_lem"
+            end = new if (i == 0 and new not in library) or old in TYPES else new + "_lem"
             if (wants(old) or i > 0) and old not in library and end != old:
                 to[old] = end
-    ends = collections.Counter(to.values())
+    ends = collections.Counter(end for old, end in to.items() if old not in TYPES)
     assert all(n == 1 for n in ends.values()), [n for n in ends if ends[n] > 1]
-    assert not (set(to.values()) & (defined - set(to))), set(to.values()) & (defined - set(to))
+    taken = {end for old, end in to.items() if old not in TYPES} & (defined - set(to))
+    assert not taken, taken
     return to
 
 

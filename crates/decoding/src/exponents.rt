@@ -1,4 +1,4 @@
-// Exponents of a, counted modulo its order n: by one comparison and one subtraction, for the crates above too.
+// Exponents of a, counted modulo its order n, by one comparison and one subtraction.
 ghost use Rattle.std.specs.Prelude.{◌≡◌, ◌+◌, ◌%◌, ◌≤◌, ◌<◌};
 ghost use Rattle.decoding.specs.Steps.RootSearch.{less_modulo};
 
@@ -11,7 +11,7 @@ pub(crate) fn less(n: usize, e: usize, d: usize) -> usize
 }
 
 // e + d, counted modulo n.
-pub fn plus(n: usize, e: usize, d: usize) -> usize
+pub(crate) fn plus(n: usize, e: usize, d: usize) -> usize
     requires { (e < n) × (d < n) × (n ≤ 65536) }
     ensures { result ≡ (e + d) % n }
 {

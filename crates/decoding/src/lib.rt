@@ -19,7 +19,7 @@ use crate::error_values::Errors;
 
 pub mod annihilator;
 pub mod error_values;
-pub mod exponents;
+mod exponents;
 pub mod power_tables;
 pub mod root_search;
 pub mod symbols;

@@ -291,9 +291,12 @@ module _ (c d : ℕ) where
     unfolding table_start
     start_zero z = rw (eq-eqb c 0 z)
 
-    pub start_table : (c ≡ 0 → ⊥) → (l e r p : ℕ) → l ≡ at ls c → e ≡ 2047 - l → r ≡ at reciprocals d → p ≡ e * r → (s : ℕ) → s ≡ (p + (2047 + 1 - n)) % 2047 → s ≡ table_start ls c d n
+    pub start_table : (c ≡ 0 → ⊥) → (l e r p : ℕ) → l ≡ at ls c → e ≡ 2047 - l → r ≡ at reciprocals d → p ≡ e * r → (p + (2047 + 1 - n)) % 2047 ≡ table_start ls c d n
     unfolding table_start
-    start_table z l e r p el ee er ep s es = es ∙ rw (ne_eqb c 0 z, ep, ee, er, el)
+    start_table z l e r p el ee er ep = rw (ne_eqb c 0 z, ep, ee, er, el)
+
+    pub start_folded : (c ≡ 0 → ⊥) → (l e r p : ℕ) → l ≡ at ls c → e ≡ 2047 - l → r ≡ at reciprocals d → p ≡ e * r → (s : ℕ) → s ≡ (p + (2047 + 1 - n)) % 2047 → s ≡ table_start ls c d n
+    start_folded z l e r p el ee er ep s es = es ∙ start_table z l e r p el ee er ep
 
 -- the base and the start of the term of degree d + 1
 unfoldable pub term_base : List ℕ → ℕ → ℕ

@@ -1,98 +1,99 @@
-// Rows on frames: payloads that are encoded, checked and extracted again, refusals, blocks that are no frames, and corrections. The columns are
-//
-//     lent      operation, code, bytes, data, buffer
-//     received  operation, code, payload bytes, payload, bytes sent, errors, value of each, first place, places apart, buffer
-//     block     code, bytes, data, buffer
-//     correct   payload, wrong bits, first place, places apart
-use crate::calls::{CHECK, CORRECT, ENCODE, EXTRACT, FRAME};
-use crate::damage::fill;
-use crate::data::{BIT, COUNTED, describe};
-use crate::lines::{buffer, text};
-use crate::rows::{lent, received};
-use crate::values::MOST;
+// Rows on frames: payloads that are encoded, checked and extracted again, refusals, blocks that are no frames, and corrections.
+use crate::calls::{Code, Operation};
+use crate::damage::AddedErrors;
+use crate::data::Data;
+use crate::lines::buffer;
+use crate::rows::{SentData, lent};
+use frames::Frame;
 use std::io;
 use std::io::Write;
 
 // A payload, its frame, and the payload again.
-fn payload<W: Write>(writer: &mut W, data: usize) -> io::Result<()> {
-    let mut values = [0u16; MOST];
-    fill(&mut values, data);
-    text(writer, b"payload")?;
-    describe(writer, data)?;
-    text(writer, b":")?;
-    buffer(writer, &values, 15296)?;
-    lent(writer, ENCODE, FRAME, 15296, data, 16320)?;
-    received(writer, CHECK, FRAME, 15296, data, 16320, 0, 1, 0, 0, 0)?;
-    received(
-        writer, EXTRACT, FRAME, 15296, data, 16320, 0, 1, 0, 0, 15296,
-    )
+fn payload<W: Write>(writer: &mut W, data: Data) -> io::Result<()> {
+    let mut values = [0u16; Frame::PAYLOAD_BYTES];
+    data.fill(&mut values);
+    write!(writer, "payload, {data}:")?;
+    buffer(writer, &values)?;
+    SentData::frame(Code::Frame, data).sent_and_read(writer)
 }
 
 pub(crate) fn payloads<W: Write>(writer: &mut W) -> io::Result<()> {
-    payload(writer, 0)?;
-    payload(writer, 255)?;
-    payload(writer, COUNTED)?;
-    payload(writer, BIT)?;
-    payload(writer, BIT + 7649)?;
-    payload(writer, BIT + 7650)?;
-    payload(writer, BIT + 114749)?;
-    payload(writer, BIT + 114750)?;
-    payload(writer, BIT + 122367)
+    for data in [
+        Data::Each(0),
+        Data::Each(255),
+        Data::Counted,
+        Data::Bit(0),
+        Data::Bit(7649),
+        Data::Bit(7650),
+        Data::Bit(114749),
+        Data::Bit(114750),
+        Data::Bit(122367),
+    ] {
+        payload(writer, data)?;
+    }
+    Ok(())
 }
 
-// A block that is refused by the check is not extracted either.
+// A block of n bytes that is refused by the check is not extracted either.
 pub(crate) fn block<W: Write>(
     writer: &mut W,
-    code: usize,
+    code: Code,
     n: usize,
-    data: usize,
+    data: Data,
     space: usize,
 ) -> io::Result<()> {
-    lent(writer, CHECK, code, n, data, 0)?;
-    lent(writer, EXTRACT, code, n, data, space)
+    lent(writer, Operation::Check, code, n, data, 0)?;
+    lent(writer, Operation::Extract, code, n, data, space)
 }
 
 // Both kinds of frames have the same lengths, and what is refused here is refused of both.
-pub(crate) fn refusals<W: Write>(writer: &mut W, code: usize) -> io::Result<()> {
-    lent(writer, ENCODE, code, 0, 0, 16319)?;
-    lent(writer, ENCODE, code, 15295, 0, 16319)?;
-    lent(writer, ENCODE, code, 15297, 0, 16319)?;
-    lent(writer, ENCODE, code, 15296, 0, 0)?;
-    lent(writer, ENCODE, code, 15296, 0, 16319)?;
-    lent(writer, ENCODE, code, 15296, 0, 16321)?;
-    block(writer, code, 0, 0, 15295)?;
-    block(writer, code, 16319, 0, 15295)?;
-    block(writer, code, 16321, 0, 15295)?;
-    block(writer, code, 16320, BIT, 15296)?;
-    block(writer, code, 16320, BIT + 64, 15296)?;
-    block(writer, code, 16320, BIT + 124767, 15296)?;
-    block(writer, code, 16320, BIT + 124768, 15296)?;
-    block(writer, code, 16320, BIT + 124927, 15296)?;
-    block(writer, code, 16320, BIT + 124928, 15296)?;
-    block(writer, code, 16320, BIT + 130559, 15296)?;
-    lent(writer, EXTRACT, code, 16320, 255, 0)?;
-    lent(writer, EXTRACT, code, 16320, 255, 15295)?;
-    lent(writer, EXTRACT, code, 16320, 255, 15297)?;
-    lent(writer, CORRECT, code, 0, 0, 0)?;
-    lent(writer, CORRECT, code, 16319, 0, 16319)?;
-    lent(writer, CORRECT, code, 16321, 0, 16320)?;
-    lent(writer, CORRECT, code, 16320, 0, 0)?;
-    lent(writer, CORRECT, code, 16320, 0, 16319)?;
-    lent(writer, CORRECT, code, 16320, 0, 16321)?;
-    lent(writer, CORRECT, code, 16320, 255, 16321)?;
-    lent(writer, CORRECT, code, 16320, 255, 16320)
-}
-
-fn correct<W: Write>(
-    writer: &mut W,
-    data: usize,
-    count: usize,
-    first: usize,
-    step: u16,
-) -> io::Result<()> {
-    received(
-        writer, CORRECT, FRAME, 15296, data, 16320, count, 1, first, step, 16320,
-    )
+pub(crate) fn refusals<W: Write>(writer: &mut W, code: Code) -> io::Result<()> {
+    for (n, space) in [
+        (0, 16319),
+        (15295, 16319),
+        (15297, 16319),
+        (15296, 0),
+        (15296, 16319),
+        (15296, 16321),
+    ] {
+        lent(writer, Operation::Encode, code, n, Data::Each(0), space)?;
+    }
+    for n in [0, 16319, 16321] {
+        block(writer, code, n, Data::Each(0), 15295)?;
+    }
+    for place in [0, 64, 124767, 124768, 124927, 124928, 130559] {
+        block(writer, code, 16320, Data::Bit(place), 15296)?;
+    }
+    for space in [0, 15295, 15297] {
+        lent(
+            writer,
+            Operation::Extract,
+            code,
+            16320,
+            Data::Each(255),
+            space,
+        )?;
+    }
+    for (n, value, space) in [
+        (0, 0, 0),
+        (16319, 0, 16319),
+        (16321, 0, 16320),
+        (16320, 0, 0),
+        (16320, 0, 16319),
+        (16320, 0, 16321),
+        (16320, 255, 16321),
+        (16320, 255, 16320),
+    ] {
+        lent(
+            writer,
+            Operation::Correct,
+            code,
+            n,
+            Data::Each(value),
+            space,
+        )?;
+    }
+    Ok(())
 }
 
 // Bits 0 to 512 are nine of inner word 0 and eight of each other one. Those eight are corrected. Inner word 0 has no code word within eight and is left; its
@@ -103,23 +104,34 @@ fn correct<W: Write>(
 // parity place of inner word 0. From 124,672 on 512 bits are four data places and four parity places of each inner word; from 124,928 on 5,632 are all parity
 // bits.
 pub(crate) fn corrections<W: Write>(writer: &mut W) -> io::Result<()> {
-    correct(writer, 0, 0, 0, 1)?;
-    correct(writer, 0, 1, 0, 1)?;
-    correct(writer, 0, 1, 130559, 1)?;
-    correct(writer, 0, 8, 0, 64)?;
-    correct(writer, 0, 512, 0, 1)?;
-    correct(writer, 0, 513, 0, 1)?;
-    correct(writer, 0, 9, 0, 12800)?;
-    correct(writer, 0, 130560, 0, 1)?;
-    correct(writer, 0, 1, 124927, 1)?;
-    correct(writer, 0, 1, 124928, 1)?;
-    correct(writer, COUNTED, 0, 0, 1)?;
-    correct(writer, COUNTED, 512, 5, 255)?;
-    correct(writer, COUNTED, 576, 5, 191)?;
-    correct(writer, COUNTED, 9, 129984, 64)?;
-    correct(writer, COUNTED, 124, 3, 1008)?;
-    correct(writer, COUNTED, 128, 3, 976)?;
-    correct(writer, COUNTED, 129, 3, 1008)?;
-    correct(writer, COUNTED, 512, 124672, 1)?;
-    correct(writer, COUNTED, 5632, 124928, 1)
+    for (data, count, first, step) in [
+        (Data::Each(0), 0, 0, 1),
+        (Data::Each(0), 1, 0, 1),
+        (Data::Each(0), 1, 130559, 1),
+        (Data::Each(0), 8, 0, 64),
+        (Data::Each(0), 512, 0, 1),
+        (Data::Each(0), 513, 0, 1),
+        (Data::Each(0), 9, 0, 12800),
+        (Data::Each(0), 130560, 0, 1),
+        (Data::Each(0), 1, 124927, 1),
+        (Data::Each(0), 1, 124928, 1),
+        (Data::Counted, 0, 0, 1),
+        (Data::Counted, 512, 5, 255),
+        (Data::Counted, 576, 5, 191),
+        (Data::Counted, 9, 129984, 64),
+        (Data::Counted, 124, 3, 1008),
+        (Data::Counted, 128, 3, 976),
+        (Data::Counted, 129, 3, 1008),
+        (Data::Counted, 512, 124672, 1),
+        (Data::Counted, 5632, 124928, 1),
+    ] {
+        let errors = AddedErrors {
+            count,
+            value: 1,
+            first,
+            step,
+        };
+        SentData::frame(Code::Frame, data).corrected(writer, errors)?;
+    }
+    Ok(())
 }

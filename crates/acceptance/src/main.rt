@@ -23,12 +23,12 @@ fn main(rt: HostRuntime) -> io::Result<()> {
     word_rows::inner(&mut writer)?;
     word_rows::corrections(&mut writer)?;
     frame_rows::payloads(&mut writer)?;
-    frame_rows::refusals(&mut writer, calls::FRAME)?;
+    frame_rows::refusals(&mut writer, calls::Code::Frame)?;
     frame_rows::corrections(&mut writer)?;
     logging_rows::counters(&mut writer)?;
     logging_rows::worst_lists(&mut writer)?;
     g709_rows::payloads(&mut writer)?;
-    frame_rows::refusals(&mut writer, calls::G709)?;
+    frame_rows::refusals(&mut writer, calls::Code::G709)?;
     g709_rows::refusals(&mut writer)?;
     g709_rows::row_corrections(&mut writer)?;
     g709_rows::frame_corrections(&mut writer)

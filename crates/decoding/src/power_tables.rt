@@ -1,17 +1,18 @@
 // The search for roots by tables of powers, for a caller with many words to decode, who lends the tables from word to word: table d has the powers of 1 / a^d one after
 // the other, so that the values of a term at neighbouring places are neighbours there, and the values of a polynomial at 40 places are eight runs of entries added.
-ghost use Rattle.std.specs.Prelude.{◌≡◌, cond, List, ℕ, ◌+◌, ◌-◌, ◌*◌, ◌%◌, ◌≤◌, ◌<◌, eqb, length};
+ghost use Rattle.std.specs.Prelude.{◌≡◌, false, List, ℕ, ◌+◌, ◌-◌, ◌*◌, ◌%◌, ◌≤◌, ◌<◌, length};
 ghost use Rattle.fields.specs.Lists.{tabulate};
 ghost use Rattle.fields.specs.Elements.{powers_b};
 ghost use Rattle.fields.specs.Places.{at};
 ghost use Rattle.decoding.specs.Steps.Decoder.{Tables};
-ghost use Rattle.decoding.specs.Steps.RootSearch.{Roots, kept};
-ghost use Rattle.decoding.specs.Steps.PowerTables.{PowerTables, TableFilled, near, far, block_sum, stored, with_sums, reciprocals, table_base, table_start, table_bases, table_starts, table_position, Inside, four_at, eight_at, tables_sum, kept_to, TablesFor};
+ghost use Rattle.decoding.specs.Steps.RootSearch.{Roots};
+ghost use Rattle.decoding.specs.Steps.PowerTables.{PowerTables, TableFilled, block_sum, with_sums, table_base, table_start, table_bases, table_starts, bases_of, starts_of, Inside, four_at, AllInside, sum_from, tables_sum, kept_to, TablesFor};
 
 use crate::annihilator::leading_zeros;
-use crate::exponents::{less, plus};
+use crate::exponents::{exponent, less, plus};
 use crate::root_search::{Places, keep, roots};
 use crate::{COEFFICIENTS, RADIUS, symbols};
+use fields::BinaryField;
 
 // The order of a in the field that the tables of powers serve, the largest number of eleven bits; and the number of places that are tested at once.
 const EXPONENT_BITS: usize = 11;
@@ -35,11 +36,7 @@ pub fn empty_tables(tables: &mut [u16])
     requires { length tables.old ≡ 18784 }
     ensures { (es : List ℕ) → PowerTables es tables.new }
 {
-    let mut m: usize = 0;
-    while m < TABLE_ENTRIES {
-        tables[m] = 0;
-        m += 1;
-    }
+    tables[..TABLE_ENTRIES].fill(0);
     tables[ENTRIES - 1] = 0;
 }
 
@@ -52,30 +49,15 @@ const FAR: [usize; COEFFICIENTS] = [147, 147, 147, 98, 147, 136, 98, 152, 147];
 // So many entries are read from the field's table of powers; the others are whole blocks.
 const STARTED: usize = 167;
 
-fn near(d: usize) -> usize
-    requires { d < 9 }
-    ensures { (result ≡ at near d) × (result ≤ 167) }
-{
-    NEAR[d]
-}
-
-fn far(d: usize) -> usize
-    requires { d < 9 }
-    ensures { (result ≡ at far d) × (result ≤ 167) }
-{
-    FAR[d]
-}
-
-fn start_table(exp: &[u16], tables: &mut [u16], d: usize)
-    requires { (length exp.now ≡ 2047) × (length tables.old ≡ 18784) × (d ≤ 8) }
-    ensures { TableFilled exp.now tables.old d 167 tables.new }
+// The entries of table d that are read from the field's table of powers.
+fn start_table(field: BinaryField, tables: &mut [u16], d: usize)
+    requires { (length field.exp.now ≡ 2047) × (length tables.old ≡ 18784) × (d ≤ 8) }
+    ensures { TableFilled field.entry.exp.now tables.old d 167 tables.new }
 {
     let mut k: usize = 0;
-    let mut m: usize = 0;
-    while m < STARTED {
-        tables[TABLE_ENTRIES * d + m] = exp[k];
+    for m in 0..STARTED {
+        tables[TABLE_ENTRIES * d + m] = field.exp[k];
         k = less(ORDER, k, d);
-        m += 1;
     }
 }
 
@@ -84,23 +66,10 @@ fn block_sums(tables: &[u16], a: usize, b: usize) -> [u16; BLOCK]
     ensures { result ≡ tabulate 40 (block_sum tables.now a b) }
 {
     let mut sums = [0u16; BLOCK];
-    let mut l: usize = 0;
-    while l < BLOCK {
+    for l in 0..BLOCK {
         sums[l] = symbols::sum(tables[a + l], tables[b + l]);
-        l += 1;
     }
     sums
-}
-
-fn store_block(tables: &mut [u16], s: usize, block: [u16; BLOCK])
-    requires { s + 40 ≤ length tables.old }
-    ensures { tables.new ≡ stored tables.old s block 40 }
-{
-    let mut l: usize = 0;
-    while l < BLOCK {
-        tables[s + l] = block[l];
-        l += 1;
-    }
 }
 
 // The sums are taken first and stored then: in one loop they would be taken one by one, since each might change the next.
@@ -109,7 +78,7 @@ fn add_block(tables: &mut [u16], s: usize, p: usize, q: usize)
     ensures { tables.new ≡ with_sums tables.old s p q }
 {
     let sums = block_sums(tables, s - p, s - q);
-    store_block(tables, s, sums);
+    tables[s..s + BLOCK].copy_from_slice(&sums);
 }
 
 // The other entries of table d.
@@ -117,57 +86,33 @@ fn finish_table(tables: &mut [u16], d: usize)
     requires { (length tables.old ≡ 18784) × (0 < d) × (d ≤ 8) × TableFilled powers_b tables.old d 167 tables.old }
     ensures { TableFilled powers_b tables.old d 2087 tables.new }
 {
-    let p = near(d);
-    let q = far(d);
-    let mut m = STARTED;
-    while m < TABLE_ENTRIES {
-        add_block(tables, TABLE_ENTRIES * d + m, p, q);
-        m += BLOCK;
+    let p = NEAR[d];
+    let q = FAR[d];
+    for k in 0..(TABLE_ENTRIES - STARTED) / BLOCK {
+        add_block(tables, TABLE_ENTRIES * d + STARTED + BLOCK * k, p, q);
     }
 }
 
 // Fills table d, the first that is missing.
-fn fill_table(exp: &[u16], tables: &mut [u16], d: usize)
-    requires exp_value { exp.now ≡ powers_b }
-    requires power_tables { PowerTables exp.now tables.old × (d ≤ 8) × (d ≡ at tables.old 18783 + 1) }
-    ensures { PowerTables exp.now tables.new × (at tables.new 18783 ≡ d) }
+fn fill_table(field: BinaryField, tables: &mut [u16], d: usize)
+    requires exp_value { field.exp.now ≡ powers_b }
+    requires power_tables { PowerTables field.exp.now tables.old × (d ≤ 8) × (d ≡ at tables.old 18783 + 1) }
+    ensures { PowerTables field.entry.exp.now tables.new × (at tables.new 18783 ≡ d) }
 {
-    start_table(exp, tables, d);
+    start_table(field, tables, d);
     finish_table(tables, d);
     tables[ENTRIES - 1] = d as u16;
 }
 
 // Fills the tables up to that of the degree that are missing.
-fn need_tables(exp: &[u16], tables: &mut [u16], degree: usize)
-    requires exp_value { exp.now ≡ powers_b }
-    requires power_tables { PowerTables exp.now tables.old × (degree ≤ 8) }
-    ensures { PowerTables exp.now tables.new × (degree ≤ at tables.new 18783) }
+fn need_tables(field: BinaryField, tables: &mut [u16], degree: usize)
+    requires exp_value { field.exp.now ≡ powers_b }
+    requires power_tables { PowerTables field.exp.now tables.old × (degree ≤ 8) }
+    ensures { PowerTables field.entry.exp.now tables.new × (degree ≤ at tables.new 18783) }
 {
-    let mut d = tables[ENTRIES - 1] as usize;
-    while d < degree {
-        d += 1;
-        fill_table(exp, tables, d);
+    for d in usize::from(tables[ENTRIES - 1])..degree {
+        fill_table(field, tables, d + 1);
     }
-}
-
-fn reciprocal(d: usize) -> usize
-    requires { d < 9 }
-    ensures { (result ≡ at reciprocals d) × (result < 2047) }
-{
-    RECIPROCALS[d]
-}
-
-fn complement(e: usize) -> usize
-    ensures { (result ≡ 2047 - e) × (result ≤ 2047) }
-{
-    if e < ORDER { ORDER - e } else { 0 }
-}
-
-fn multiplied(e: usize, r: usize) -> usize
-    requires { (e ≤ 2047) × (r < 2047) }
-    ensures { (result ≡ e * r) × (result ≤ 4190209) }
-{
-    e * r
 }
 
 // x modulo the order: 2^11 is one more than the order, so that what stands above eleven bits is added to what stands below; the sum is below twice the order.
@@ -185,47 +130,46 @@ fn table_base(c: u16, d: usize) -> usize
     if c == 0 { 0 } else { TABLE_ENTRIES * d }
 }
 
-fn table_start(log: &[u16], c: u16, d: usize, n: usize) -> usize
+fn table_start(field: BinaryField, c: u16, d: usize, n: usize) -> usize
     requires { (d < 9) × (n ≤ 2047) }
-    ensures { result ≡ table_start log.now c d n }
+    ensures { result ≡ table_start field.entry.log.now c d n }
 {
     if c == 0 {
         return 0;
     }
-    let e = complement(symbols::symbol(log, c as usize) as usize);
-    folded(multiplied(e, reciprocal(d)) + (ORDER + 1 - n))
+    let e = ORDER.saturating_sub(exponent(field, c));
+    folded(e * RECIPROCALS[d] + (ORDER + 1 - n))
 }
 
-// For the terms of degree 1, 2, .. 8 of a polynomial: the first entry of its table, and which entry from there on is its value at place 0.
+// A term of a polynomial: the first entry of its table, and which entry from there on is its value at place 0.
 #[derive(Clone, Copy)]
-struct TermTables {
-    bases: [usize; RADIUS],
-    starts: [usize; RADIUS],
+struct TermTable {
+    base: usize,
+    start: usize,
 }
 
-fn tables_of(log: &[u16], polynomial: [u16; COEFFICIENTS], n: usize) -> TermTables
+// The terms of degree 1, 2, .. 8.
+fn tables_of(field: BinaryField, polynomial: [u16; COEFFICIENTS], n: usize) -> [TermTable; RADIUS]
     requires { n ≤ 2047 }
-    ensures { (result.bases ≡ table_bases polynomial) × (result.starts ≡ table_starts log.now polynomial n) }
+    ensures { (bases_of result ≡ table_bases polynomial) × (starts_of result ≡ table_starts field.entry.log.now polynomial n) }
 {
-    let mut bases = [0usize; RADIUS];
-    let mut starts = [0usize; RADIUS];
-    let mut d: usize = 0;
-    while d < RADIUS {
+    let mut terms = [TermTable { base: 0, start: 0 }; RADIUS];
+    for d in 0..RADIUS {
         let c = polynomial[RADIUS - 1 - d];
-        bases[d] = table_base(c, d + 1);
-        starts[d] = table_start(log, c, d + 1, n);
-        d += 1;
+        terms[d] = TermTable {
+            base: table_base(c, d + 1),
+            start: table_start(field, c, d + 1, n),
+        };
     }
-    TermTables { bases, starts }
+    terms
 }
 
-// Where the values of term d from place i on stand.
-fn position(s: TermTables, i: usize, d: usize) -> usize
-    requires d_bound { (d < 8) × (i < 2047) }
-    requires by_index { ((k : ℕ) → at s.bases k ≤ 16696) × ((k : ℕ) → at s.starts k < 2047) }
-    ensures { (result ≡ table_position s.bases s.starts i d) × (result + 40 ≤ 18784) }
+// Where the values of a term from place i on stand.
+fn position(term: TermTable, i: usize) -> usize
+    requires { (i < 2047) × (term.base ≤ 16696) × (term.start < 2047) }
+    ensures { (result ≡ term.base + (term.start + i) % 2047) × (result + 40 ≤ 18784) }
 {
-    s.bases[d] + plus(ORDER, s.starts[d], i)
+    term.base + plus(ORDER, term.start, i)
 }
 
 fn four(tables: &[u16], a: usize, b: usize, c: usize, d: usize, l: usize) -> u16
@@ -238,159 +182,93 @@ fn four(tables: &[u16], a: usize, b: usize, c: usize, d: usize, l: usize) -> u16
     )
 }
 
-fn eight(
-    tables: &[u16],
-    a: usize,
-    b: usize,
-    c: usize,
-    d: usize,
-    e: usize,
-    f: usize,
-    g: usize,
-    h: usize,
-    l: usize,
-) -> u16
-    requires { Inside tables.now a b c d × Inside tables.now e f g h × (l < 40) }
-    ensures { result ≡ eight_at tables.now a b c d e f g h l }
+// The sum of the entries l after eight positions.
+fn eight(tables: &[u16], p: [usize; RADIUS], l: usize) -> u16
+    requires { AllInside tables.now p × (l < 40) }
+    ensures { result ≡ sum_from tables.now p l }
 {
-    symbols::sum(four(tables, a, b, c, d, l), four(tables, e, f, g, h, l))
+    symbols::sum(
+        four(tables, p[0], p[1], p[2], p[3], l),
+        four(tables, p[4], p[5], p[6], p[7], l),
+    )
 }
 
-// 1, if v is x; else z.
-fn noted(z: u16, v: u16, x: u16) -> u16
-    ensures { result ≡ 0 → (z ≡ 0) × (v ≡ x → ⊥) }
+// Whether one of the 40 sums from the positions on is x. No branch: the places are read many at a time.
+fn any(tables: &[u16], p: [usize; RADIUS], x: u16) -> bool
+    requires { AllInside tables.now p }
+    ensures { result ≡ false → (l : ℕ) → l < 40 → sum_from tables.now p l ≡ x → ⊥ }
 {
-    if v == x { 1 } else { z }
-}
-
-// 0, if none of the 40 sums from the positions on is x. No branch: the places are read many at a time.
-fn any(
-    tables: &[u16],
-    a: usize,
-    b: usize,
-    c: usize,
-    d: usize,
-    e: usize,
-    f: usize,
-    g: usize,
-    h: usize,
-    x: u16,
-) -> u16
-    requires { Inside tables.now a b c d × Inside tables.now e f g h }
-    ensures { result ≡ 0 → (l : ℕ) → l < 40 → eight_at tables.now a b c d e f g h l ≡ x → ⊥ }
-{
-    let mut z: u16 = 0;
-    let mut l: usize = 0;
-    while l < BLOCK {
-        z = noted(z, eight(tables, a, b, c, d, e, f, g, h, l), x);
-        l += 1;
+    let mut found = false;
+    for l in 0..BLOCK {
+        found |= eight(tables, p, l) == x;
     }
-    z
-}
-
-fn keep_if(p: Places, v: u16, x: u16, i: usize) -> Places
-    requires { (p.count ≤ 8) × (i < 65536) }
-    ensures { (result ≡ cond (eqb v x) (kept i p) p) × (result.count ≤ 8) }
-{
-    if v == x {
-        return keep(p, i as u16);
-    }
-    p
+    found
 }
 
 // The places of the 40 from i on where the sum is x are kept.
-fn kept_of(
-    tables: &[u16],
-    a: usize,
-    b: usize,
-    c: usize,
-    d: usize,
-    e: usize,
-    f: usize,
-    g: usize,
-    h: usize,
-    x: u16,
-    places: Places,
-    i: usize,
-) -> Places
-    requires inside { Inside tables.now a b c d × Inside tables.now e f g h }
+fn kept_of(tables: &[u16], p: [usize; RADIUS], x: u16, places: Places, i: usize) -> Places
+    requires inside { AllInside tables.now p }
     requires count_bound { (places.count ≤ 8) × (i < 2047) }
-    ensures { result ≡ kept_to (eight_at tables.now a b c d e f g h) x i places 40 }
+    ensures { result ≡ kept_to (sum_from tables.now p) x i places 40 }
 {
-    let mut p = places;
-    let mut l: usize = 0;
-    while l < BLOCK {
-        p = keep_if(p, eight(tables, a, b, c, d, e, f, g, h, l), x, i + l);
-        l += 1;
+    let mut kept = places;
+    for l in 0..BLOCK {
+        if eight(tables, p, l) == x {
+            kept = keep(kept, (i + l) as u16);
+        }
     }
-    p
+    kept
 }
 
 // The places of the 40 from i on where the sum of a polynomial's terms is x are kept; few blocks have such a place.
-fn block(tables: &[u16], s: TermTables, x: u16, places: Places, i: usize) -> Places
+fn block(tables: &[u16], terms: &[TermTable; RADIUS], x: u16, places: Places, i: usize) -> Places
     requires tables_len { (length tables.now ≡ 18784) × (places.count ≤ 8) × (i < 2047) }
-    requires by_index { ((k : ℕ) → at s.bases k ≤ 16696) × ((k : ℕ) → at s.starts k < 2047) }
-    ensures { result ≡ kept_to (tables_sum tables.now s.bases s.starts i) x i places 40 }
+    requires by_index { ((k : ℕ) → at (bases_of terms.now) k ≤ 16696) × ((k : ℕ) → at (starts_of terms.now) k < 2047) }
+    ensures { result ≡ kept_to (tables_sum tables.now (bases_of terms.now) (starts_of terms.now) i) x i places 40 }
 {
-    let a = position(s, i, 0);
-    let b = position(s, i, 1);
-    let c = position(s, i, 2);
-    let d = position(s, i, 3);
-    let e = position(s, i, 4);
-    let f = position(s, i, 5);
-    let g = position(s, i, 6);
-    let h = position(s, i, 7);
-    if any(tables, a, b, c, d, e, f, g, h, x) == 0 {
-        return places;
+    let mut p = [0usize; RADIUS];
+    for d in 0..RADIUS {
+        p[d] = position(terms[d], i);
     }
-    kept_of(tables, a, b, c, d, e, f, g, h, x, places, i)
+    if any(tables, p, x) {
+        return kept_of(tables, p, x, places, i);
+    }
+    places
 }
 
 // The places whose locators are roots of a polynomial, as `roots` gives them, block by block.
-fn scanned(
-    exp: &[u16],
-    log: &[u16],
-    tables: &[u16],
-    polynomial: [u16; COEFFICIENTS],
-    n: usize,
-) -> Places
-    requires tables { Tables exp.now log.now }
-    requires tables_for { TablesFor exp.now log.now polynomial n tables.now }
-    ensures { Roots exp.now log.now polynomial n n result.at result.count }
+fn scanned(field: BinaryField, tables: &[u16], polynomial: [u16; COEFFICIENTS], n: usize) -> Places
+    requires tables { Tables field.exp.now field.log.now }
+    requires tables_for { TablesFor field.exp.now field.log.now polynomial n tables.now }
+    ensures { Roots field.entry.exp.now field.entry.log.now polynomial n n result.at result.count }
 {
-    let s = tables_of(log, polynomial, n);
+    let terms = tables_of(field, polynomial, n);
     let x = polynomial[COEFFICIENTS - 1];
-    let mut p = Places {
-        at: [0u16; RADIUS],
-        count: 0,
-    };
-    let mut i: usize = 0;
-    while i < n {
-        p = block(tables, s, x, p, i);
-        i += BLOCK;
+    let mut p = Places::NONE;
+    for k in 0..n / BLOCK {
+        p = block(tables, &terms, x, p, BLOCK * k);
     }
     p
 }
 
 // The places whose locators are roots of a polynomial, as `roots` gives them. A polynomial of degree at most 1 needs no tables.
 pub(crate) fn roots_by_tables(
-    exp: &[u16],
-    log: &[u16],
+    field: BinaryField,
     tables: &mut [u16],
     polynomial: [u16; COEFFICIENTS],
     n: usize,
 ) -> Places
-    requires tables { Tables exp.now log.now }
-    requires n_in_bounds { (n ≤ length exp.now) × (n < 65536) × (n % 40 ≡ 0) × (length exp.now ≡ 2047) }
-    requires by_index { (k : ℕ) → at polynomial k < length log.now }
-    requires exp_value { (exp.now ≡ powers_b) × PowerTables exp.now tables.old }
-    ensures roots { Roots exp.now log.now polynomial n n result.at result.count }
-    ensures power_tables { PowerTables exp.now tables.new }
+    requires tables { Tables field.exp.now field.log.now }
+    requires n_in_bounds { (n ≤ length field.exp.now) × (n < 65536) × (n % 40 ≡ 0) × (length field.exp.now ≡ 2047) }
+    requires by_index { (k : ℕ) → at polynomial k < length field.log.now }
+    requires exp_value { (field.exp.now ≡ powers_b) × PowerTables field.exp.now tables.old }
+    ensures roots { Roots field.entry.exp.now field.entry.log.now polynomial n n result.at result.count }
+    ensures power_tables { PowerTables field.entry.exp.now tables.new }
 {
-    let z = leading_zeros(polynomial);
+    let z = leading_zeros(&polynomial);
     if COEFFICIENTS - 2 <= z {
-        return roots(exp, log, polynomial, n);
+        return roots(field, polynomial, n);
     }
-    need_tables(exp, tables, RADIUS - z);
-    scanned(exp, log, tables, polynomial, n)
+    need_tables(field, tables, RADIUS - z);
+    scanned(field, tables, polynomial, n)
 }

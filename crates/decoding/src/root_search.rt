@@ -1,163 +1,159 @@
 // The places of a word, never of the omitted front, whose locators are roots of a polynomial: from place to place each term is divided by a power of a, which lowers
 // its exponent, and a root that is found is divided out; the last by the table of exponents.
-ghost use Rattle.std.specs.Prelude.{◌≡◌, ℕ, ◌≤◌, ◌<◌, length};
+ghost use Rattle.std.specs.Prelude.{◌≡◌, ℕ, ◌≤◌, ◌<◌, length, MatchOption};
 ghost use Rattle.fields.specs.Places.{at};
 ghost use Rattle.decoding.specs.Steps.Decoder.{Tables};
-ghost use Rattle.decoding.specs.Steps.RootSearch.{Roots, with_term, terms_to, Exponents, powers_to, lowered, FirstRoot, quotient_of, kept};
+ghost use Rattle.decoding.specs.Steps.RootSearch.{Roots, with_term, terms_to, exponents_of, steps_of, Exponents, powers_to, lowered, FirstRoot, quotient_of, kept};
 
 use crate::annihilator::leading_zeros;
-use crate::exponents::less;
+use crate::exponents::{exponent, less};
 use crate::{COEFFICIENTS, RADIUS, locator, symbols};
+use fields::BinaryField;
 
-// The terms of a polynomial at a locator, but for those that are zero. The first `count` of `exponents` are their exponents; the first `count` of `steps`
-// say by how much these fall from one place to the next.
+// A term of a polynomial at a locator: its exponent, and by how much that falls from one place to the next.
+#[derive(Clone, Copy)]
+struct Term {
+    exponent: usize,
+    step: usize,
+}
+
+// The terms of a polynomial at a locator, but for those that are zero: the first `count`.
 #[derive(Clone, Copy)]
 struct Terms {
-    exponents: [usize; COEFFICIENTS],
-    steps: [usize; COEFFICIENTS],
+    terms: [Term; COEFFICIENTS],
     count: usize,
 }
 
 // The terms with one more, if its value is not zero. From one place to the next it is divided by that power of a.
-fn with_term(log: &[u16], t: Terms, value: u16, power: u16) -> Terms
+fn with_term(field: BinaryField, t: Terms, value: u16, power: u16) -> Terms
     requires { t.count < 9 }
-    ensures { result ≡ with_term log.now value power t }
+    ensures { result ≡ with_term field.entry.log.now value power t }
 {
     if value == 0 {
         return t;
     }
     let count = t.count;
-    let mut exponents = t.exponents;
-    let mut steps = t.steps;
-    exponents[count] = symbols::symbol(log, value as usize) as usize;
-    steps[count] = symbols::symbol(log, power as usize) as usize;
+    let mut terms = t.terms;
+    terms[count] = Term {
+        exponent: exponent(field, value),
+        step: exponent(field, power),
+    };
     Terms {
-        exponents,
-        steps,
+        terms,
         count: count + 1,
     }
 }
 
 // The terms at the locator x.
-fn terms_at(exp: &[u16], log: &[u16], polynomial: [u16; COEFFICIENTS], x: u16) -> Terms
-    ensures { result ≡ terms_to exp.now log.now polynomial x 9 }
+fn terms_at(field: BinaryField, polynomial: &[u16; COEFFICIENTS], x: u16) -> Terms
+    ensures { result ≡ terms_to field.entry.exp.now field.entry.log.now polynomial.now x 9 }
 {
     let mut t = Terms {
-        exponents: [0usize; COEFFICIENTS],
-        steps: [0usize; COEFFICIENTS],
+        terms: [Term {
+            exponent: 0,
+            step: 0,
+        }; COEFFICIENTS],
         count: 0,
     };
     let mut power: u16 = 1;
-    let mut d: usize = 0;
-    while d < COEFFICIENTS {
-        let value = fields::product(exp, log, power, polynomial[RADIUS - d]);
-        t = with_term(log, t, value, fields::power(exp, d as u16));
-        power = fields::product(exp, log, x, power);
-        d += 1;
+    for d in 0..COEFFICIENTS {
+        let value = field.product(power, polynomial[RADIUS - d]);
+        t = with_term(field, t, value, field.power(d as u16));
+        power = field.product(x, power);
     }
     t
 }
 
-// The sum of the terms, which are moved on to the next place.
-fn next_value(exp: &[u16], exponents: &mut [usize], steps: &[usize], count: usize) -> u16
-    requires exponents { Exponents exp.now count exponents.old }
-    requires exponents_2 { Exponents exp.now count steps.now }
-    ensures value { result ≡ powers_to exp.now exponents.old count }
-    ensures exponents_after { exponents.new ≡ lowered (length exp.now) exponents.old steps.now count }
+// The sum of the first `count` terms, which are moved on to the next place.
+fn next_value(field: BinaryField, terms: &mut [Term; COEFFICIENTS], count: usize) -> u16
+    requires exponents { Exponents field.exp.now count (exponents_of terms.old) }
+    requires steps { Exponents field.exp.now count (steps_of terms.old) }
+    ensures value { result ≡ powers_to field.entry.exp.now (exponents_of terms.old) count }
+    ensures exponents_after { exponents_of terms.new ≡ lowered (length field.entry.exp.now) (exponents_of terms.old) (steps_of terms.old) count }
+    ensures steps_after { steps_of terms.new ≡ steps_of terms.old }
 {
     let mut v: u16 = 0;
-    let mut l: usize = 0;
-    while l < count {
-        let e = exponents[l];
-        v = symbols::sum(v, exp[e]);
-        exponents[l] = less(exp.len(), e, steps[l]);
-        l += 1;
+    for l in 0..count {
+        let term = terms[l];
+        v = symbols::sum(v, field.exp[term.exponent]);
+        terms[l] = Term {
+            exponent: less(field.exp.len(), term.exponent, term.step),
+            step: term.step,
+        };
     }
     v
 }
 
-// The first place from i on whose locator is a root of c x + d, or n: the exponent of the root d / c tells its place.
+// The first place from i on whose locator is a root of c x + d, if there is one: the exponent of the root d / c tells its place.
 fn linear_root(
-    exp: &[u16],
-    log: &[u16],
-    polynomial: [u16; COEFFICIENTS],
+    field: BinaryField,
+    polynomial: &[u16; COEFFICIENTS],
     n: usize,
     i: usize,
-) -> usize
-    requires tables { Tables exp.now log.now }
-    requires n_in_bounds { (n ≤ length exp.now) × (n < 65536) × (i ≤ n) }
-    requires by_index { ((k : ℕ) → at polynomial k < length log.now) × ((k : ℕ) → k < 7 → at polynomial k ≡ 0) }
-    ensures { FirstRoot exp.now log.now polynomial n i result }
+) -> Option<usize>
+    requires tables { Tables field.exp.now field.log.now }
+    requires n_in_bounds { (n ≤ length field.exp.now) × (n < 65536) × (i ≤ n) }
+    requires by_index { ((k : ℕ) → at polynomial.now k < length field.log.now) × ((k : ℕ) → k < 7 → at polynomial.now k ≡ 0) }
+    ensures { MatchOption result (FirstRoot field.entry.exp.now field.entry.log.now polynomial.now n i n) (λ r. (r < n) × FirstRoot field.entry.exp.now field.entry.log.now polynomial.now n i r) }
 {
-    let c = polynomial[COEFFICIENTS - 2] as usize;
-    let d = polynomial[COEFFICIENTS - 1] as usize;
+    let c = polynomial[COEFFICIENTS - 2];
+    let d = polynomial[COEFFICIENTS - 1];
     if c == 0 {
         if d == 0 {
-            return i;
+            return if i < n { Some(i) } else { None };
         }
-        return n;
+        return None;
     }
     if d == 0 {
-        return n;
+        return None;
     }
-    let e = less(
-        exp.len(),
-        symbols::symbol(log, d) as usize,
-        symbols::symbol(log, c) as usize,
-    );
+    let e = less(field.exp.len(), exponent(field, d), exponent(field, c));
     if n <= e {
-        return n;
+        return None;
     }
     let r = n - 1 - e;
-    if r < i { n } else { r }
+    if r < i { None } else { Some(r) }
 }
 
-// The first place from i on whose locator is a root, or n. A single term has none.
-fn next_root(exp: &[u16], log: &[u16], polynomial: [u16; COEFFICIENTS], n: usize, i: usize) -> usize
-    requires tables { Tables exp.now log.now }
-    requires n_in_bounds { (n ≤ length exp.now) × (n < 65536) × (i ≤ n) }
-    requires by_index { (k : ℕ) → at polynomial k < length log.now }
-    ensures { FirstRoot exp.now log.now polynomial n i result }
+// The first place from i on whose locator is a root, if there is one. A single term has none.
+fn next_root(
+    field: BinaryField,
+    polynomial: &[u16; COEFFICIENTS],
+    n: usize,
+    i: usize,
+) -> Option<usize>
+    requires tables { Tables field.exp.now field.log.now }
+    requires n_in_bounds { (n ≤ length field.exp.now) × (n < 65536) × (i ≤ n) }
+    requires by_index { (k : ℕ) → at polynomial.now k < length field.log.now }
+    ensures { MatchOption result (FirstRoot field.entry.exp.now field.entry.log.now polynomial.now n i n) (λ r. (r < n) × FirstRoot field.entry.exp.now field.entry.log.now polynomial.now n i r) }
 {
     if COEFFICIENTS - 2 <= leading_zeros(polynomial) {
-        return linear_root(exp, log, polynomial, n, i);
+        return linear_root(field, polynomial, n, i);
     }
-    let t = terms_at(exp, log, polynomial, locator(exp, n, i));
-    let mut exponents = t.exponents;
-    let steps = t.steps;
+    let t = terms_at(field, polynomial, locator(field, n, i));
+    let mut terms = t.terms;
     let count = t.count;
     if count == 1 {
-        return n;
+        return None;
     }
-    let mut j = i;
-    while j < n {
-        if next_value(exp, &mut exponents, &steps, count) == 0 {
-            return j;
+    for j in i..n {
+        if next_value(field, &mut terms, count) == 0 {
+            return Some(j);
         }
-        j += 1;
     }
-    n
+    None
 }
 
-// A polynomial, divided by x + r for each of its roots r that are found.
-#[derive(Clone, Copy)]
-struct Quotient {
-    coefficients: [u16; COEFFICIENTS],
-}
-
-// The quotient by x + r, where r is a root: Horner's rule gives its coefficients.
-fn divided(exp: &[u16], log: &[u16], q: Quotient, r: u16) -> Quotient
-    ensures { result.coefficients ≡ quotient_of exp.now log.now q.coefficients r }
+// Divides a polynomial by x + r, where r is a root: Horner's rule gives the coefficients of the quotient.
+fn divide(field: BinaryField, polynomial: &mut [u16; COEFFICIENTS], r: u16)
+    ensures { polynomial.new ≡ quotient_of field.entry.exp.now field.entry.log.now polynomial.old r }
 {
-    let mut coefficients = [0u16; COEFFICIENTS];
     let mut v: u16 = 0;
-    let mut k: usize = 0;
-    while k < COEFFICIENTS {
-        coefficients[k] = v;
-        v = symbols::sum(fields::product(exp, log, v, r), q.coefficients[k]);
-        k += 1;
+    for k in 0..COEFFICIENTS {
+        let c = polynomial[k];
+        polynomial[k] = v;
+        v = symbols::sum(field.product(v, r), c);
     }
-    Quotient { coefficients }
 }
 
 // The first `count` of `at` are places of a word, in ascending order.
@@ -165,6 +161,13 @@ fn divided(exp: &[u16], log: &[u16], q: Quotient, r: u16) -> Quotient
 pub struct Places {
     pub at: [u16; RADIUS],
     pub count: usize,
+}
+
+impl Places {
+    pub const NONE: Places = Places {
+        at: [0; RADIUS],
+        count: 0,
+    };
 }
 
 // Place i is kept if there is room.
@@ -185,25 +188,19 @@ pub fn keep(p: Places, i: u16) -> Places
 }
 
 // The places of a word of n places whose locators are roots of the polynomial. A root that is found is divided out: the places after it have fewer terms.
-pub(crate) fn roots(exp: &[u16], log: &[u16], polynomial: [u16; COEFFICIENTS], n: usize) -> Places
-    requires tables { Tables exp.now log.now }
-    requires n_in_bounds { (n ≤ length exp.now) × (n < 65536) }
-    requires by_index { (k : ℕ) → at polynomial k < length log.now }
-    ensures { Roots exp.now log.now polynomial n n result.at result.count }
+pub(crate) fn roots(field: BinaryField, polynomial: [u16; COEFFICIENTS], n: usize) -> Places
+    requires tables { Tables field.exp.now field.log.now }
+    requires n_in_bounds { (n ≤ length field.exp.now) × (n < 65536) }
+    requires by_index { (k : ℕ) → at polynomial k < length field.log.now }
+    ensures { Roots field.entry.exp.now field.entry.log.now polynomial n n result.at result.count }
 {
-    let mut p = Places {
-        at: [0u16; RADIUS],
-        count: 0,
-    };
-    let mut q = Quotient {
-        coefficients: polynomial,
-    };
-    let mut i = next_root(exp, log, polynomial, n, 0);
-    while i < n {
+    let mut p = Places::NONE;
+    let mut quotient = polynomial;
+    let mut next = next_root(field, &quotient, n, 0);
+    while let Some(i) = next {
         p = keep(p, i as u16);
-        q = divided(exp, log, q, locator(exp, n, i));
-        let coefficients = q.coefficients;
-        i = next_root(exp, log, coefficients, n, i + 1);
+        divide(field, &mut quotient, locator(field, n, i));
+        next = next_root(field, &quotient, n, i + 1);
     }
     p
 }

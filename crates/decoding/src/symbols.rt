@@ -8,14 +8,7 @@ ghost use Rattle.fields.specs.Steps.Buffers.{copied};
 pub fn all_below(word: &[u16], q: u16) -> bool
     ensures { result ≡ all_below q word.now }
 {
-    let mut i = 0;
-    while i < word.len() {
-        if word[i] >= q {
-            return false;
-        }
-        i += 1;
-    }
-    true
+    word.iter().all(|&x| x < q)
 }
 
 pub fn sum(x: u16, y: u16) -> u16
@@ -28,33 +21,14 @@ pub fn sum(x: u16, y: u16) -> u16
 pub fn symbol(word: &[u16], i: usize) -> u16
     ensures { result ≡ at word.now i }
 {
-    if i < word.len() { word[i] } else { 0 }
+    word.get(i).copied().unwrap_or(0)
 }
 
 // Writes the word, if the buffer is as long.
-pub fn copy(word: &[u16], out: &mut [u16])
+pub fn copy<T: Copy>(word: &[T], out: &mut [T])
     ensures { out.new ≡ copied word.now out.old }
 {
-    if out.len() != word.len() {
-        return;
-    }
-    let mut i = 0;
-    while i < word.len() {
-        out[i] = word[i];
-        i += 1;
-    }
-}
-
-// Writes the bytes, if the buffer is as long.
-pub fn copy_bytes(word: &[u8], out: &mut [u8])
-    ensures { out.new ≡ copied word.now out.old }
-{
-    if out.len() != word.len() {
-        return;
-    }
-    let mut i = 0;
-    while i < word.len() {
-        out[i] = word[i];
-        i += 1;
+    if out.len() == word.len() {
+        out.copy_from_slice(word);
     }
 }

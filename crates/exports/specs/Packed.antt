@@ -1,9 +1,8 @@
 -- Answers of more than one number, packed into one: the refusal's number or 0, plus 256 times the second number, plus 65,536 times the third of an inner word.
 use Rattle.std.specs.Prelude.{List, ℕ, ◌+◌, ◌*◌}
 use Rattle.fields.specs.Steps.Buffers.{copied}
-use Rattle.words.specs.declared.Correction.{Correction}
-use Rattle.words.specs.declared.InnerCorrection.{InnerCorrection}
-use Rattle.words.specs.Answers.{refusal_of, changed_of, inner_refusal_of, data_changed_of, parity_changed_of}
+use Rattle.words.specs.Corrections.{Correction, refusal_of, changed_of}
+use Rattle.words.specs.InnerCorrections.{InnerCorrection, inner_refusal_of, data_changed_of, parity_changed_of}
 use Rattle.frames.specs.Answers.{CorrectorAnswer}
 
 unfoldable pub packed : ℕ → ℕ → ℕ

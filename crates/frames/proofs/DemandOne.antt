@@ -9,13 +9,14 @@ use borrow.Author.Tests.{eqb-true, leb-true}
 use lib.Dec.{eqb, leb, eqb-suc-zero}
 use lib.ListN.{length}
 use Rattle.fields.specs.Places.{at, all_below, apart}
-use Rattle.words.specs.declared.Correction.TheVariants.{Corrected, Refused}
-use Rattle.words.specs.declared.InnerCorrection.TheVariants as Inner
+use Rattle.words.specs.Corrections.{Corrected, Refused, refusal_of, changed_of}
+use Rattle.words.specs.InnerCorrections.{inner_refusal_of, data_changed_of, parity_changed_of}
+use Rattle.words.specs.InnerCorrections as Inner
 use Rattle.words.specs.Bits.{bits_of, bytes_of}
 use Rattle.words.specs.OuterCode.{is_outer, outer_parity}
 use Rattle.words.specs.InnerCode.{is_inner}
 use Rattle.words.specs.Nearest.{is_some, nearest}
-use Rattle.words.specs.Answers.{unless, refusal, within, answered, first_of, refusal_of, changed_of, inner_refusal_of, data_changed_of, parity_changed_of, found, corrected, inner_changes, outer_checked, outer_encoded, outer_corrected, inner_checked, inner_encoded, inner_corrected}
+use Rattle.words.specs.Answers.{unless, refusal, within, answered, first_of, found, corrected, inner_changes, outer_checked, outer_encoded, outer_corrected, inner_checked, inner_encoded, inner_corrected}
 use Rattle.words.proofs.Bits.Bytes.{bytes_length}
 use Rattle.words.proofs.Codes.Proved.{codes}
 use Rattle.frames.specs.Frames.{outer_words, frame_of, payload_of}

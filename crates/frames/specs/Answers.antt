@@ -4,6 +4,7 @@ use Rattle.std.proofs.Math.Option.{Option, none, some}
 use Rattle.fields.specs.Lists.{tabulate}
 use Rattle.fields.specs.Places.{apart}
 use Rattle.words.specs.Answers.{unless, answered}
+pub use Rattle.words.specs.Answers.{number, refusal_number}
 use Rattle.frames.specs.Frames.{frame_of, payload_of}
 use Rattle.frames.specs.Correction.{restored_frame, data_counts, parity_counts, all_counted}
 

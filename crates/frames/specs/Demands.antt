@@ -4,16 +4,15 @@ use Rattle.std.proofs.Math.Option.{none, some}
 use Rattle.fields.specs.Lists.{tabulate}
 use Rattle.fields.specs.Field.{Field}
 use Rattle.fields.specs.Places.{at, all_below, sum_to, differs, apart}
-use Rattle.words.specs.declared.Correction.{Correction}
-use Rattle.words.specs.declared.Correction.TheVariants.{Corrected, Refused}
-use Rattle.words.specs.declared.InnerCorrection.{InnerCorrection}
-use Rattle.words.specs.declared.InnerCorrection.TheVariants as Inner
+use Rattle.words.specs.Corrections.{Correction, Corrected, Refused, refusal_of, changed_of}
+use Rattle.words.specs.InnerCorrections.{InnerCorrection, inner_refusal_of, data_changed_of, parity_changed_of}
+use Rattle.words.specs.InnerCorrections as Inner
 use Rattle.words.specs.Bits.{bit_at, bits_of}
 use Rattle.words.specs.OuterCode.{is_outer}
 use Rattle.words.specs.InnerCode.{is_inner}
 use Rattle.words.specs.Nearest.{is_some, nearest}
 use Rattle.words.specs.InnerWords.{inner_word, inner_pass, is_lost}
-use Rattle.words.specs.Answers.{unless, within, refusal_of, changed_of, inner_refusal_of, data_changed_of, parity_changed_of, outer_checked, outer_encoded, outer_corrected, inner_checked, inner_encoded, inner_corrected}
+use Rattle.words.specs.Answers.{unless, within, outer_checked, outer_encoded, outer_corrected, inner_checked, inner_encoded, inner_corrected}
 use Rattle.words.specs.Codes.{Codes}
 use Rattle.frames.specs.Frames.{is_payload, is_block, data_in, frame_of_words, frame_of, wrong_bits}
 use Rattle.frames.specs.Correction.{received_bit, received_word, is_permitted, outer_restored, restored_frame, data_counts, parity_counts, all_counted}

@@ -10,29 +10,22 @@ use lanes::counters::Planes;
 
 // The places of each inner word in which the two blocks differ, from one place on and before another. Eight places are counted at once.
 pub(crate) fn counts(
-    block: &[u8],
-    frame: &[u8],
+    block: &[u8; Frame::BYTES],
+    frame: &[u8; Frame::BYTES],
     from: usize,
     to: usize,
 ) -> [u16; Frame::INNER_WORDS]
-    requires { (length block.now ≡ 16320) × (length frame.now ≡ 16320) × (from ≤ to) × (to ≤ 2040) × ((to - from) % 8 ≡ 0) }
+    requires { (from ≤ to) × (to ≤ 2040) × ((to - from) % 8 ≡ 0) }
     ensures { result ≡ counts_between from to block.now frame.now }
 {
     let n = (to - from) / counters::STEP;
-    let mut planes = Planes {
-        ones: 0,
-        twos: 0,
-        fours: 0,
-        carry: 0,
-    };
+    let mut planes = Planes::default();
     let mut carries = [0u64; counters::EIGHTS];
     let mut differences = [0u64; counters::STEP];
-    let mut i: usize = 0;
-    while i < n {
+    for i in 0..n {
         places::differences(block, frame, from + counters::STEP * i, &mut differences);
-        planes = counters::eight_more(planes, &differences, 0);
+        planes = counters::eight_more(planes, &differences);
         carries[i] = planes.carry;
-        i += 1;
     }
     counters::counts(planes, &carries, (n + counters::STEP - 1) / counters::STEP)
 }
@@ -42,11 +35,5 @@ pub(crate) fn sum(counts: &[u16]) -> u32
     requires { length counts.now ≤ 64 }
     ensures { (result ≡ total counts.now) × (result ≤ 4194240) }
 {
-    let mut n: u32 = 0;
-    let mut k: usize = 0;
-    while k < counts.len() {
-        n += counts[k] as u32;
-        k += 1;
-    }
-    n
+    counts.iter().map(|&n| u32::from(n)).sum()
 }

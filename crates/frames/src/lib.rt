@@ -9,22 +9,22 @@
 //              the copy becomes their frame, sent and with parity bits made as in encoding; a copy that is a frame after the inner pass stays as it is.
 //              Then the frame is written, and the report compares it with the block (module comparison)
 //
-// Every input is answered: an entry returns 0, or the number of the refusal; a refusal leaves the output buffer as it was. Where there is more than one
-// fault, the order is 1 (length of the payload) or 2 (length of the block), 3 (size of the output buffer), then 4 (no frame) or 5
-// (uncorrectable).
+// Every input is answered; a refusal leaves the output buffer as it was. Where there is more than one fault, the order is 1 (length of the payload) or 2 (length
+// of the block), 3 (size of the output buffer), then 4 (no frame) or 5 (uncorrectable).
 #![tactic(auto)]
 
-ghost use Rattle.std.specs.Prelude.{◌≡◌, true, ◌&&◌, length};
+ghost use Rattle.std.specs.Prelude.{◌≡◌, true, ◌&&◌, length, is_some};
 ghost use Rattle.std.proofs.Math.Option.{some};
 ghost use Rattle.words.specs.Bits.{bit_at};
+ghost use Rattle.words.specs.Answers.{number, refusal_number};
 ghost use Rattle.inner_words.specs.Steps.Passes.{inner_codes};
 ghost use Rattle.frames.specs.Correction.{outer_frame, restored_frame};
 ghost use Rattle.frames.specs.Steps.Received.{outer_codes};
 ghost use Rattle.frames.specs.Steps.Passes.{provided};
 ghost use Rattle.frames.specs.Answers.{frame_encoded, frame_checked, payload_extracted, no_counts, reported, frame_corrected};
 
-use decoding::symbols;
 use inner_words::Interleaved;
+pub use words::Refusal;
 
 mod bits;
 mod comparison;
@@ -64,66 +64,66 @@ impl Frame {
     pub const BYTES: usize = Interleaved::BYTES;
 }
 
-// Writes the frame of the payload and returns 0; 1 or 3.
-pub fn encode_frame(payload: &[u8], out: &mut [u8]) -> u8
-    ensures { (result, out.new) ≡ frame_encoded payload.now out.old }
+// Writes the frame of the payload.
+pub fn encode_frame(payload: &[u8], out: &mut [u8]) -> Result<(), Refusal>
+    ensures { (refusal_number result, out.new) ≡ frame_encoded payload.now out.old }
 {
-    if payload.len() != Frame::PAYLOAD_BYTES {
-        return 1;
-    }
+    let Ok(payload) = <&[u8; Frame::PAYLOAD_BYTES]>::try_from(payload) else {
+        return Err(Refusal::PayloadLength);
+    };
     if out.len() != Frame::BYTES {
-        return 3;
+        return Err(Refusal::BufferSize);
     }
-    let mut outer = outer_words::blank();
+    let mut outer = [0; Frame::OUTER_SYMBOLS];
     outer_words::encode(payload, &mut outer);
     outer_words::send(&outer, out);
     inner_words::encode(out);
-    0
+    Ok(())
 }
 
 // The outer words of the block and its inner words are all code words.
-fn is_frame(block: &[u8]) -> bool
-    requires { length block.now ≡ 16320 }
+fn is_frame(block: &[u8; Frame::BYTES]) -> bool
     ensures { result ≡ (outer_codes (bit_at block.now) && inner_codes (bit_at block.now)) }
 {
-    if outer_test::are_code_words(block) {
-        inner_words::are_code_words(block)
+    outer_test::are_code_words(block) && inner_words::are_code_words(block)
+}
+
+// Whether the block is a frame.
+pub fn check_frame(block: &[u8]) -> Result<(), Refusal>
+    ensures { refusal_number result ≡ frame_checked block.now }
+{
+    let Ok(block) = <&[u8; Frame::BYTES]>::try_from(block) else {
+        return Err(Refusal::BlockLength);
+    };
+    if is_frame(block) {
+        Ok(())
     } else {
-        false
+        Err(Refusal::NoCodeWord)
     }
 }
 
-// 0 for a frame; 2 or 4.
-pub fn check_frame(block: &[u8]) -> u8
-    ensures { result ≡ frame_checked block.now }
+// Writes the payload of the frame.
+pub fn extract_payload(block: &[u8], out: &mut [u8]) -> Result<(), Refusal>
+    ensures { (refusal_number result, out.new) ≡ payload_extracted block.now out.old }
 {
-    if block.len() != Frame::BYTES {
-        return 2;
-    }
-    if is_frame(block) { 0 } else { 4 }
-}
-
-// Writes the payload of the frame and returns 0; 2, 3 or 4.
-pub fn extract_payload(block: &[u8], out: &mut [u8]) -> u8
-    ensures { (result, out.new) ≡ payload_extracted block.now out.old }
-{
-    if block.len() != Frame::BYTES {
-        return 2;
-    }
+    let Ok(block) = <&[u8; Frame::BYTES]>::try_from(block) else {
+        return Err(Refusal::BlockLength);
+    };
     if out.len() != Frame::PAYLOAD_BYTES {
-        return 3;
+        return Err(Refusal::BufferSize);
     }
     if !is_frame(block) {
-        return 4;
+        return Err(Refusal::NoCodeWord);
     }
-    let mut outer = outer_words::blank();
+    let mut outer = [0; Frame::OUTER_SYMBOLS];
     outer_words::receive(block, &mut outer);
     outer_words::extract(&outer, out);
-    0
+    Ok(())
 }
 
 // What a correction answers: the refusal's number, or 0; then for each inner word in how many of its data places, and in how many of its parity places, received
-// block and restored frame differ, and the sum of all these counts. A refusal carries its number and nothing else: its counts are 0.
+// block and restored frame differ, and the sum of all these counts. A refusal carries its number and nothing else: its counts are 0. It is a number, since crate
+// logging promises something for every report.
 #[derive(Clone, Copy)]
 pub struct Report {
     pub refusal: u8,
@@ -132,53 +132,47 @@ pub struct Report {
     pub sum: u32,
 }
 
-fn refused(number: u8) -> Report
-    ensures { (result.refusal ≡ number) × (result.«data» ≡ no_counts) × (result.parity ≡ no_counts) × (result.sum ≡ 0) }
+fn refused(refusal: Refusal) -> Report
+    ensures { (result.refusal ≡ number refusal) × (result.«data» ≡ no_counts) × (result.parity ≡ no_counts) × (result.sum ≡ 0) }
 {
     Report {
-        refusal: number,
+        refusal: refusal.into(),
         data: [0; Frame::INNER_WORDS],
         parity: [0; Frame::INNER_WORDS],
         sum: 0,
     }
 }
 
-// The outer pass over a block after the inner pass: the block becomes the frame of the restored outer words, and the answer is true; false, if some outer word
-// has none. A block that is a frame already is that frame; `inner` is true only if its inner words are code words.
-fn outer_pass(frame: &mut [u8], inner: bool) -> bool
-    requires frame_len { length frame.old ≡ 16320 }
-    requires frame_value { inner ≡ true → inner_codes (bit_at frame.old) ≡ true }
-    ensures { (length frame.new ≡ 16320) × (provided result frame.new ≡ outer_frame (bit_at frame.old)) }
+// The outer pass over a block after the inner pass: the block becomes the frame of the restored outer words, unless some outer word has none. A block that is a
+// frame already is that frame; `inner` is true only if its inner words are code words.
+fn outer_pass(frame: &mut [u8; Frame::BYTES], inner: bool) -> Option<()>
+    requires { inner ≡ true → inner_codes (bit_at frame.old) ≡ true }
+    ensures { provided (is_some result) frame.new ≡ outer_frame (bit_at frame.old) }
 {
-    if inner {
-        if outer_test::are_code_words(frame) {
-            return true;
-        }
+    if inner && outer_test::are_code_words(frame) {
+        return Some(());
     }
-    let mut outer = outer_words::blank();
-    if !outer_words::correct(frame, &mut outer) {
-        return false;
-    }
+    let mut outer = [0; Frame::OUTER_SYMBOLS];
+    outer_words::correct(frame, &mut outer)?;
     outer_words::send(&outer, frame);
     inner_words::encode(frame);
-    true
+    Some(())
 }
 
-// The two passes over a copy of the received block, which becomes the restored frame; false, if there is none.
-fn restore_frame(frame: &mut [u8]) -> bool
-    requires { length frame.old ≡ 16320 }
-    ensures { (length frame.new ≡ 16320) × (provided result frame.new ≡ restored_frame frame.old) }
+// The two passes over a copy of the received block, which becomes the restored frame, if there is one.
+fn restore_frame(frame: &mut [u8; Frame::BYTES]) -> Option<()>
+    ensures { provided (is_some result) frame.new ≡ restored_frame frame.old }
 {
     let left = inner_words::correct(frame);
     outer_pass(frame, left == 0)
 }
 
 // Writes the restored frame, and gives its report: the one place where a correction writes into the output buffer.
-fn conclude(block: &[u8], frame: &[u8], out: &mut [u8]) -> Report
-    requires { (length block.now ≡ 16320) × (length frame.now ≡ 16320) × (length out.old ≡ 16320) }
+fn conclude(block: &[u8; Frame::BYTES], frame: &[u8; Frame::BYTES], out: &mut [u8]) -> Report
+    requires { length out.old ≡ 16320 }
     ensures { (result.refusal, result.«data», result.parity, result.sum, out.new) ≡ reported block.now out.old (some frame.now) }
 {
-    symbols::copy_bytes(frame, out);
+    out.copy_from_slice(frame);
     let data = comparison::counts(block, frame, 0, Interleaved::DATA_PLACES);
     let parity = comparison::counts(block, frame, Interleaved::DATA_PLACES, words::Inner::PLACES);
     let sum = comparison::sum(&data) + comparison::sum(&parity);
@@ -194,16 +188,15 @@ fn conclude(block: &[u8], frame: &[u8], out: &mut [u8]) -> Report
 pub fn correct_frame(block: &[u8], out: &mut [u8]) -> Report
     ensures { (result.refusal, result.«data», result.parity, result.sum, out.new) ≡ frame_corrected block.now out.old }
 {
-    if block.len() != Frame::BYTES {
-        return refused(2);
-    }
+    let Ok(block) = <&[u8; Frame::BYTES]>::try_from(block) else {
+        return refused(Refusal::BlockLength);
+    };
     if out.len() != Frame::BYTES {
-        return refused(3);
+        return refused(Refusal::BufferSize);
     }
-    let mut frame = inner_words::blank();
-    symbols::copy_bytes(block, &mut frame);
-    if !restore_frame(&mut frame) {
-        return refused(5);
+    let mut frame = *block;
+    if restore_frame(&mut frame).is_none() {
+        return refused(Refusal::Uncorrectable);
     }
     conclude(block, &frame, out)
 }

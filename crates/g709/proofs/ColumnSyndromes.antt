@@ -1,7 +1,7 @@
 -- The syndromes of sixteen words side by side, by Horner's rule a column at a step. Assumes nothing.
-use mathlib.Core.Path.{◌≡◌, refl, sym, ap, ◌∙◌}
-use mathlib.Core.Bool.{Bool, true}
-use mathlib.Core.List.{List}
+use mathlib.Core.Path.{◌≡◌, refl, sym, ap, ap₂, ◌∙◌}
+use mathlib.Core.Bool.{true}
+use mathlib.Core.List.{List, [], ◌∷◌}
 use Prim.Native.Nat.{ℕ, zero, suc, ◌+◌, ◌*◌, ◌≤◌, ◌<◌}
 use native.Mathlib.Decide.{dec_lt}
 use native.Mathlib.Nat.{le_refl, not-suc-le-zero}
@@ -11,14 +11,13 @@ use lib.Dec.{eqb}
 use lib.ListN.{length, set}
 use Rattle.fields.specs.Lists.{tabulate}
 use Rattle.fields.specs.Elements.{xor, scale, doubled, power, times_c, powers_c, exponents_c}
-use Rattle.fields.specs.Places.{at, horner, all_below}
+use Rattle.fields.specs.Places.{at, every, horner, all_below}
 use Rattle.fields.proofs.Instances.{field_c}
 use Rattle.fields.proofs.Lists.{tabulate_at, tabulate_length, tabulate_same}
 use Rattle.fields.proofs.Places.Tests.{every_at}
 use Rattle.decoding.specs.Steps.ByTables.{root_value, root_values}
 use Rattle.words.proofs.Codes.Horner.{horner_same}
 use Rattle.words.proofs.Codes.ReedSolomon.{root_is}
-use Rattle.g709.specs.Steps.Registers.{agree}
 use Rattle.g709.specs.Steps.Restoring.{lane_of}
 use Rattle.g709.specs.Steps.ColumnSyndromes.{value_stored, values_stored, SyndromesTo}
 use Rattle.g709.proofs.Overlays.{over_length, over_in, over_front, over_behind, OverTo, over_next, over_end}
@@ -39,18 +38,23 @@ pub value_end : (s rest : List ℕ) (m n i j y l : ℕ) (o : List ℕ) → m ≡
 unfolding value_stored
 value_end s rest m n i j y l o em en h le = over_end s n 16 (new_value s rest m n y) l o h le ∙ rw (em, en)
 
-pub four_values : (s rest a b c o : List ℕ) (i j y0 y1 y2 y3 : ℕ) → a ≡ value_stored s rest i j y0 → b ≡ value_stored a rest i (j + 1) y1 → c ≡ value_stored b rest i (j + 2) y2 →
-    o ≡ value_stored c rest i (j + 3) y3 → o ≡ value_stored (value_stored (value_stored (value_stored s rest i j y0) rest i (j + 1) y1) rest i (j + 2) y2) rest i (j + 3) y3
-four_values s rest a b c o i j y0 y1 y2 y3 ea eb ec eo = rw (eo, ec, eb, ea)
-
 -- the sixteen powers, written out
-pub sixteen_values : (s rest a b c d : List ℕ) (i : ℕ) →
-    a ≡ value_stored (value_stored (value_stored (value_stored s rest i 0 1) rest i (0 + 1) 2) rest i (0 + 2) 4) rest i (0 + 3) 8 →
-    b ≡ value_stored (value_stored (value_stored (value_stored a rest i 4 16) rest i (4 + 1) 32) rest i (4 + 2) 64) rest i (4 + 3) 128 →
-    c ≡ value_stored (value_stored (value_stored (value_stored b rest i 8 29) rest i (8 + 1) 58) rest i (8 + 2) 116) rest i (8 + 3) 232 →
-    d ≡ value_stored (value_stored (value_stored (value_stored c rest i 12 205) rest i (12 + 1) 135) rest i (12 + 2) 19) rest i (12 + 3) 38 → d ≡ values_stored s rest i 16
-unfolding values_stored power doubled scale xor
-sixteen_values s rest a b c d i ea eb ec ed = rw (ed, ec, eb, ea)
+sixteen_powers : every 16 (λ j. eqb (at (1 ∷ 2 ∷ 4 ∷ 8 ∷ 16 ∷ 32 ∷ 64 ∷ 128 ∷ 29 ∷ 58 ∷ 116 ∷ 232 ∷ 205 ∷ 135 ∷ 19 ∷ 38 ∷ []) j) (power 8 285 j)) ≡ true
+unfolding every power doubled scale xor
+sixteen_powers = refl
+
+pub one_value : (s rest a b : List ℕ) (i j : ℕ) → j < 16 → a ≡ values_stored s rest i j →
+    b ≡ value_stored a rest i j (at (1 ∷ 2 ∷ 4 ∷ 8 ∷ 16 ∷ 32 ∷ 64 ∷ 128 ∷ 29 ∷ 58 ∷ 116 ∷ 232 ∷ 205 ∷ 135 ∷ 19 ∷ 38 ∷ []) j) → b ≡ values_stored s rest i (j + 1)
+unfolding values_stored
+one_value s rest a b i j h ea eb =
+    let n : suc j ≡ j + 1 = omega arith in
+    let y : at (1 ∷ 2 ∷ 4 ∷ 8 ∷ 16 ∷ 32 ∷ 64 ∷ 128 ∷ 29 ∷ 58 ∷ 116 ∷ 232 ∷ 205 ∷ 135 ∷ 19 ∷ 38 ∷ []) j ≡ power 8 285 j =
+    eqb-true _ _ (every_at 16 (λ j. eqb (at (1 ∷ 2 ∷ 4 ∷ 8 ∷ 16 ∷ 32 ∷ 64 ∷ 128 ∷ 29 ∷ 58 ∷ 116 ∷ 232 ∷ 205 ∷ 135 ∷ 19 ∷ 38 ∷ []) j) (power 8 285 j)) sixteen_powers j h) in
+    eb ∙ ap₂ (λ (a : List ℕ) (y : ℕ). value_stored a rest i j y) ea y ∙ ap (values_stored s rest i) n
+
+pub no_values : (s rest : List ℕ) (i : ℕ) → s ≡ values_stored s rest i 0
+unfolding values_stored
+no_values s rest i = refl
 
 -- ---- all values
 
@@ -104,16 +108,9 @@ pub syndromes_end : (rest s : List ℕ) (i : ℕ) → SyndromesTo rest i s → i
 syndromes_end rest s i S l h = let e : i ≡ 16 = omega arith in rw e at S
 
 -- columns of zeros
-agreed : (a b : List ℕ) (from n : ℕ) → agree a b from n ≡ true → (i : ℕ) → i < n → at a i ≡ at b (from + i)
-unfolding agree
-agreed a b from n h i l = eqb-true (at a i) (at b (from + i)) (every_at n (λ i. eqb (at a i) (at b (from + i))) h i l)
-
-pub syndromes_none : (rest s : List ℕ) (b : Bool) → s ≡ tabulate 272 (λ i. 0) → b ≡ agree rest s 0 272 → b ≡ true → SyndromesTo rest 16 s
-syndromes_none rest s b e test z =
-    record { made = λ j k hj hk. zeros_at s e (16 * j + k) (omega arith) ∙ sym (none j (λ t. at rest (16 * t + k)) 16 (λ t h. zero' (16 * t + k) (omega arith))) }
-  where
-    zero' : (m : ℕ) → m < 272 → at rest m ≡ 0
-    zero' m h = agreed rest s 0 272 (sym test ∙ z) m h ∙ zeros_at s e (0 + m) (omega arith)
+pub syndromes_none : (rest s : List ℕ) → s ≡ tabulate 272 (λ i. 0) → rest ≡ s → SyndromesTo rest 16 s
+syndromes_none rest s e same =
+    record { made = λ j k hj hk. zeros_at s e (16 * j + k) (omega arith) ∙ sym (none j (λ t. at rest (16 * t + k)) 16 (λ t h. ap (λ (l : List ℕ). at l (16 * t + k)) same ∙ zeros_at s e (16 * t + k) (omega arith))) }
 
 -- ---- what they are
 

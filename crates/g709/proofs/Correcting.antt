@@ -8,7 +8,7 @@ use native.Mathlib.Nat.{le_refl}
 use native.Mathlib.Omega.{arith}
 use borrow.Author.Tests.{eq-eqb, ne_eqb, not-false, not-true}
 use lib.Dec.{eqb}
-use lib.ListN.{length, set}
+use lib.ListN.{length}
 use Rattle.fields.specs.Elements.{xor, powers_c, exponents_c}
 use Rattle.fields.specs.Places.{at, all_below}
 use Rattle.fields.proofs.Instances.{field_c}
@@ -19,12 +19,11 @@ use Rattle.decoding.specs.declared.error_values.Errors.{Errors}
 use Rattle.decoding.specs.Steps.ByTables.{root_values}
 use Rattle.decoding.specs.Steps.Decoder.{Tables, xor_to, error_at, Decoded, weight_between, with_error, with_errors}
 use Rattle.decoding.proofs.Algebra.Tables.{powers_length, exponents_length}
-use Rattle.decoding.proofs.Decoding.Changes.{errors_length, errors_at, weight_most}
-use Rattle.words.specs.declared.Correction.{Correction}
-use Rattle.words.specs.declared.Correction.TheVariants.{Corrected, Refused}
+use Rattle.decoding.proofs.Decoding.Changes.{errors_at, weight_most}
+use Rattle.words.specs.Corrections.{Correction, Corrected, Refused}
 use Rattle.words.specs.Answers.{found}
 use Rattle.words.proofs.Decoding.ReedSolomon.{tables_of, symbols_changed, symbols_found, symbols_lost}
-use Rattle.words.proofs.Steps.Corrections.{added_here, errors_added, errors_next}
+use Rattle.words.proofs.Steps.Corrections.{errors_added, errors_next}
 use Rattle.g709.specs.Rows.{received_bytes, bytes_restored}
 use Rattle.g709.specs.Steps.Restoring.{word_of, byte_place, lane_of, standing, values_added, ByteValues, WordErrors, word_stored, word_corrected}
 use Rattle.g709.proofs.Rows.{word_to_row, received_length}
@@ -35,12 +34,6 @@ standing_at : (from : ℕ) (places : List ℕ) (l : ℕ) → l < 8 → at (stand
 unfolding standing
 standing_at from places l h = tabulate_at 8 _ l 0 h
 
-pub added_byte : (o : List ℕ) (i v y x : ℕ) → i < length o → y ≡ v → x ≡ xor (at o i) y → set o i x ≡ with_error o i v
-added_byte o i v y x l ey ex = added_here o i v x l (ex ∙ ap (xor (at o i)) ey)
-
-pub byte_value : (values : List ℕ) (k l : ℕ) → ByteValues values k → l < k → at values l < 256
-byte_value values k l h b = h.small l b
-
 pub values_start : (o : List ℕ) (from : ℕ) (places values : List ℕ) → o ≡ values_added o from places values 0
 unfolding values_added with_errors error_at xor_to
 values_start o from places values = tabulate_is (length o) _ o 0 refl (λ i l. sym (xor_zero_r (at o i)))
@@ -50,14 +43,6 @@ pub values_next : (o : List ℕ) (from : ℕ) (places values : List ℕ) (k i n 
 unfolding values_added errors_added
 values_next o from places values k i n out next so_far e there l few =
     errors_next o (standing from places) values out k so_far next (e ∙ ap (λ (i : ℕ). with_error out i (at values k)) (there ∙ sym (standing_at from places k (omega arith))))
-
-pub values_end : (o : List ℕ) (from : ℕ) (places values : List ℕ) (k n : ℕ) (out : List ℕ) → out ≡ values_added o from places values k → k ≤ n → n ≤ k →
-    out ≡ values_added o from places values n
-values_end o from places values k n out e l h = let s : k ≡ n = omega arith in e ∙ ap (values_added o from places values) s
-
-pub values_length : (o : List ℕ) (from : ℕ) (places values : List ℕ) (k : ℕ) (out : List ℕ) → out ≡ values_added o from places values k → length out ≡ length o
-unfolding values_added
-values_length o from places values k out e = ap length e ∙ errors_length (standing from places) values (length o) k (at o)
 
 pub lane_end : (rest : List ℕ) (k : ℕ) (cells : List ℕ) (i : ℕ) → Filled 16 (λ j. at rest (16 * j + k)) i cells → 16 ≤ i → cells ≡ lane_of rest k
 unfolding lane_of

@@ -2,13 +2,13 @@
 use mathlib.Core.Path.{◌≡◌, refl, sym, ap, ap₂, ◌∙◌}
 use mathlib.Core.Bool.{true}
 use mathlib.Core.List.{List, ◌++◌}
-use Prim.Native.Nat.{ℕ, zero, suc, ◌+◌, ◌-◌, ◌*◌, ◌/◌, ◌%◌, ◌≤◌, ◌<◌}
+use Prim.Native.Nat.{ℕ, zero, suc, ◌+◌, ◌*◌, ◌/◌, ◌%◌, ◌≤◌, ◌<◌}
 use native.Mathlib.Decide.{dec_lt, ℕ_discrete}
 use native.Mathlib.Nat.{mul-suc, mul-zero, zero-add}
 use native.Mathlib.Omega.{arith}
 use borrow.Author.Tests.{eq-eqb, eqb-true}
 use lib.Dec.{eqb, lit<}
-use lib.ListN.{length, set, length-append, get_or-append, get_or-eq_default}
+use lib.ListN.{length, set, length-set, length-append, get_or-append, get_or-eq_default}
 use lib.Seq.{ext_get_or, get_or-append-add, get_or-set_same, get_or-set_other}
 use Rattle.fields.specs.Lists.{tabulate}
 use Rattle.fields.specs.Elements.{xor, scale, doubled, power, times_c}
@@ -25,10 +25,38 @@ use Rattle.g709.specs.Steps.Registers.{over, registers, row_divided, row_remaind
 use Rattle.fields.proofs.Instances.{field_c}
 use Rattle.words.proofs.Codes.ReedSolomon.{code_is}
 use Rattle.g709.proofs.ByteCode.{code_c}
-use Rattle.g709.proofs.Overlays.{over_length, over_in, over_front, over_behind, OverTo, over_next}
-use Rattle.g709.proofs.Lanes.{lane, lane_past, registers_at, registers_length}
+use Rattle.g709.proofs.Overlays.{over_length, over_in, over_behind, over_same, OverTo, over_next}
+use Rattle.g709.proofs.Lanes.{lane, lane_past, registers_at, registers_length, same_registers}
 
 -- ---- sums
+
+-- the sum of the first n
+unfoldable pub sum_of_first : (ℕ → ℕ) → ℕ → ℕ
+sum_of_first g zero = 0
+sum_of_first g (suc n) = xor (sum_of_first g n) (g n)
+
+pub sum_of_none : (g : ℕ → ℕ) → 0 ≡ sum_of_first g 0
+unfolding sum_of_first
+sum_of_none g = refl
+
+pub sum_one_more : (g : ℕ → ℕ) (n s v : ℕ) → s ≡ sum_of_first g n → v ≡ xor s (g n) → v ≡ sum_of_first g (n + 1)
+unfolding sum_of_first
+sum_one_more g n s v es ev = let m : suc n ≡ n + 1 = omega arith in ev ∙ ap (λ (x : ℕ). xor x (g n)) es ∙ ap (sum_of_first g) m
+
+pub sum_of_all : (g : ℕ → ℕ) (n : ℕ) → sum_of_first g (suc n) ≡ sum_up_to g n
+unfolding sum_of_first sum_up_to
+sum_of_all g zero = xor_zero_l (g 0)
+sum_of_all g (suc n) = ap (λ (x : ℕ). xor x (g (suc n))) (sum_of_all g n)
+
+abbrev pub tap : List ℕ → ℕ → ℕ → ℕ
+tap q i n = at q (i + 16 * at exponents_below n)
+
+pub one_more_tap : (q : List ℕ) (i n s e v : ℕ) → s ≡ sum_of_first (tap q i) n → e ≡ at exponents_below n → v ≡ xor s (at q (i + 16 * e)) → v ≡ sum_of_first (tap q i) (n + 1)
+one_more_tap q i n s e v es ee ev = sum_one_more (tap q i) n s v es (ev ∙ ap (λ (e : ℕ). xor s (at q (i + 16 * e))) ee)
+
+pub all_taps : (q : List ℕ) (i n s : ℕ) → s ≡ sum_of_first (tap q i) n → n ≤ 21 → 21 ≤ n → s ≡ taps q i
+unfolding taps
+all_taps q i n s es l h = let e : n ≡ 21 = omega arith in es ∙ ap (sum_of_first (tap q i)) e ∙ sum_of_all (tap q i) 20
 
 pub sum_same : (g h : ℕ → ℕ) (n : ℕ) → ((m : ℕ) → g m ≡ h m) → sum_up_to g n ≡ sum_up_to h n
 unfolding sum_up_to
@@ -304,9 +332,8 @@ quotient_start d q e =
     zeros : (i : ℕ) → at (tabulate 5376 (λ i. 0)) i ≡ 0
     zeros i = let h : at (tabulate 5376 (λ i. 0)) i < 1 = tabulate_lt 1 5376 (λ i. 0) (lit< tt) (λ i. lit< tt) i in omega arith
 
-pub quotient_next : (row q : List ℕ) (from i t v : ℕ) → QuotientTo (λ k. at row (from + k)) i q → i < 2784 → length q ≡ 5376 → at row (from + i) < 256 → t ≡ taps q i → v ≡ xor (at row (from + i)) t →
-    QuotientTo (λ k. at row (from + k)) (i + 1) (set q (1296 + i) v)
-quotient_next row q from i t v h l long small et ev =
+pub quotient_next : (d : ℕ → ℕ) (q : List ℕ) (i t v : ℕ) → QuotientTo d i q → i < 2784 → length q ≡ 5376 → d i < 256 → t ≡ taps q i → v ≡ xor (d i) t → QuotientTo d (i + 1) (set q (1296 + i) v)
+quotient_next d q i t v h l long small et ev =
     record {
       front = λ m b. other m (λ e. omega arith) ∙ h.front m b;
       made = λ m b. go m b (ℕ_discrete m i);
@@ -326,61 +353,60 @@ quotient_next row q from i t v h l long small et ev =
     before : (m : ℕ) → m ≤ i → taps (set q (1296 + i) v) m ≡ taps q m
     before m b = taps_same (set q (1296 + i) v) q m (λ j k. other j (λ e. omega arith))
 
-    go : (m : ℕ) → m < i + 1 → Dec (m ≡ i) → at (set q (1296 + i) v) (1296 + m) ≡ xor (at row (from + m)) (taps (set q (1296 + i) v) m)
-    go m b (yes e) = rw e (same ∙ ev ∙ ap (xor (at row (from + i))) (et ∙ sym (before i (omega arith))))
-    go m b (no ne) = other (1296 + m) (λ e. ne (omega arith)) ∙ h.made m (omega (arith, ne)) ∙ ap (xor (at row (from + m))) (sym (before m (omega arith)))
+    go : (m : ℕ) → m < i + 1 → Dec (m ≡ i) → at (set q (1296 + i) v) (1296 + m) ≡ xor (d m) (taps (set q (1296 + i) v) m)
+    go m b (yes e) = rw e (same ∙ ev ∙ ap (xor (d i)) (et ∙ sym (before i (omega arith))))
+    go m b (no ne) = other (1296 + m) (λ e. ne (omega arith)) ∙ h.made m (omega (arith, ne)) ∙ ap (xor (d m)) (sym (before m (omega arith)))
 
     size : (m : ℕ) → Dec (m ≡ 1296 + i) → at (set q (1296 + i) v) m < 256
     size m (yes e) = rw (e, same, ev, et) (xor_lt 8 _ _ small (taps_lt q i h.bytes))
     size m (no ne) = rw (other m ne) (h.bytes m)
 
-pub quotient_end : (row q : List ℕ) (from i : ℕ) → QuotientTo (λ k. at row (from + k)) i q → i ≤ 2784 → 2784 ≤ i → QuotientTo (λ k. at row (from + k)) 2784 q
-quotient_end row q from i h l g = let e : i ≡ 2784 = omega arith in rw e at h
+-- the first n of the columns that are left: 65 of the data, and sixteen of zeros
+pub record FoldedTo (d : ℕ → ℕ) (q : List ℕ) (n : ℕ) (out : List ℕ) : Type 0 where
+  pub long : length out ≡ 1296
+  pub first : (i : ℕ) → i < n → i < 1040 → at out i ≡ xor (d (2784 + i)) (taps q (2784 + i))
+  pub last : (i : ℕ) → i < n → 1040 ≤ i → at out i ≡ taps q (2784 + i)
 
-pub add_parity_next : (l row : List ℕ) (from k v : ℕ) (o : List ℕ) → OverTo l 0 256 (λ k. xor (at l k) (at row (from + k))) k o → k < 256 → length l ≡ 272 → v ≡ xor (at o k) (at row (from + k)) →
-    OverTo l 0 256 (λ k. xor (at l k) (at row (from + k))) (k + 1) (set o (0 + k) v)
-add_parity_next l row from k v o h lt long ev = over_next l 0 256 (λ k. xor (at l k) (at row (from + k))) k v o h lt (omega arith) (ev ∙ ap (λ (x : ℕ). xor x (at row (from + k))) (h.behind k (omega arith)))
+pub folded_none : (d : ℕ → ℕ) (q out : List ℕ) → length out ≡ 1296 → FoldedTo d q 0 out
+folded_none d q out long = record { long = long; first = λ i l m. absurd (omega arith); last = λ i l m. absurd (omega arith) }
 
-pub add_next : (l out : List ℕ) (k v : ℕ) (o : List ℕ) → OverTo l 0 256 (λ k. xor (at l k) (at out (1040 + k))) k o → k < 256 → length l ≡ 272 → v ≡ xor (at o k) (at out (1040 + k)) →
-    OverTo l 0 256 (λ k. xor (at l k) (at out (1040 + k))) (k + 1) (set o (0 + k) v)
-add_next l out k v o h lt long ev = over_next l 0 256 (λ k. xor (at l k) (at out (1040 + k))) k v o h lt (omega arith) (ev ∙ ap (λ (x : ℕ). xor x (at out (1040 + k))) (h.behind k (omega arith)))
+module _ (d : ℕ → ℕ) (q out : List ℕ) (n t v : ℕ) (F : FoldedTo d q n out) (room : n < 1296) (et : t ≡ taps q (2784 + n)) where
+  here : at (set out n v) n ≡ v
+  here = get_or-set_same out n v 0 (omega (arith, F.long))
 
--- what the two stores leave
-pub left_folded : (row q z a out : List ℕ) (from : ℕ) → length z ≡ 1296 → a ≡ over z 0 1040 (λ i. xor (at row (from + 2784 + i)) (taps q (2784 + i))) → out ≡ over a 1040 256 (λ i. taps q (3824 + i)) →
-    Folded (λ k. at row (from + k)) q out
-left_folded row q z a out from long ea eo =
-    record { first = λ i l. start i l; last = λ i l m. rest i l m }
-  where
-    f : ℕ → ℕ
-    f i = xor (at row (from + 2784 + i)) (taps q (2784 + i))
+  there : (i : ℕ) → (i ≡ n → ⊥) → at (set out n v) i ≡ at out i
+  there i ne = get_or-set_other out n i v 0 ne
 
-    g : ℕ → ℕ
-    g i = taps q (3824 + i)
+  pub folded_first : n < 1040 → v ≡ xor (d (2784 + n)) t → FoldedTo d q (n + 1) (set out n v)
+  folded_first l ev = record { long = length-set out n v ∙ F.long; first = λ i h m. go i h m (ℕ_discrete i n); last = λ i h m. absurd (omega arith) }
+    where
+      go : (i : ℕ) → i < n + 1 → i < 1040 → Dec (i ≡ n) → at (set out n v) i ≡ xor (d (2784 + i)) (taps q (2784 + i))
+      go i h m (yes e) = rw e (here ∙ ev ∙ ap (xor (d (2784 + n))) et)
+      go i h m (no ne) = there i ne ∙ F.first i (omega (arith, ne)) m
 
-    a_long : length a ≡ 1296
-    a_long = ap length ea ∙ over_length z 0 1040 (λ i. xor (at row (from + 2784 + i)) (taps q (2784 + i))) ∙ long
+  pub folded_last : 1040 ≤ n → v ≡ t → FoldedTo d q (n + 1) (set out n v)
+  folded_last l ev = record { long = length-set out n v ∙ F.long; first = λ i h m. there i (λ e. omega arith) ∙ F.first i (omega arith) m; last = λ i h m. go i h m (ℕ_discrete i n) }
+    where
+      go : (i : ℕ) → i < n + 1 → 1040 ≤ i → Dec (i ≡ n) → at (set out n v) i ≡ taps q (2784 + i)
+      go i h m (yes e) = rw e (here ∙ ev ∙ et)
+      go i h m (no ne) = there i ne ∙ F.last i (omega (arith, ne)) m
 
-    start : (i : ℕ) → i < 1040 → at out i ≡ xor (at row (from + (2784 + i))) (taps q (2784 + i))
-    start i l =
-        let e : from + 2784 + i ≡ from + (2784 + i) = omega arith in
-        let z0 : i ≡ 0 + i = omega arith in
-        ap (λ (o : List ℕ). at o i) eo ∙ over_front a 1040 256 (λ i. taps q (3824 + i)) i l ∙ ap (λ (o : List ℕ). at o i) ea ∙ ap (at (over z 0 1040 (λ i. xor (at row (from + 2784 + i)) (taps q (2784 + i))))) z0
-        ∙ over_in z 0 1040 (λ i. xor (at row (from + 2784 + i)) (taps q (2784 + i))) i l (omega arith) ∙ ap (λ (n : ℕ). xor (at row n) (taps q (2784 + i))) e
+pub quotient_end : (d : ℕ → ℕ) (q : List ℕ) (i : ℕ) → QuotientTo d i q → i ≤ 2784 → 2784 ≤ i → QuotientTo d 2784 q
+quotient_end d q i h l g = let e : i ≡ 2784 = omega arith in rw e at h
 
-    rest : (i : ℕ) → 1040 ≤ i → i < 1296 → at out i ≡ taps q (2784 + i)
-    rest i l m =
-        let e : i ≡ 1040 + (i - 1040) = omega arith in
-        let n : 3824 + (i - 1040) ≡ 2784 + i = omega arith in
-        ap (λ (o : List ℕ). at o i) eo ∙ ap (at (over a 1040 256 (λ i. taps q (3824 + i)))) e ∙ over_in a 1040 256 (λ i. taps q (3824 + i)) (i - 1040) (omega arith) (omega (arith, a_long)) ∙ ap (taps q) n
+pub add_next : (l p : List ℕ) (k v : ℕ) (o : List ℕ) → OverTo l 0 256 (λ k. xor (at l k) (at p k)) k o → k < 256 → length l ≡ 272 → v ≡ xor (at o k) (at p k) →
+    OverTo l 0 256 (λ k. xor (at l k) (at p k)) (k + 1) (set o k v)
+add_next l p k v o h lt long ev =
+    let e : 0 + k ≡ k = omega arith in
+    rw e at (over_next l 0 256 (λ k. xor (at l k) (at p k)) k v o h lt (omega arith) (ev ∙ ap (λ (x : ℕ). xor x (at p k)) (h.behind k (omega arith))))
+
+pub folded_all : (d : ℕ → ℕ) (q out : List ℕ) (n : ℕ) → 1296 ≤ n → FoldedTo d q n out → Folded d q out
+folded_all d q out n l F = record { first = λ i m. F.first i (omega arith) m; last = λ i h m. F.last i (omega arith) h }
 
 -- ---- all lanes
 
-module _ (row q z a out r o : List ℕ) (from : ℕ) (Q : QuotientTo (λ k. at row (from + k)) 2784 q) (long : length z ≡ 1296)
-    (ea : a ≡ over z 0 1040 (λ i. xor (at row (from + 2784 + i)) (taps q (2784 + i)))) (eo : out ≡ over a 1040 256 (λ i. taps q (3824 + i)))
-    (er : r ≡ row_divided out 0 65) (e : o ≡ over r 0 256 (λ i. xor (at r i) (at out (1040 + i)))) (small : (i : ℕ) → at row i < 256) where
-  d : ℕ → ℕ
-  d i = at row (from + i)
-
+module _ (d : ℕ → ℕ) (q out r p o : List ℕ) (Q : QuotientTo d 2784 q) (F : Folded d q out) (er : r ≡ row_divided out 0 65) (last : (i : ℕ) → i < 256 → at p i ≡ at out (1040 + i))
+    (e : o ≡ over r 0 256 (λ i. xor (at r i) (at p i))) (small : (i : ℕ) → d i < 256) where
   r_at : (c k : ℕ) → c < 17 → k < 16 → at r (16 * c + k) ≡ at (divided times_c 16 (at (generator_of 8 285 0 16)) (λ t. at out (16 * t + k)) 65) c
   unfolding row_divided
   r_at c k hc hk =
@@ -392,41 +418,50 @@ module _ (row q z a out r o : List ℕ) (from : ℕ) (Q : QuotientTo (λ k. at r
   r_length = ap length er ∙ registers_length (λ i. at out (0 + i)) 65
 
   o_length : length o ≡ 272
-  o_length = ap length e ∙ over_length r 0 256 (λ i. xor (at r i) (at out (1040 + i))) ∙ r_length
+  o_length = ap length e ∙ over_length r 0 256 (λ i. xor (at r i) (at p i)) ∙ r_length
 
-  in_parity : (c k : ℕ) → c < 16 → k < 16 → at o (16 * c + k) ≡ at (lane (λ i. at row (from + i)) 239 k) c
+  in_parity : (c k : ℕ) → c < 16 → k < 16 → at o (16 * c + k) ≡ at (lane d 239 k) c
   in_parity c k hc hk =
       let zero : 16 * c + k ≡ 0 + (16 * c + k) = omega arith in
       let up : 1040 + (16 * c + k) ≡ 16 * (65 + c) + k = omega arith in
-      let F = left_folded row q z a out from long ea eo in
-      ap (λ (l : List ℕ). at l (16 * c + k)) e ∙ ap (at (over r 0 256 (λ i. xor (at r i) (at out (1040 + i))))) zero
-      ∙ over_in r 0 256 (λ i. xor (at r i) (at out (1040 + i))) (16 * c + k) (omega arith) (omega (arith, r_length))
-      ∙ ap₂ xor (r_at c k (omega arith) hk) (ap (at out) up)
+      ap (λ (l : List ℕ). at l (16 * c + k)) e ∙ ap (at (over r 0 256 (λ i. xor (at r i) (at p i)))) zero
+      ∙ over_in r 0 256 (λ i. xor (at r i) (at p i)) (16 * c + k) (omega arith) (omega (arith, r_length))
+      ∙ ap₂ xor (r_at c k (omega arith) hk) (last (16 * c + k) (omega arith) ∙ ap (at out) up)
       ∙ sym (tabulate_at 16 (λ c. xor (at (divided times_c 16 (at (generator_of 8 285 0 16)) (λ t. at out (16 * t + k)) 65) c) (at out (16 * (65 + c) + k))) c 0 hc)
-      ∙ ap (λ (l : List ℕ). at l c) (lane_folded (λ i. at row (from + i)) q out Q F (λ i. small (from + i)) k hk)
+      ∙ ap (λ (l : List ℕ). at l c) (lane_folded d q out Q F small k hk)
 
   past_parity : (k : ℕ) → k < 16 → at o (16 * 16 + k) ≡ 0
   past_parity k hk =
-      ap (λ (l : List ℕ). at l (16 * 16 + k)) e ∙ over_behind r 0 256 (λ i. xor (at r i) (at out (1040 + i))) (16 * 16 + k) (omega arith) ∙ r_at 16 k (omega arith) hk ∙ lane_past (at out) 65 k
+      ap (λ (l : List ℕ). at l (16 * 16 + k)) e ∙ over_behind r 0 256 (λ i. xor (at r i) (at p i)) (16 * 16 + k) (omega arith) ∙ r_at 16 k (omega arith) hk ∙ lane_past (at out) 65 k
 
-  at_all : (c k : ℕ) → c < 17 → k < 16 → at o (16 * c + k) ≡ at (registers (λ i. at row (from + i)) 239) (16 * c + k)
+  at_all : (c k : ℕ) → c < 17 → k < 16 → at o (16 * c + k) ≡ at (registers d 239) (16 * c + k)
   at_all c k hc hk = go (dec_lt c 16)
     where
-      go : Dec (c < 16) → at o (16 * c + k) ≡ at (registers (λ i. at row (from + i)) 239) (16 * c + k)
-      go (yes h) = in_parity c k h hk ∙ sym (registers_at (λ i. at row (from + i)) 239 c k hc hk)
+      go : Dec (c < 16) → at o (16 * c + k) ≡ at (registers d 239) (16 * c + k)
+      go (yes h) = in_parity c k h hk ∙ sym (registers_at d 239 c k hc hk)
       go (no h) =
           let s : c ≡ 16 = omega arith in
-          rw s (past_parity k hk ∙ sym (registers_at (λ i. at row (from + i)) 239 16 k (omega arith) hk ∙ lane_past (λ i. at row (from + i)) 239 k))
+          rw s (past_parity k hk ∙ sym (registers_at d 239 16 k (omega arith) hk ∙ lane_past d 239 k))
 
-  pub row_folded : o ≡ row_divided row from 239
-  unfolding row_divided
+  pub row_folded : o ≡ registers d 239
   row_folded =
-      ext_get_or 0 o (registers (λ i. at row (from + i)) 239) (o_length ∙ sym (registers_length (λ i. at row (from + i)) 239))
+      ext_get_or 0 o (registers d 239) (o_length ∙ sym (registers_length d 239))
       (λ i l.
       let m : i < 272 = omega (arith, o_length) in
       let s : i ≡ 16 * (i / 16) + i % 16 = omega arith in
-      ap (at o) s ∙ at_all (i / 16) (i % 16) (omega arith) (omega arith) ∙ ap (at (registers (λ i. at row (from + i)) 239)) (sym s))
+      ap (at o) s ∙ at_all (i / 16) (i % 16) (omega arith) (omega arith) ∙ ap (at (registers d 239)) (sym s))
 
-pub remainders_are : (row r o : List ℕ) (from : ℕ) → r ≡ row_divided row from 239 → o ≡ over r 0 256 (λ i. xor (at r i) (at row (from + 3824 + i))) → o ≡ row_remainders row from
-unfolding row_remainders
-remainders_are row r o from er eo = rw (eo, er)
+pub remainders_are : (row a r p o : List ℕ) → ((i : ℕ) → i < 3824 → at a i ≡ at row i) → r ≡ registers (at a) 239 → ((i : ℕ) → i < 256 → at p i ≡ at row (3824 + i)) →
+    o ≡ over r 0 256 (λ i. xor (at r i) (at p i)) → o ≡ row_remainders row 0
+unfolding row_remainders row_divided
+remainders_are row a r p o front er parity eo =
+    let s : r ≡ registers (λ i. at row (0 + i)) 239 = er ∙ same_registers (at a) (λ i. at row (0 + i)) (λ i l. front i l ∙ ap (at row) (omega arith)) in
+    eo ∙ over_same r 0 256 _ _ (λ i l. ap (xor (at r i)) (parity i l ∙ ap (at row) (omega arith))) ∙ ap (λ (r : List ℕ). over r 0 256 (λ i. xor (at r i) (at row (0 + 3824 + i)))) s
+
+pub part_remainders : (part b : List ℕ) (from : ℕ) → ((i : ℕ) → i < 4080 → at part i ≡ at b (from + i)) → row_remainders part 0 ≡ row_remainders b from
+unfolding row_remainders row_divided
+part_remainders part b from h =
+    let s : registers (λ i. at part (0 + i)) 239 ≡ registers (λ i. at b (from + i)) 239 =
+    same_registers (λ i. at part (0 + i)) (λ i. at b (from + i)) (λ i l. ap (at part) (zero-add i) ∙ h i (omega arith)) in
+    over_same (registers (λ i. at part (0 + i)) 239) 0 256 _ _ (λ i l. ap (xor (at (registers (λ i. at part (0 + i)) 239) i)) (ap (at part) (omega arith) ∙ h (3824 + i) (omega arith) ∙ ap (at b) (omega arith)))
+    ∙ ap (λ (r : List ℕ). over r 0 256 (λ i. xor (at r i) (at b (from + 3824 + i)))) s

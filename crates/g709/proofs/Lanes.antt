@@ -1,6 +1,6 @@
 -- Division of sixteen words side by side: a step on all the registers is a step of each. Assumes nothing.
 use mathlib.Core.Path.{◌≡◌, refl, sym, ap, ap₂, ◌∙◌}
-use mathlib.Core.List.{List}
+use mathlib.Core.List.{List, [], ◌∷◌}
 use Prim.Native.Nat.{ℕ, zero, suc, ◌+◌, ◌*◌, ◌/◌, ◌%◌, ◌≤◌, ◌<◌}
 use native.Mathlib.Decide.{dec_lt}
 use native.Mathlib.Nat.{not-suc-le-zero}
@@ -13,6 +13,7 @@ use Rattle.fields.specs.Places.{at}
 use Rattle.words.specs.ReedSolomon.{generator_of, shifted_in, divided}
 use Rattle.fields.proofs.Places.Filling.{zeros_at, Filled, filled_end}
 use Rattle.words.proofs.Codes.Division.{divided_length}
+use Rattle.words.proofs.Codes.Packing.{divided_same}
 use Rattle.g709.specs.Steps.Registers.{registers, row_divided, leading, cell_stored, cells_stored}
 use Rattle.g709.proofs.ByteCode.{generator_c}
 use Rattle.g709.proofs.Overlays.{over_length, over_in, over_front, over_behind, OverTo, over_next, over_end}
@@ -35,10 +36,6 @@ cell_next l f n y j p v o h lt room ep ev = over_next l n 16 (new_cell l f n y) 
 pub cell_end : (l f : List ℕ) (n k y j : ℕ) (o : List ℕ) → n ≡ 16 * k → OverTo l n 16 (new_cell l f n y) j o → 16 ≤ j → o ≡ cell_stored l f k y
 unfolding cell_stored
 cell_end l f n k y j o e h le = over_end l n 16 (new_cell l f n y) j o h le ∙ rw e
-
-pub four_cells : (r f a b c d : List ℕ) (k y0 y1 y2 y3 : ℕ) → a ≡ cell_stored r f k y0 → b ≡ cell_stored a f (k + 1) y1 → c ≡ cell_stored b f (k + 2) y2 → d ≡ cell_stored c f (k + 3) y3 →
-    d ≡ cell_stored (cell_stored (cell_stored (cell_stored r f k y0) f (k + 1) y1) f (k + 2) y2) f (k + 3) y3
-four_cells r f a b c d k y0 y1 y2 y3 ea eb ec ed = rw (ed, ec, eb, ea)
 
 -- ---- all cells
 
@@ -66,14 +63,21 @@ module _ (r f : List ℕ) (long : length r ≡ 272) where
           (over_in (cells_stored r f n) (16 * n) 16 _ j hj (omega (arith, cells_length n))
           ∙ ap (λ (x : ℕ). xor x (times_c (at f j) (at (generator_of 8 285 0 16) (suc n)))) (cells_behind n (16 * n + 16 + j) (omega arith)))
 
--- the sixteen coefficients, written out
-pub all_cells : (r f g : List ℕ) (a b c d : List ℕ) → f ≡ g →
-    a ≡ cell_stored (cell_stored (cell_stored (cell_stored r f 0 59) f (0 + 1) 13) f (0 + 2) 104) f (0 + 3) 189 →
-    b ≡ cell_stored (cell_stored (cell_stored (cell_stored a f 4 68) f (4 + 1) 209) f (4 + 2) 30) f (4 + 3) 8 →
-    c ≡ cell_stored (cell_stored (cell_stored (cell_stored b f 8 163) f (8 + 1) 65) f (8 + 2) 41) f (8 + 3) 229 →
-    d ≡ cell_stored (cell_stored (cell_stored (cell_stored c f 12 98) f (12 + 1) 50) f (12 + 2) 36) f (12 + 3) 59 → d ≡ cells_stored r g 16
+pub no_cells : (r f : List ℕ) → r ≡ cells_stored r f 0
 unfolding cells_stored
-all_cells r f g a b c d e ea eb ec ed = rw (ed, ec, eb, ea, generator_c, e)
+no_cells r f = refl
+
+-- one cell more, with the coefficient of a list that has them all
+pub one_cell : (r f a b : List ℕ) (k : ℕ) → a ≡ cells_stored r f k →
+    b ≡ cell_stored a f k (at (59 ∷ 13 ∷ 104 ∷ 189 ∷ 68 ∷ 209 ∷ 30 ∷ 8 ∷ 163 ∷ 65 ∷ 41 ∷ 229 ∷ 98 ∷ 50 ∷ 36 ∷ 59 ∷ []) k) → b ≡ cells_stored r f (k + 1)
+unfolding cells_stored
+one_cell r f a b k ea eb =
+    let n : suc k ≡ k + 1 = omega arith in
+    let y : at (59 ∷ 13 ∷ 104 ∷ 189 ∷ 68 ∷ 209 ∷ 30 ∷ 8 ∷ 163 ∷ 65 ∷ 41 ∷ 229 ∷ 98 ∷ 50 ∷ 36 ∷ 59 ∷ []) k ≡ at (generator_of 8 285 0 16) (suc k) = sym (ap (λ (g : List ℕ). at g (suc k)) generator_c) in
+    eb ∙ ap₂ (λ (a : List ℕ) (y : ℕ). cell_stored a f k y) ea y ∙ ap (cells_stored r f) n
+
+pub of_leading : (r f g o : List ℕ) → f ≡ g → o ≡ cells_stored r f 16 → o ≡ cells_stored r g 16
+of_leading r f g o e h = h ∙ ap (λ (f : List ℕ). cells_stored r f 16) e
 
 -- ---- the registers
 
@@ -141,6 +145,14 @@ module _ (d : ℕ → ℕ) (s : ℕ) (row : List ℕ) (from : ℕ) (column : (k 
   registers_step =
       tabulate_is 272 _ (cells_stored R F 16) 0 (cells_length R F long 16)
       (λ i l. let e : i ≡ 16 * (i / 16) + i % 16 = omega arith in ap (at (cells_stored R F 16)) e ∙ new (i / 16) (i % 16) (omega arith) (omega arith))
+
+-- they are those of the bytes of 239 columns
+pub same_registers : (d e : ℕ → ℕ) → ((i : ℕ) → i < 3824 → d i ≡ e i) → registers d 239 ≡ registers e 239
+unfolding registers
+same_registers d e h =
+    tabulate_same 272 _ _ (λ i l.
+    ap (λ (c : List ℕ). at c (i / 16))
+    (divided_same times_c 16 (at (generator_of 8 285 0 16)) (λ t. d (16 * t + i % 16)) (λ t. e (16 * t + i % 16)) 239 (λ t b. h (16 * t + i % 16) (omega arith))))
 
 -- lists of zeros
 pub zeros_table : (n : ℕ) → replicate {A = ℕ} n 0 ≡ tabulate n (λ i. 0)

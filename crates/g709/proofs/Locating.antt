@@ -1,6 +1,6 @@
 -- Polynomials side by side: one is stored, and the places where it has roots are read from the columns of values. Assumes nothing.
 use mathlib.Core.Path.{◌≡◌, refl, sym, ap, ◌∙◌}
-use mathlib.Core.Bool.{Bool, true, false, cond}
+use mathlib.Core.Bool.{Bool, cond}
 use mathlib.Core.List.{List}
 use Prim.Native.Nat.{ℕ, suc, ◌+◌, ◌-◌, ◌*◌, ◌/◌, ◌%◌, ◌≤◌, ◌<◌, zero-le}
 use native.Mathlib.Decide.{ℕ_discrete}
@@ -23,10 +23,11 @@ use Rattle.decoding.specs.Steps.Annihilator.{Annihilates}
 use Rattle.decoding.specs.Steps.RootSearch.{kept}
 use Rattle.decoding.specs.Steps.ErrorValues.{Located}
 use Rattle.decoding.proofs.Algebra.Tables.{exponents_length}
+use Rattle.decoding.proofs.Steps.PowerTables.{keep_few}
 use Rattle.decoding.proofs.Steps.RootsFound.{kept_long, roots_none, roots_kept, roots_other}
 use Rattle.g709.specs.Steps.Restoring.{lane_of}
 use Rattle.g709.specs.Steps.RootColumns.{polynomial_of, value_at_power, column_values}
-use Rattle.g709.specs.Steps.Locating.{polynomial_stored, LocatorAt, LocatorsTo, LocatorSet, LocatorValues, PlacesTo, ValuesIf, LocatedIf}
+use Rattle.g709.specs.Steps.Locating.{polynomial_stored, LocatorAt, LocatorsTo, LocatorSet, LocatorValues, PlacesTo}
 
 -- ---- a polynomial is stored
 
@@ -109,9 +110,6 @@ locators_next rest terms next k hk L S = record { each = λ j h. go j h (ℕ_dis
 pub locators_end : (rest terms : List ℕ) (k : ℕ) → LocatorsTo rest k terms → 16 ≤ k → LocatorsTo rest 16 terms
 locators_end rest terms k L h = record { each = λ j b. L.each j (omega arith) }
 
-pub locators_long : (rest before terms : List ℕ) (k : ℕ) → LocatorSet rest k before terms → length terms ≡ 144
-locators_long rest before terms k S = S.long
-
 pub locator_values : (rest terms values : List ℕ) → LocatorsTo rest 16 terms → values ≡ column_values terms → LocatorValues rest values
 locator_values rest terms values L e = record { terms = terms; locators = L; values_are = e }
 
@@ -184,24 +182,20 @@ module _ (values : List ℕ) (k i : ℕ) (p : Places) (hk : k < 16) (P : Placing
 pub placing_end : (values : List ℕ) (k i : ℕ) (p : Places) → Placing values k i p → 255 ≤ i → PlacesTo values k 255 p.at p.count
 placing_end values k i p P h = let e : i ≡ 255 = omega (arith, P.most) in rw e at P.found
 
+pub root_kept : (p r : Places) (v i : ℕ) → v ≡ 0 → r ≡ kept i p → p.count ≤ 8 → (r ≡ cond (eqb v 0) (kept i p) p) × (r.count ≤ 8)
+root_kept p r v i e er few = (er ∙ sym (ap (λ (b : Bool). cond b (kept i p) p) (eq-eqb v 0 e)), keep_few i p r er few)
+
+pub root_not : (p : Places) (v i : ℕ) → (v ≡ 0 → ⊥) → p.count ≤ 8 → (p ≡ cond (eqb v 0) (kept i p) p) × (p.count ≤ 8)
+root_not p v i n few = (sym (ap (λ (b : Bool). cond b (kept i p) p) (ne_eqb v 0 n)), few)
+
 polynomial_long : (terms : List ℕ) (k : ℕ) → length (polynomial_of terms k) ≡ 9
 unfolding polynomial_of
 polynomial_long terms k = tabulate_length 9 _
 
-pub values_not : (s values : List ℕ) → ValuesIf false s values
-values_not s values = record { made = λ t. let z : ◌≡◌ {A = ℕ} 0 1 = ap (λ (b : Bool). cond b 1 0) t in absurd (omega arith) }
-
-pub values_made : (s values : List ℕ) → LocatorValues s values → ValuesIf true s values
-values_made s values L = record { made = λ t. L }
-
-pub located_if : (located : Bool) (s values t : List ℕ) (k : ℕ) → t ≡ lane_of s k → ValuesIf located s values → LocatedIf located values k t
-located_if located s values t k et made = record { made = λ b. (s, made.made b, et) }
-
-pub located : (es ls values t : List ℕ) (k : ℕ) (b : Bool) (places : List ℕ) (count : ℕ) → es ≡ powers_c → ls ≡ exponents_c → k < 16 → LocatedIf b values k t → b ≡ true →
+pub located : (es ls s values t : List ℕ) (k : ℕ) (places : List ℕ) (count : ℕ) → es ≡ powers_c → ls ≡ exponents_c → k < 16 → LocatorValues s values → t ≡ lane_of s k →
     PlacesTo values k 255 places count → Located es ls t 255 places count
-located es ls values t k b places count exp log hk I e P =
-    let L = (I.made e).1 in
-    rw ((I.made e).2, exp, log) (record {
+located es ls s values t k places count exp log hk L et P =
+    rw (et, exp, log) (record {
       polynomial = polynomial_of L.terms k;
       long = polynomial_long L.terms k;
       annihilates = L.locators.each k hk;

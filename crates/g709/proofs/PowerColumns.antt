@@ -1,14 +1,17 @@
 -- Sixteen polynomials side by side, evaluated at one power of a after another. Assumes nothing.
 use mathlib.Core.Path.{◌≡◌, refl, sym, subst, ap, ap₂, ◌∙◌}
-use mathlib.Core.List.{List}
+use mathlib.Core.Bool.{true}
+use mathlib.Core.List.{List, [], ◌∷◌}
 use Prim.Native.Nat.{ℕ, zero, suc, ◌+◌, ◌-◌, ◌*◌, ◌/◌, ◌%◌, ◌≤◌, ◌<◌}
 use native.Mathlib.Decide.{dec_lt}
 use native.Mathlib.Nat.{le_refl, mul_comm, not-suc-le-zero}
 use native.Mathlib.Omega.{arith}
-use lib.Dec.{lit<}
+use borrow.Author.Tests.{eqb-true}
+use lib.Dec.{eqb, lit<}
 use lib.ListN.{length, set}
 use Rattle.fields.specs.Elements.{xor, scale, doubled, power, times_c, powers_c, exponents_c}
-use Rattle.fields.specs.Places.{at, horner}
+use Rattle.fields.specs.Places.{at, every, horner}
+use Rattle.fields.proofs.Places.Tests.{every_at}
 use Rattle.fields.proofs.ByTables.{table_power_lem}
 use Rattle.fields.proofs.Instances.{field_c}
 use Rattle.fields.proofs.Lists.{tabulate_at, tabulate_is, tabulate_length, tabulate_lt}
@@ -21,7 +24,7 @@ use Rattle.g709.specs.Steps.Registers.{over}
 use Rattle.g709.specs.Steps.RootColumns.{polynomial_of, value_at_power, column_values}
 use Rattle.g709.specs.Steps.Evaluating.{ColumnBytes, column_scaled, columns_scaled, column_sum}
 use Rattle.g709.proofs.Overlays.{over_length, over_in, over_front, over_behind, OverTo, over_next, over_end}
-use Rattle.g709.proofs.Folds.{by, by_sum, iter_power}
+use Rattle.g709.proofs.Folds.{by, by_sum, iter_power, sum_of_first, sum_of_all}
 
 -- ---- a column
 
@@ -36,18 +39,28 @@ pub column_end : (l : List ℕ) (n d y j : ℕ) (o : List ℕ) → n ≡ 16 * d 
 unfolding column_scaled
 column_end l n d y j o e h le = over_end l n 16 (new_byte l n y) j o h le ∙ rw e
 
-pub four_columns : (t a b c o : List ℕ) (d y0 y1 y2 y3 : ℕ) → a ≡ column_scaled t d y0 → b ≡ column_scaled a (d + 1) y1 → c ≡ column_scaled b (d + 2) y2 → o ≡ column_scaled c (d + 3) y3 →
-    o ≡ column_scaled (column_scaled (column_scaled (column_scaled t d y0) (d + 1) y1) (d + 2) y2) (d + 3) y3
-four_columns t a b c o d y0 y1 y2 y3 ea eb ec eo = rw (eo, ec, eb, ea)
-
 pub values_end : (l t : List ℕ) (n e j : ℕ) (o : List ℕ) → n ≡ 16 * e → OverTo l n 16 (column_sum t) j o → 16 ≤ j → o ≡ over l (16 * e) 16 (column_sum t)
 values_end l t n e j o s h le = over_end l n 16 (column_sum t) j o h le ∙ rw s
 
 -- the eight powers, written out
-pub all_columns : (t a b : List ℕ) → a ≡ column_scaled (column_scaled (column_scaled (column_scaled t 0 29) (0 + 1) 128) (0 + 2) 64) (0 + 3) 32 →
-    b ≡ column_scaled (column_scaled (column_scaled (column_scaled a 4 16) (4 + 1) 8) (4 + 2) 4) (4 + 3) 2 → b ≡ columns_scaled t 8
-unfolding columns_scaled power doubled scale xor
-all_columns t a b ea eb = rw (eb, ea)
+eight_powers : every 8 (λ d. eqb (at (29 ∷ 128 ∷ 64 ∷ 32 ∷ 16 ∷ 8 ∷ 4 ∷ 2 ∷ []) d) (power 8 285 (8 - d))) ≡ true
+unfolding every power doubled scale xor
+eight_powers = refl
+
+pub one_column : (t a b : List ℕ) (d : ℕ) → d < 8 → a ≡ columns_scaled t d → b ≡ column_scaled a d (at (29 ∷ 128 ∷ 64 ∷ 32 ∷ 16 ∷ 8 ∷ 4 ∷ 2 ∷ []) d) → b ≡ columns_scaled t (d + 1)
+unfolding columns_scaled
+one_column t a b d h ea eb =
+    let n : suc d ≡ d + 1 = omega arith in
+    let y : at (29 ∷ 128 ∷ 64 ∷ 32 ∷ 16 ∷ 8 ∷ 4 ∷ 2 ∷ []) d ≡ power 8 285 (8 - d) = eqb-true _ _ (every_at 8 (λ d. eqb (at (29 ∷ 128 ∷ 64 ∷ 32 ∷ 16 ∷ 8 ∷ 4 ∷ 2 ∷ []) d) (power 8 285 (8 - d))) eight_powers d h) in
+    eb ∙ ap₂ (λ (a : List ℕ) (y : ℕ). column_scaled a d y) ea y ∙ ap (columns_scaled t) n
+
+pub no_columns : (t : List ℕ) → t ≡ columns_scaled t 0
+unfolding columns_scaled
+no_columns t = refl
+
+pub sum_of_columns : (t : List ℕ) (j n s : ℕ) → s ≡ sum_of_first (λ d. at t (j + 16 * d)) n → n ≤ 9 → 9 ≤ n → s ≡ column_sum t j
+unfolding column_sum
+sum_of_columns t j n s e l h = let q : n ≡ 9 = omega arith in e ∙ ap (sum_of_first (λ d. at t (j + 16 * d))) q ∙ sum_of_all (λ d. at t (j + 16 * d)) 8
 
 module _ (t : List ℕ) (long : length t ≡ 144) where
   scaled_length : (n : ℕ) → length (columns_scaled t n) ≡ 144

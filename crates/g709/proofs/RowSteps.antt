@@ -4,10 +4,18 @@ use mathlib.Core.Bool.{Bool, true, false, ◌&&◌}
 use mathlib.Core.List.{List, ◌++◌}
 use Prim.Native.Nat.{ℕ, suc, ◌+◌, ◌-◌, ◌*◌, ◌/◌, ◌%◌, ◌≤◌, ◌<◌}
 use native.Mathlib.Decide.{dec_lt}
+use native.Mathlib.Nat.{zero-add}
 use native.Mathlib.Omega.{arith}
 use borrow.Author.Tests.{eq-eqb, ne_eqb, eqb-true}
-use lib.Dec.{eqb}
-use lib.ListN.{length, set}
+use borrow.Rule.Slice.PartMut.{put_mid}
+use lib.Dec.{eqb, lit<}
+use lib.ListN.{length, take, drop, length-append, get_or-append}
+use Rattle.std.specs.Prelude.{nat_eq}
+use Rattle.std.specs.Cmp.Lexicographic.{pointwise, same_text, bytes_decides}
+use Rattle.std.proofs.lemmas.List.{get_or-drop, get_or-take, length-drop, length-take-le}
+use Rattle.words.specs.declared.Refusal.{Refusal}
+use Rattle.words.specs.declared.Refusal.TheVariants.{PayloadLength, BlockLength, BufferSize, NoCodeWord, Uncorrectable, WordLength, Symbol, RowLength}
+use Rattle.words.specs.Corrections.{number}
 use lib.Seq.{ext_get_or, get_or-append-add}
 use Rattle.fields.proofs.Lists.{tabulate_at, tabulate_is, tabulate_length}
 use Rattle.fields.specs.Places.{at, every}
@@ -20,18 +28,10 @@ use Rattle.fields.specs.Elements.{times_c}
 use Rattle.g709.specs.Rows.{byte_parity, byte_data, byte_word, block_of, payload_of_rows, is_written, received_bytes}
 use Rattle.g709.specs.Answers.{block_encoded, block_checked, block_extracted}
 use Rattle.g709.specs.Steps.Registers.{over, registers, row_divided, row_written, agree, row_agrees}
-use Rattle.g709.proofs.Overlays.{over_length, over_in, over_front, OverTo, over_next}
-use Rattle.g709.proofs.Lanes.{lane, registers_at}
+use Rattle.g709.proofs.Overlays.{over_length, over_in, over_front, over_is, part_at, part_length, part_written, part_copied}
+use Rattle.g709.proofs.Lanes.{lane, registers_at, registers_length, same_registers}
 use Rattle.g709.proofs.Folds.{parity_lane}
 use Rattle.g709.proofs.Rows.{row_to_word, own_words, row_begins, same_written, data_length, block_length}
-
--- ---- copies
-
-abbrev pub copied : List ℕ → ℕ → ℕ → ℕ
-copied bytes from i = at bytes (from + i)
-
-pub copy_next : (bytes l : List ℕ) (from b n i : ℕ) (o : List ℕ) → OverTo l b n (copied bytes from) i o → i < n → b + n ≤ length l → OverTo l b n (copied bytes from) (i + 1) (set o (b + i) (at bytes (from + i)))
-copy_next bytes l from b n i o h lt room = over_next l b n (copied bytes from) i _ o h lt (omega arith) refl
 
 -- ---- the registers are the parity
 
@@ -67,17 +67,44 @@ row_ends n p r i h l =
 
 -- ---- writing
 
-pub row_stored : (p o R a q : List ℕ) (r : ℕ) → R ≡ row_divided p (3824 * r) 239 → a ≡ over o (4080 * r) 3824 (λ i. at p (3824 * r + i)) → q ≡ over a (4080 * r + 3824) 256 (λ i. at R (0 + i)) → q ≡ row_written p r o
-unfolding row_written
-row_stored p o R a q r er ea eq = rw (eq, ea, er)
+pub row_stored : (p o R x y : List ℕ) (k : ℕ) → length p ≡ 3824 → length o ≡ 4080 → R ≡ registers (at p) 239 → x ≡ p → y ≡ take 256 R → k ≡ 256 → put_mid 3824 k (x ++ drop 3824 o) y ≡ row_written p 0 o
+unfolding row_written row_divided
+row_stored p o R x y k long room er ex ey ek =
+    part_copied (x ++ drop 3824 o) 3824 256 k y R 0 256 ey ek refl (omega (arith, R_long)) (omega (arith, a_long))
+    ∙ ap (λ (a : List ℕ). over a 3824 256 (λ i. at R (0 + i))) front
+    ∙ ap (λ (R : List ℕ). over (over o 0 3824 (λ i. at p (0 + i))) 3824 256 (λ i. at R (0 + i)))
+    (er ∙ same_registers (at p) (λ i. at p (0 + i)) (λ i l. ap (at p) (sym (zero-add i))))
+  where
+    R_long : length R ≡ 272
+    R_long = ap length er ∙ registers_length (at p) 239
+
+    x_long : length x ≡ 3824
+    x_long = ap length ex ∙ long
+
+    a_long : length (x ++ drop 3824 o) ≡ 4080
+    a_long = length-append x (drop 3824 o) ∙ omega (arith, x_long, length-drop 3824 o)
+
+    front : x ++ drop 3824 o ≡ over o 0 3824 (λ i. at p (0 + i))
+    front =
+        over_is o 0 3824 (λ i. at p (0 + i)) (x ++ drop 3824 o) (a_long ∙ sym room)
+        (λ i l. get_or-append x (drop 3824 o) 0 (0 + i) (omega (arith, x_long)) ∙ ap (λ (x : List ℕ). at x (0 + i)) ex)
+        (λ i l. absurd (omega arith))
+        (λ i l.
+        let e : i ≡ length x + (i - 3824) = omega (arith, x_long) in
+        let f : 3824 + (i - 3824) ≡ i = omega arith in
+        ap (at (x ++ drop 3824 o)) e ∙ get_or-append-add x (drop 3824 o) (i - 3824) 0 ∙ get_or-drop 3824 o (i - 3824) 0 ∙ ap (at o) f)
+
+-- the parity among the registers, and its room in the row
+pub parity_long : (d : ℕ → ℕ) (R : List ℕ) → R ≡ registers d 239 → 256 ≡ length (take 256 R)
+parity_long d R e = let l : length R ≡ 272 = ap length e ∙ registers_length d 239 in sym (length-take-le 256 R (omega arith))
+
+pub parity_room : (d : ℕ → ℕ) (R x o : List ℕ) → R ≡ registers d 239 → length x ≡ length (take 3824 o) → length o ≡ 4080 → length (take 256 (drop 3824 (x ++ drop 3824 o))) ≡ length (take 256 R)
+parity_room d R x o e long room =
+    part_length 256 3824 (x ++ drop 3824 o) (omega (arith, length-append x (drop 3824 o), long, length-take-le 3824 o (omega arith), length-drop 3824 o)) ∙ parity_long d R e
 
 written_length : (p o : List ℕ) (r : ℕ) → length (row_written p r o) ≡ length o
 unfolding row_written
 written_length p o r = over_length _ (4080 * r + 3824) 256 _ ∙ over_length o (4080 * r) 3824 _
-
-written_front : (p o : List ℕ) (r i : ℕ) → i < 4080 * r → at (row_written p r o) i ≡ at o i
-unfolding row_written
-written_front p o r i h = over_front _ (4080 * r + 3824) 256 _ i (omega arith) ∙ over_front o (4080 * r) 3824 _ i h
 
 written_data : (p o : List ℕ) (r j : ℕ) → 4080 * r + 4080 ≤ length o → j < 3824 → at (row_written p r o) (4080 * r + j) ≡ at p (3824 * r + j)
 unfolding row_written
@@ -91,16 +118,22 @@ written_parity p o r i room h =
     ∙ over_in (over o (4080 * r) 3824 (λ i. at p (3824 * r + i))) (4080 * r + 3824) 256 (λ i. at (row_divided p (3824 * r) 239) (0 + i)) i h (omega (arith, over_length o (4080 * r) 3824 (λ i. at p (3824 * r + i))))
     ∙ ap (at (row_divided p (3824 * r) 239)) (omega arith)
 
-written_row : (n : ℕ) (p o : List ℕ) (r j : ℕ) → r < n → length o ≡ 4080 * n → j < 4080 → at (row_written p r o) (4080 * r + j) ≡ at (block_of n p) (4080 * r + j)
-written_row n p o r j h long l = go (dec_lt j 3824)
+-- a row written by itself
+part_written_row : (n : ℕ) (p part mid : List ℕ) (r j : ℕ) → r < n → length mid ≡ 4080 → ((i : ℕ) → i < 3824 → at part i ≡ at p (3824 * r + i)) → j < 4080 →
+    at (row_written part 0 mid) j ≡ at (block_of n p) (4080 * r + j)
+unfolding row_divided
+part_written_row n p part mid r j h long same l = go (dec_lt j 3824)
   where
-    go : Dec (j < 3824) → at (row_written p r o) (4080 * r + j) ≡ at (block_of n p) (4080 * r + j)
-    go (yes k) = written_data p o r j (omega arith) k ∙ sym (row_begins n p r j h k)
+    go : Dec (j < 3824) → at (row_written part 0 mid) j ≡ at (block_of n p) (4080 * r + j)
+    go (yes k) =
+        let e : j ≡ 4080 * 0 + j = omega arith in
+        ap (at (row_written part 0 mid)) e ∙ written_data part mid 0 j (omega arith) k ∙ ap (at part) (omega arith) ∙ same j k ∙ sym (row_begins n p r j h k)
     go (no k) =
-        let e : j ≡ 3824 + (j - 3824) = omega arith in
-        ap (λ (j : ℕ). at (row_written p r o) (4080 * r + j)) e
-        ∙ written_parity p o r (j - 3824) (omega arith) (omega arith) ∙ sym (row_ends n p r (j - 3824) h (omega arith))
-        ∙ ap (λ (j : ℕ). at (block_of n p) (4080 * r + j)) (sym e)
+        let e : j ≡ 4080 * 0 + (3824 + (j - 3824)) = omega arith in
+        let f : 3824 + (j - 3824) ≡ j = omega arith in
+        ap (at (row_written part 0 mid)) e ∙ written_parity part mid 0 (j - 3824) (omega arith) (omega arith)
+        ∙ ap (λ (c : List ℕ). at c (j - 3824)) (same_registers (λ i. at part (3824 * 0 + i)) (λ i. at p (3824 * r + i)) (λ i m. ap (at part) (omega arith) ∙ same i m))
+        ∙ sym (row_ends n p r (j - 3824) h (omega arith)) ∙ ap (λ (j : ℕ). at (block_of n p) (4080 * r + j)) f
 
 pub record RowsTo (n : ℕ) (p : List ℕ) (r : ℕ) (o : List ℕ) : Type 0 where
   pub within : r ≤ n
@@ -110,25 +143,47 @@ pub record RowsTo (n : ℕ) (p : List ℕ) (r : ℕ) (o : List ℕ) : Type 0 whe
 pub rows_start : (n : ℕ) (p o : List ℕ) → length o ≡ 4080 * n → RowsTo n p 0 o
 rows_start n p o e = record { within = omega arith; long = e; done = λ i l. absurd (omega arith) }
 
-pub rows_next : (n : ℕ) (p o q : List ℕ) (r : ℕ) → RowsTo n p r o → r < n → q ≡ row_written p r o → RowsTo n p (r + 1) q
-rows_next n p o q r h l e =
-    record { within = omega arith; long = ap length e ∙ written_length p o r ∙ h.long; done = λ i b. ap (λ (q : List ℕ). at q i) e ∙ go i b (dec_lt i (4080 * r)) }
+pub rows_next : (n : ℕ) (p o part x : List ℕ) (r k h : ℕ) → RowsTo n p r o → r < n → length p ≡ 3824 * n → k ≡ 4080 → h ≡ 3824 → part ≡ take h (drop (3824 * r) p) →
+    x ≡ row_written part 0 (take k (drop (4080 * r) o)) → RowsTo n p (r + 1) (put_mid (4080 * r) k o x)
+rows_next n p o part x r k h S l long ek eh ep ex =
+    record { within = omega arith; long = ap length e ∙ over_length o (4080 * r) 4080 (at x) ∙ S.long; done = λ i b. ap (λ (q : List ℕ). at q i) e ∙ go i b (dec_lt i (4080 * r)) }
   where
-    go : (i : ℕ) → i < 4080 * (r + 1) → Dec (i < 4080 * r) → at (row_written p r o) i ≡ at (block_of n p) i
-    go i b (yes k) = written_front p o r i k ∙ h.done i k
-    go i b (no k) =
-        let e : 4080 * r + (i - 4080 * r) ≡ i = omega arith in
-        ap (at (row_written p r o)) (sym e) ∙ written_row n p o r (i - 4080 * r) l h.long (omega arith) ∙ ap (at (block_of n p)) e
+    mid : length (take k (drop (4080 * r) o)) ≡ 4080
+    mid = ap (λ (k : ℕ). length (take k (drop (4080 * r) o))) ek ∙ part_length 4080 (4080 * r) o (omega (arith, S.long))
+
+    x_long : length x ≡ 4080
+    x_long = ap length ex ∙ written_length part (take k (drop (4080 * r) o)) 0 ∙ mid
+
+    e : put_mid (4080 * r) k o x ≡ over o (4080 * r) 4080 (at x)
+    e = ap (λ (k : ℕ). put_mid (4080 * r) k o x) ek ∙ part_written o (4080 * r) 4080 x x_long (omega (arith, S.long))
+
+    same : (i : ℕ) → i < 3824 → at part i ≡ at p (3824 * r + i)
+    same i m = ap (λ (q : List ℕ). at q i) ep ∙ part_at h (3824 * r) p i (omega arith)
+
+    go : (i : ℕ) → i < 4080 * (r + 1) → Dec (i < 4080 * r) → at (over o (4080 * r) 4080 (at x)) i ≡ at (block_of n p) i
+    go i b (yes m) = over_front o (4080 * r) 4080 (at x) i m ∙ S.done i m
+    go i b (no m) =
+        let q : 4080 * r + (i - 4080 * r) ≡ i = omega arith in
+        ap (at (over o (4080 * r) 4080 (at x))) (sym q) ∙ over_in o (4080 * r) 4080 (at x) (i - 4080 * r) (omega arith) (omega (arith, S.long))
+        ∙ ap (λ (q : List ℕ). at q (i - 4080 * r)) ex ∙ part_written_row n p part (take k (drop (4080 * r) o)) r (i - 4080 * r) l mid same (omega arith) ∙ ap (at (block_of n p)) q
 
 block_long_lem : (n : ℕ) (p : List ℕ) → length (block_of n p) ≡ 4080 * n
 unfolding block_of
 block_long_lem n p = block_length n _
 
-pub rows_payload : (n : ℕ) (p o : List ℕ) (r : ℕ) → RowsTo n p r o → r < n → n ≤ 4 → length p ≡ 3824 * n → (r < 4) × (3824 * r + 3824 ≤ length p) × (4080 * r + 4080 ≤ length o)
-rows_payload n p o r h l f e = (omega arith, omega arith, omega (arith, h.long))
-
 pub rows_end : (n : ℕ) (p o : List ℕ) (r : ℕ) → RowsTo n p r o → n ≤ r → o ≡ block_of n p
 rows_end n p o r h l = ext_get_or 0 o (block_of n p) (h.long ∙ sym (block_long_lem n p)) (λ i b. h.done i (omega (arith, h.long, h.within)))
+
+-- each refusal has a number above 0
+pub numbered : (r : Refusal) → 0 < number r
+numbered PayloadLength = lit< tt
+numbered BlockLength = lit< tt
+numbered BufferSize = lit< tt
+numbered NoCodeWord = lit< tt
+numbered Uncorrectable = lit< tt
+numbered WordLength = lit< tt
+numbered Symbol = lit< tt
+numbered RowLength = lit< tt
 
 -- ---- the encoder's answers
 
@@ -146,45 +201,45 @@ encoded_all n long p o q e f g = rw (eq-eqb (length p) (3824 * n) e, eq-eqb (len
 
 -- ---- testing
 
-pub difference_none : (d x y : ℕ) → x ≡ y → eqb d 0 ≡ eqb d 0 && eqb x y
-difference_none d x y e = go (eqb d 0) (eqb x y) (eq-eqb x y e)
+-- the comparison of parts
+pub compared : (p a row : List ℕ) (t : Bool) → length row ≡ 4080 → ((i : ℕ) → i < 3824 → at p i ≡ at row i) → a ≡ registers (at p) 239 → t ≡ pointwise nat_eq (take 256 a) (take 256 (drop 3824 row)) →
+    t ≡ row_agrees row 0
+unfolding row_agrees agree row_divided
+compared p a row t long same ea et = et ∙ tests_agree _ _ there back ∙ ap (λ (a : List ℕ). every 256 (λ i. eqb (at a i) (at row (3824 + i)))) e
   where
-    go : (a b : Bool) → b ≡ true → a ≡ a && b
-    go true b t = sym t
-    go false b t = refl
+    e : a ≡ registers (λ i. at row (0 + i)) 239
+    e = ea ∙ same_registers (at p) (λ i. at row (0 + i)) (λ i l. same i l ∙ ap (at row) (sym (zero-add i)))
 
-pub difference_some : (d x y : ℕ) → (x ≡ y → ⊥) → eqb 1 0 ≡ eqb d 0 && eqb x y
-difference_some d x y ne = go (eqb d 0) (eqb x y) (ne_eqb x y ne)
-  where
-    go : (a b : Bool) → b ≡ false → false ≡ a && b
-    go true b f = sym f
-    go false b f = refl
+    a_long : length a ≡ 272
+    a_long = ap length ea ∙ registers_length (at p) 239
 
-pub agree_start : (a b : List ℕ) (from : ℕ) → eqb 0 0 ≡ agree a b from 0
-unfolding agree every
-agree_start a b from = refl
+    there : pointwise nat_eq (take 256 a) (take 256 (drop 3824 row)) ≡ true → every 256 (λ i. eqb (at a i) (at row (3824 + i))) ≡ true
+    there h =
+        every_true 256 _ (λ i l.
+        eq-eqb _ (at row (3824 + i)) (sym (get_or-take 256 a i 0 l) ∙ ap (λ (q : List ℕ). at q i) (same_text (take 256 a) (take 256 (drop 3824 row)) (sym h)) ∙ part_at 256 3824 row i l))
 
-agree_step : (a b : List ℕ) (from i : ℕ) → agree a b from (suc i) ≡ agree a b from i && eqb (at a i) (at b (from + i))
-unfolding agree every
-agree_step a b from i = refl
+    back : every 256 (λ i. eqb (at a i) (at row (3824 + i))) ≡ true → pointwise nat_eq (take 256 a) (take 256 (drop 3824 row)) ≡ true
+    back h =
+        let la : length (take 256 a) ≡ 256 = length-take-le 256 a (omega (arith, a_long)) in
+        let lr : length (take 256 (drop 3824 row)) ≡ 256 = part_length 256 3824 row (omega arith) in
+        (bytes_decides (take 256 a) (take 256 (drop 3824 row))).1
+        (ext_get_or 0 (take 256 a) (take 256 (drop 3824 row)) (la ∙ sym lr) (λ i l.
+        let m : i < 256 = omega arith in
+        get_or-take 256 a i 0 m ∙ eqb-true _ _ (every_at 256 (λ i. eqb (at a i) (at row (3824 + i))) h i m) ∙ sym (part_at 256 3824 row i m)))
 
-pub agree_next : (a b : List ℕ) (from i d e : ℕ) → eqb d 0 ≡ agree a b from i → eqb e 0 ≡ eqb d 0 && eqb (at a i) (at b (from + i)) → eqb e 0 ≡ agree a b from (i + 1)
-agree_next a b from i d e h g =
-    let n : suc i ≡ i + 1 = omega arith in
-    g ∙ ap (λ (t : Bool). t && eqb (at a i) (at b (from + i))) h ∙ sym (agree_step a b from i) ∙ ap (agree a b from) n
+every_same : (n : ℕ) (f g : ℕ → Bool) → ((i : ℕ) → i < n → f i ≡ g i) → every n f ≡ every n g
+every_same n f g h = tests_agree _ _ (λ t. every_true n g (λ i l. sym (h i l) ∙ every_at n f t i l)) (λ t. every_true n f (λ i l. h i l ∙ every_at n g t i l))
 
-pub agree_end : (a b : List ℕ) (from i n d : ℕ) → eqb d 0 ≡ agree a b from i → i ≤ n → n ≤ i → eqb d 0 ≡ agree a b from n
-agree_end a b from i n d h l g = let e : i ≡ n = omega arith in h ∙ ap (agree a b from) e
-
-pub row_agrees_lem : (b r : List ℕ) (k : ℕ) (t : Bool) → r ≡ row_divided b (4080 * k) 239 → t ≡ agree r b (4080 * k + 3824) 256 → t ≡ row_agrees b k
-unfolding row_agrees
-row_agrees_lem b r k t e h = h ∙ ap (λ (r : List ℕ). agree r b (4080 * k + 3824) 256) e
-
-pub both_all : (x y : Bool) → x ≡ true → y ≡ x && y
-both_all x y e = rw e
-
-pub both_none : (x y : Bool) → x ≡ false → false ≡ x && y
-both_none x y e = rw e
+pub part_agrees : (b part : List ℕ) (r k : ℕ) (t : Bool) → k ≡ 4080 → part ≡ take k (drop (4080 * r) b) → t ≡ row_agrees part 0 → t ≡ row_agrees b r
+unfolding row_agrees agree row_divided
+part_agrees b part r k t n e et =
+    let same : (i : ℕ) → i < 4080 → at part i ≡ at b (4080 * r + i) = λ i l. ap (λ (p : List ℕ). at p i) e ∙ part_at k (4080 * r) b i (omega arith) in
+    let s : registers (λ i. at part (0 + i)) 239 ≡ registers (λ i. at b (4080 * r + i)) 239 =
+    same_registers (λ i. at part (0 + i)) (λ i. at b (4080 * r + i)) (λ i l. ap (at part) (zero-add i) ∙ same i (omega arith)) in
+    et
+    ∙ every_same 256 _ (λ i. eqb (at (registers (λ i. at part (0 + i)) 239) i) (at b (4080 * r + 3824 + i)))
+    (λ i l. ap (eqb (at (registers (λ i. at part (0 + i)) 239) i)) (same (3824 + i) (omega arith) ∙ ap (at b) (omega arith)))
+    ∙ ap (λ (a : List ℕ). every 256 (λ i. eqb (at a i) (at b (4080 * r + 3824 + i)))) s
 
 -- a block is written just where all rows agree
 payload_place_lem : (r j : ℕ) → j < 3824 → 4080 * ((3824 * r + j) / 3824) + (3824 * r + j) % 3824 ≡ 4080 * r + j
@@ -251,7 +306,7 @@ module _ (n : ℕ) (b : List ℕ) (long : length b ≡ 4080 * n) where
 unfoldable pub agree_up_to : List ℕ → ℕ → Bool
 agree_up_to b r = every r (row_agrees b)
 
-pub up_start : (b : List ℕ) → true ≡ agree_up_to b 0
+pub up_start : (b : List ℕ) → agree_up_to b 0 ≡ true
 unfolding agree_up_to every
 up_start b = refl
 
@@ -259,12 +314,19 @@ up_step : (b : List ℕ) (r : ℕ) → agree_up_to b (suc r) ≡ agree_up_to b r
 unfolding agree_up_to every
 up_step b r = refl
 
-pub up_next : (b : List ℕ) (r : ℕ) (s t u : Bool) → s ≡ agree_up_to b r → t ≡ row_agrees b r → u ≡ s && t → u ≡ agree_up_to b (r + 1)
-up_next b r s t u es et eu = let n : suc r ≡ r + 1 = omega arith in eu ∙ ap₂ ◌&&◌ es et ∙ sym (up_step b r) ∙ ap (agree_up_to b) n
+pub up_next : (b : List ℕ) (r : ℕ) (t : Bool) → agree_up_to b r ≡ true → t ≡ row_agrees b r → t ≡ true → agree_up_to b (r + 1) ≡ true
+up_next b r t es et h = let n : suc r ≡ r + 1 = omega arith in sym (ap (agree_up_to b) n) ∙ up_step b r ∙ ap₂ ◌&&◌ es (sym et ∙ h)
 
-pub up_end : (b : List ℕ) (n r : ℕ) (s : Bool) → length b ≡ 4080 * n → s ≡ agree_up_to b r → r ≤ n → n ≤ r → s ≡ is_written n b
+pub up_not : (b : List ℕ) (n r : ℕ) (t : Bool) → length b ≡ 4080 * n → r < n → t ≡ row_agrees b r → t ≡ false → false ≡ is_written n b
+up_not b n r t long l et h = go (every n (row_agrees b)) refl ∙ written_is n b long
+  where
+    go : (x : Bool) → every n (row_agrees b) ≡ x → false ≡ x
+    go false e = refl
+    go true e = sym h ∙ et ∙ every_at n (row_agrees b) e r l
+
+pub up_end : (b : List ℕ) (n r : ℕ) → length b ≡ 4080 * n → agree_up_to b r ≡ true → r ≤ n → n ≤ r → true ≡ is_written n b
 unfolding agree_up_to
-up_end b n r s long e l g = let q : r ≡ n = omega arith in e ∙ ap (λ (r : ℕ). every r (row_agrees b)) q ∙ written_is n b long
+up_end b n r long e l g = let q : r ≡ n = omega arith in sym e ∙ ap (λ (r : ℕ). every r (row_agrees b)) q ∙ written_is n b long
 
 pub checked_long : (n long : ℕ) (b : List ℕ) → (length b ≡ 4080 * n → ⊥) → long ≡ block_checked n long b
 unfolding block_checked
@@ -288,20 +350,20 @@ pub record DataTo (n : ℕ) (b : List ℕ) (r : ℕ) (o : List ℕ) : Type 0 whe
 pub data_start : (n : ℕ) (b o : List ℕ) → length o ≡ 3824 * n → DataTo n b 0 o
 data_start n b o e = record { within = omega arith; long = e; done = λ i l. absurd (omega arith) }
 
-pub data_room : (n : ℕ) (b o : List ℕ) (r : ℕ) → DataTo n b r o → r < n → length b ≡ 4080 * n → (4080 * r + 3824 ≤ length b) × (3824 * r + 3824 ≤ length o)
-data_room n b o r h l e = (omega arith, omega (arith, h.long))
-
-pub data_next : (n : ℕ) (b o q : List ℕ) (r : ℕ) → DataTo n b r o → r < n → length b ≡ 4080 * n → q ≡ over o (3824 * r) 3824 (λ i. at b (4080 * r + i)) → DataTo n b (r + 1) q
-data_next n b o q r h l long e =
-    record { within = omega arith; long = ap length e ∙ over_length o (3824 * r) 3824 _ ∙ h.long; done = λ i m. ap (λ (q : List ℕ). at q i) e ∙ go i m (dec_lt i (3824 * r)) }
+pub data_next : (n : ℕ) (b o p : List ℕ) (r k h : ℕ) → DataTo n b r o → r < n → length b ≡ 4080 * n → k ≡ 3824 → h ≡ 3824 → p ≡ take h (drop (4080 * r) b) → DataTo n b (r + 1) (put_mid (3824 * r) k o p)
+data_next n b o p r k h S l long ek eh ep =
+    record { within = omega arith; long = ap length e ∙ over_length o (3824 * r) 3824 _ ∙ S.long; done = λ i m. ap (λ (q : List ℕ). at q i) e ∙ go i m (dec_lt i (3824 * r)) }
   where
+    e : put_mid (3824 * r) k o p ≡ over o (3824 * r) 3824 (λ i. at b (4080 * r + i))
+    e = part_copied o (3824 * r) 3824 k p b (4080 * r) h ep ek eh (omega arith) (omega (arith, S.long))
+
     go : (i : ℕ) → i < 3824 * (r + 1) → Dec (i < 3824 * r) → at (over o (3824 * r) 3824 (λ i. at b (4080 * r + i))) i ≡ at (payload_of_rows n b) i
-    go i m (yes k) = over_front o (3824 * r) 3824 _ i k ∙ h.done i k
+    go i m (yes k) = over_front o (3824 * r) 3824 _ i k ∙ S.done i k
     go i m (no k) =
-        let e : 3824 * r + (i - 3824 * r) ≡ i = omega arith in
-        ap (at (over o (3824 * r) 3824 (λ i. at b (4080 * r + i)))) (sym e)
-        ∙ over_in o (3824 * r) 3824 (λ i. at b (4080 * r + i)) (i - 3824 * r) (omega arith) (omega (arith, h.long))
-        ∙ sym (payload_at n b long r (i - 3824 * r) l (omega arith)) ∙ ap (at (payload_of_rows n b)) e
+        let q : 3824 * r + (i - 3824 * r) ≡ i = omega arith in
+        ap (at (over o (3824 * r) 3824 (λ i. at b (4080 * r + i)))) (sym q)
+        ∙ over_in o (3824 * r) 3824 (λ i. at b (4080 * r + i)) (i - 3824 * r) (omega arith) (omega (arith, S.long))
+        ∙ sym (payload_at n b long r (i - 3824 * r) l (omega arith)) ∙ ap (at (payload_of_rows n b)) q
 
 payload_long_lem : (n : ℕ) (b : List ℕ) → length (payload_of_rows n b) ≡ 3824 * n
 unfolding payload_of_rows

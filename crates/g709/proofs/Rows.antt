@@ -13,9 +13,8 @@ use lib.ListN.{length, get_or, length-append, get_or-append}
 use Rattle.fields.specs.Lists.{tabulate}
 use Rattle.fields.proofs.Lists.{tabulate_at, tabulate_is, tabulate_length, tabulate_lt, tabulate_same, tabulate_append}
 use Rattle.fields.specs.Places.{at, all_below, sum_to, differs, apart}
-use Rattle.words.specs.Answers.{refusal_of, changed_of, found, corrected}
-use Rattle.words.specs.declared.Correction.{Correction}
-use Rattle.words.specs.declared.Correction.TheVariants.{Corrected, Refused}
+use Rattle.words.specs.Answers.{found, corrected}
+use Rattle.words.specs.Corrections.{Correction, Corrected, Refused, refusal_of, changed_of}
 use Rattle.fields.proofs.Places.Counting.{sum_same, apart_sum}
 use Rattle.fields.proofs.Places.Tests.{below_at, below_all}
 use Rattle.words.proofs.Codes.Nearest.{nearest_lost}

@@ -1,15 +1,16 @@
 -- A block is restored word by word in its copy. Assumes nothing.
 use mathlib.Core.Path.{◌≡◌, refl, sym, ap, ap₂, ◌∙◌}
-use mathlib.Core.Bool.{Bool, true, false, not, cond}
+use mathlib.Core.Bool.{Bool, true, false, cond}
 use mathlib.Core.List.{List, []}
 use mathlib.Core.Logic.{◌⊎◌, inl, inr}
 use mathlib.Core.Option.{Option, none, some}
 use Prim.Native.Nat.{ℕ, suc, ◌+◌, ◌*◌, ◌/◌, ◌%◌, ◌≤◌, ◌<◌}
 use native.Mathlib.Decide.{ℕ_discrete}
+use native.Mathlib.Nat.{zero-add}
 use native.Mathlib.Omega.{arith}
-use borrow.Author.Tests.{eq-eqb, ne_eqb, not-false, not-true}
+use borrow.Author.Tests.{eq-eqb, ne_eqb}
 use lib.Dec.{eqb, lit<}
-use lib.ListN.{length, get_or}
+use lib.ListN.{length, take, drop, get_or}
 use lib.Seq.{ext_get_or}
 use Rattle.fields.specs.Lists.{tabulate}
 use Rattle.fields.specs.Elements.{powers_c, exponents_c}
@@ -22,21 +23,23 @@ use Rattle.fields.proofs.Places.Tests.{below_at, below_all}
 use Rattle.decoding.specs.declared.error_values.Errors.{Errors}
 use Rattle.decoding.specs.Steps.ByTables.{root_value, root_values}
 use Rattle.decoding.specs.Steps.Decoder.{Decoded}
-use Rattle.words.specs.declared.Correction.{Correction}
-use Rattle.words.specs.declared.Correction.TheVariants.{Corrected, Refused}
-use Rattle.words.specs.Answers.{refusal_of, changed_of, found, corrected}
+use Rattle.words.specs.declared.Refusal.{Refusal}
+use Rattle.words.specs.Corrections.{Correction, Corrected, Refused, refusal_of, changed_of, refusal_number, correction_of}
+use Rattle.words.specs.Answers.{found, corrected}
+use Rattle.std.specs.Prelude.{Option as Answer, Some, None, is_some, Result, Ok, Err}
 use Rattle.words.specs.ReedSolomon.{value_at_root}
 use Rattle.words.specs.Nearest.{nearest, every_of}
 use Rattle.words.proofs.Codes.Options.{every_some, every_missing}
 use Rattle.words.proofs.Codes.ReedSolomon.{root_is, is_code_lem}
 use Rattle.g709.specs.Rows.{is_byte_word, block_of_words, received_bytes, bytes_restored, restored_block}
 use Rattle.g709.specs.Answers.{block_corrected, without_changes}
-use Rattle.g709.specs.Steps.Registers.{over, row_remainders}
+use Rattle.g709.specs.Steps.Registers.{row_remainders}
 use Rattle.g709.specs.Steps.ColumnSyndromes.{SyndromesTo, RowSyndromes}
-use Rattle.g709.specs.Steps.Restoring.{word_of, byte_place, lane_of, word_stored, word_corrected, WordErrors, Counted, alone, Remains, WordDone, RestoredTo, Restoring}
+use Rattle.g709.specs.Steps.Restoring.{word_of, byte_place, lane_of, word_stored, word_corrected, answer_of, count_found, WordErrors, alone, Remains, WordDone, RestoredTo, Restoring}
 use Rattle.g709.proofs.ByteCode.{byte_nearest}
 use Rattle.g709.proofs.Rows.{received_length, place_back, block_length, block_at, words_in_lem, apart_words}
-use Rattle.g709.proofs.Overlays.{over_length, over_in}
+use Rattle.g709.proofs.Overlays.{part_at}
+use Rattle.g709.proofs.Folds.{part_remainders}
 use Rattle.g709.proofs.Remainders.{word_remainder, lane_below}
 use Rattle.g709.proofs.ColumnSyndromes.{lane_syndromes}
 use Rattle.g709.proofs.Correcting.{place_lt, standing_there}
@@ -45,16 +48,6 @@ use Rattle.g709.proofs.Correcting.{place_lt, standing_there}
 
 one_not_other : {b : Bool} → b ≡ true → b ≡ false → ⊥
 one_not_other t f = let z : ◌≡◌ {A = ℕ} 1 0 = ap (λ (b : Bool). cond b 1 0) (sym t ∙ f) in omega arith
-
-pub counted_found : (changed : ℕ) (c : Correction) (n sum : ℕ) → c ≡ Corrected n → sum ≡ changed + n → Counted changed c true sum
-counted_found changed c n sum e s =
-    record { found = λ t. (n, e, s); lost = λ f. absurd (one_not_other refl f); most = let m : changed_of c ≡ n = ap changed_of e in omega arith }
-
-pub counted_fits : (changed : ℕ) (c : Correction) (n : ℕ) → c ≡ Corrected n → changed ≤ 512 → changed_of c ≤ 8 → changed + n < 65536
-counted_fits changed c n e l few = let m : changed_of c ≡ n = ap changed_of e in omega arith
-
-pub counted_lost : (changed : ℕ) (c : Correction) (n : ℕ) → c ≡ Refused n → Counted changed c false 0
-counted_lost changed c n e = record { found = λ t. absurd (one_not_other t refl); lost = λ f. (n, e); most = omega arith }
 
 -- ---- one word
 
@@ -65,13 +58,7 @@ corrected_refused n m e = let z : ◌≡◌ {A = ℕ} 1 0 = ap kind e in omega a
     kind (Corrected n) = 1
     kind (Refused n) = 0
 
-module _ (o : List ℕ) (w : ℕ) (reached : Bool) (changed : ℕ) where
-  -- a word before it had none
-  pub word_skipped : not reached ≡ true → WordDone o w reached changed o false 0
-  word_skipped n =
-      let f : reached ≡ false = not-true reached n in
-      record { long = refl; found = λ t. absurd (one_not_other t refl); lost = λ e. inl f }
-
+module _ (o : List ℕ) (w : ℕ) where
   stored_self : o ≡ word_stored o w (received_bytes o w)
   unfolding word_stored received_bytes
   stored_self = tabulate_is (length o) _ o 0 refl (λ i l. go i (ℕ_discrete (word_of i) w))
@@ -86,25 +73,22 @@ module _ (o : List ℕ) (w : ℕ) (reached : Bool) (changed : ℕ) where
       go i (yes e) = rw (eq-eqb (word_of i) w e) (ap (at o) (there i e) ∙ sym (tabulate_at 255 _ (byte_place i) 0 (place_lt i)))
       go i (no n) = rw (ne_eqb (word_of i) w n)
 
-  module _ (lane : List ℕ) (R : Remains reached lane (received_bytes o w)) (h : not reached ≡ false) where
-    so : reached ≡ true
-    so = not-false reached h
-
+  module _ (lane : List ℕ) (R : Remains true lane (received_bytes o w)) where
     -- syndromes of zeros: the word is a code word
     zero_values : all_below 1 lane ≡ true → (j : ℕ) → j < 16 → value_at_root 8 285 0 (received_bytes o w) j ≡ 0
     unfolding root_values
     zero_values z j l =
         let here : at lane j ≡ 0 = omega (arith, below_at 1 lane (lit< tt) z j) in
-        sym (root_is 8 285 field_c (received_bytes o w) (R.bytes so) j)
-        ∙ sym (ap (λ (v : List ℕ). at v j) (R.values so) ∙ tabulate_at 16 (root_value powers_c exponents_c (received_bytes o w)) j 0 l) ∙ here
+        sym (root_is 8 285 field_c (received_bytes o w) (R.bytes refl) j)
+        ∙ sym (ap (λ (v : List ℕ). at v j) (R.values refl) ∙ tabulate_at 16 (root_value powers_c exponents_c (received_bytes o w)) j 0 l) ∙ here
 
     itself : all_below 1 lane ≡ true → bytes_restored o w ≡ some (received_bytes o w)
     unfolding bytes_restored
     itself z =
         byte_nearest.complete (received_bytes o w) (received_bytes o w) (received_length o w) (received_length o w)
-        (is_code_lem 8 285 0 16 (received_bytes o w) (R.bytes so) (zero_values z)) (omega (arith, apart_self (received_bytes o w)))
+        (is_code_lem 8 285 0 16 (received_bytes o w) (R.bytes refl) (zero_values z)) (omega (arith, apart_self (received_bytes o w)))
 
-    word_clean : all_below 1 lane ≡ true → WordDone o w reached changed o reached changed
+    word_clean : all_below 1 lane ≡ true → WordDone o w true 0 o true 0
     word_clean z =
         record {
           long = refl;
@@ -112,45 +96,48 @@ module _ (o : List ℕ) (w : ℕ) (reached : Bool) (changed : ℕ) where
           lost = λ f. inl f;
         }
 
-  pub clean_word : (lane cells : List ℕ) (b : Bool) → Remains reached lane (received_bytes o w) → not reached ≡ false → cells ≡ lane → b ≡ all_below 1 cells → b ≡ true →
-      WordDone o w reached changed o reached changed
-  clean_word lane cells b R h e test z = word_clean lane R h (sym (ap (all_below 1) e) ∙ sym test ∙ z)
+  pub clean_word : (lane cells : List ℕ) (b : Bool) → Remains true lane (received_bytes o w) → cells ≡ lane → b ≡ all_below 1 cells → b ≡ true → WordDone o w true 0 o true 0
+  clean_word lane cells b R e test z = word_clean lane R (sym (ap (all_below 1) e) ∙ sym test ∙ z)
 
-  pub word_answered : (c : Correction) (next : List ℕ) (still : Bool) (sum : ℕ) → not reached ≡ false → (c, next) ≡ word_corrected o w → length next ≡ length o → Counted changed c still sum →
-      WordDone o w reached changed next still sum
+  pub word_answered : (c : Answer ℕ) (next : List ℕ) → (answer_of c, next) ≡ word_corrected o w → length next ≡ length o → WordDone o w true 0 next (is_some c) (count_found c)
   unfolding word_corrected found
-  word_answered c next still sum h e long C = go (bytes_restored o w) refl
+  word_answered (Some n) next e long = go (bytes_restored o w) refl
     where
-      go : (r : Option (List ℕ)) → bytes_restored o w ≡ r → WordDone o w reached changed next still sum
+      go : (r : Option (List ℕ)) → bytes_restored o w ≡ r → WordDone o w true 0 next true n
       go none q =
-          let a : ◌≡◌ {A = Correction × List ℕ} (c, next) (Refused 5, o) = e ∙ ap (found Refused (λ c. Corrected (apart (received_bytes o w) c)) (word_stored o w) o) q in
-          let refused : c ≡ Refused 5 = ap (λ (p : Correction × List ℕ). p.0) a in
-          record {
-            long = long;
-            found = λ t. absurd (corrected_refused (C.found t).0 5 (sym (C.found t).1 ∙ refused));
-            lost = λ f. inr q;
-          }
+          let a : ◌≡◌ {A = Correction × List ℕ} (Corrected n, next) (Refused 5, o) = e ∙ ap (found Refused (λ c. Corrected (apart (received_bytes o w) c)) (word_stored o w) o) q in
+          absurd (corrected_refused n 5 (ap (λ (p : Correction × List ℕ). p.0) a))
       go (some d) q =
-          let a : ◌≡◌ {A = Correction × List ℕ} (c, next) (Corrected (apart (received_bytes o w) d), word_stored o w d) =
+          let a : ◌≡◌ {A = Correction × List ℕ} (Corrected n, next) (Corrected (apart (received_bytes o w) d), word_stored o w d) =
           e ∙ ap (found Refused (λ c. Corrected (apart (received_bytes o w) c)) (word_stored o w) o) q in
-          let done : c ≡ Corrected (apart (received_bytes o w) d) = ap (λ (p : Correction × List ℕ). p.0) a in
           record {
             long = long;
-            found = λ t. let count : (C.found t).0 ≡ apart (received_bytes o w) d = ap changed_of (sym (C.found t).1 ∙ done) in
-                (d, not-false reached h, q, ap (λ (p : Correction × List ℕ). p.1) a, (C.found t).2 ∙ ap (λ (n : ℕ). changed + n) count);
-            lost = λ f. absurd (corrected_refused (apart (received_bytes o w) d) (C.lost f).0 (sym done ∙ (C.lost f).1));
+            found = λ t. (d, refl, q, ap (λ (p : Correction × List ℕ). p.1) a, ap (λ (p : Correction × List ℕ). changed_of p.0) a ∙ sym (zero-add _));
+            lost = λ f. absurd (one_not_other refl f);
           }
+  word_answered None next e long = go (bytes_restored o w) refl
+    where
+      go : (r : Option (List ℕ)) → bytes_restored o w ≡ r → WordDone o w true 0 next false 0
+      go none q = record { long = long; found = λ t. absurd (one_not_other t refl); lost = λ f. inr q }
+      go (some d) q =
+          let a : ◌≡◌ {A = Correction × List ℕ} (Refused 5, next) (Corrected (apart (received_bytes o w) d), word_stored o w d) =
+          e ∙ ap (found Refused (λ c. Corrected (apart (received_bytes o w) c)) (word_stored o w) o) q in
+          absurd (corrected_refused (apart (received_bytes o w) d) 5 (sym (ap (λ (p : Correction × List ℕ). p.0) a)))
+
+  -- the changes of a word join the count
+  counted_on : (changed n : ℕ) (next : List ℕ) → WordDone o w true 0 next true n → WordDone o w true changed next true (changed + n)
+  counted_on changed n next D =
+      record {
+        long = D.long;
+        found = λ t. let f = D.found t in (f.0, f.1, f.2, f.3, ap (λ (m : ℕ). changed + m) (f.4 ∙ zero-add _));
+        lost = D.lost;
+      }
 
 -- what the correction of a word asks for
-module _ (reached : Bool) (lane word : List ℕ) (R : Remains reached lane word) (h : not reached ≡ false) where
-  pub word_errors : (es ls t : List ℕ) (e : Errors) → t ≡ lane → es ≡ powers_c → ls ≡ exponents_c → Decoded es ls t 255 e.places.at e.values e.places.count e.left →
-      WordErrors word e
-  word_errors es ls t e et exp log D =
-      let same : t ≡ root_values powers_c exponents_c word = et ∙ R.values (not-false reached h) in
-      record { bytes = R.bytes (not-false reached h); decoded = rw (same, exp, log) at D }
-
-pub still_reached : (reached : Bool) → not reached ≡ false → reached ≡ true
-still_reached reached h = not-false reached h
+pub word_errors : (lane word t : List ℕ) (e : Errors) → Remains true lane word → t ≡ lane → Decoded powers_c exponents_c t 255 e.places.at e.values e.places.count e.left → WordErrors word e
+word_errors lane word t e R et D =
+    let same : t ≡ root_values powers_c exponents_c word = et ∙ R.values refl in
+    record { bytes = R.bytes refl; decoded = rw same at D }
 
 -- ---- all words before word w
 
@@ -177,6 +164,10 @@ row_syndromes b rest s r small e S =
     let S' : SyndromesTo (row_remainders b (4080 * r)) 16 s = rw e at S in
     record { each = λ k hk. lane_syndromes (row_remainders b (4080 * r)) s k hk (lane_below b r k small hk) S' ∙ lane_values b r k small hk }
 
+pub part_syndromes : (b part rest s : List ℕ) (r k : ℕ) → k ≡ 4080 → ((i : ℕ) → at b i < 256) → part ≡ take k (drop (4080 * r) b) → rest ≡ row_remainders part 0 → SyndromesTo rest 16 s → RowSyndromes b r s
+part_syndromes b part rest s r k n small e er S =
+    row_syndromes b rest s r small (er ∙ part_remainders part b (4080 * r) (λ i l. ap (λ (p : List ℕ). at p i) e ∙ part_at k (4080 * r) b i (omega arith))) S
+
 pub word_remains : (b o s : List ℕ) (r k : ℕ) (reached : Bool) (changed : ℕ) → ((i : ℕ) → at b i < 256) → RowSyndromes b r s → k < 16 → 4080 * r + 4080 ≤ length b →
     Restoring b (16 * r + k) o reached changed → Remains reached (lane_of s k) (received_bytes o (16 * r + k))
 word_remains b o s r k reached changed small Y hk room S =
@@ -195,10 +186,6 @@ alone_first r e = rw (eq-eqb r 0 e)
 pub alone_later : (r : ℕ) → (r ≡ 0 → ⊥) → 0 ≡ alone r
 unfolding alone
 alone_later r n = rw (ne_eqb r 0 n)
-
-pub restoring_room : (b o : List ℕ) (r w : ℕ) (reached : Bool) (changed : ℕ) → Restoring b w o reached changed → r < 4 → w ≤ 16 * r + 16 → 4080 * r + 4080 ≤ length b →
-    (4080 * r + 4080 ≤ length o) × (changed ≤ 512)
-restoring_room b o r w reached changed S four most room = (omega (arith, S.room), omega (arith, S.few))
 
 -- a step
 module _ (b o next : List ℕ) (w : ℕ) (reached still : Bool) (changed sum : ℕ) (room : 4080 * (w / 16) + 4080 ≤ length b) (S : Restoring b w o reached changed)
@@ -287,71 +274,58 @@ none_counted : (f : ℕ → ℕ) → 0 ≡ sum_to 0 f
 unfolding sum_to
 none_counted f = refl
 
-pub restoring_start : (b held o : List ℕ) (n : ℕ) → length b ≡ 4080 * n → n ≤ 4 → length held ≡ 16320 → o ≡ over held 0 (4080 * n) (λ i. at b (0 + i)) → Restoring b 0 o true 0
-restoring_start b held o n long most room e =
+pub restoring_start : (b o : List ℕ) → o ≡ b → Restoring b 0 o true 0
+restoring_start b o e =
     record {
-      room = omega (arith, ap length e ∙ over_length held 0 (4080 * n) (λ i. at b (0 + i)));
+      room = omega (arith, ap length e);
       few = omega arith;
       so_far = λ t. record {
         words = λ v. [];
         restored = λ v l. absurd (omega arith);
         done = λ i l h. absurd (omega arith);
-        rest = λ i l h. same i (omega arith);
+        rest = λ i l h. ap (λ (o : List ℕ). at o i) e;
         count = none_counted (λ v. apart (received_bytes b v) []);
       };
       lost = λ f. absurd (one_not_other refl f);
     }
-  where
-    zero_plus : (i : ℕ) → 0 + i ≡ i
-    zero_plus i = omega arith
 
-    same : (i : ℕ) → i < 4080 * n → at o i ≡ at b i
-    same i l =
-        ap (λ (o : List ℕ). at o i) e ∙ ap (at (over held 0 (4080 * n) (λ i. at b (0 + i)))) (sym (zero_plus i))
-        ∙ over_in held 0 (4080 * n) (λ i. at b (0 + i)) i l (omega arith) ∙ ap (at b) (zero_plus i)
-
--- the steps of a row, and of all rows
+-- the steps of a row
 at_word : (b o : List ℕ) (w v : ℕ) (reached : Bool) (changed : ℕ) → w ≡ v → Restoring b w o reached changed → Restoring b v o reached changed
 at_word b o w v reached changed e S = rw e at S
 
 module _ (b o : List ℕ) (r : ℕ) (reached : Bool) (changed : ℕ) where
-  -- a word before the row had none
-  pub row_skipped : not reached ≡ true → Restoring b (16 * r) o reached changed → Restoring b (16 * r + 16) o reached changed
-  row_skipped n S =
-      record {
-        room = S.room;
-        few = omega (arith, S.few);
-        so_far = λ t. absurd (one_not_other t (not-true reached n));
-        lost = λ f. let l = S.lost f in (l.0, omega (arith, l.1), l.2);
-      }
-
-  pub row_start : Restoring b (16 * r) o reached changed → Restoring b (16 * r + 0) o reached changed
-  row_start = at_word b o (16 * r) (16 * r + 0) reached changed (omega arith)
-
   pub row_step : (k : ℕ) (next : List ℕ) (still : Bool) (sum : ℕ) → k < 16 → 4080 * r + 4080 ≤ length b → Restoring b (16 * r + k) o reached changed →
       WordDone o (16 * r + k) reached changed next still sum → sum ≤ changed + 8 → Restoring b (16 * r + (k + 1)) next still sum
   row_step k next still sum hk room S D most =
       at_word b next (16 * r + k + 1) (16 * r + (k + 1)) still sum (omega arith) (restoring_next b o next (16 * r + k) reached still changed sum (omega arith) S D most)
 
-  -- the words that go by themselves
-  pub none_alone : (r ≡ 0 → ⊥) → Restoring b (16 * r) o reached changed → Restoring b (16 * r + alone r) o reached changed
-  none_alone n S = rw (← alone_later r n) (row_start S)
+-- a word that has no code word near it decides
+pub lost_on : (b o : List ℕ) (w v changed : ℕ) → w ≤ v → Restoring b w o false changed → Restoring b v o false 0
+lost_on b o w v changed h S =
+    record {
+      room = S.room;
+      few = omega arith;
+      so_far = λ t. absurd (one_not_other t refl);
+      lost = λ f. let l = S.lost f in (l.0, omega (arith, l.1), l.2);
+    }
 
-  pub one_alone : (next : List ℕ) (still : Bool) (sum : ℕ) → r ≡ 0 → 4080 * r + 4080 ≤ length b → Restoring b (16 * r) o reached changed →
-      WordDone o (16 * r + 0) reached changed next still sum → sum ≤ changed + 8 → Restoring b (16 * r + alone r) next still sum
-  one_alone next still sum e room S D most = rw (← alone_first r e) (row_step 0 next still sum (lit< tt) room (row_start S) D most)
+module _ (b o next : List ℕ) (r k changed : ℕ) (c : Answer ℕ) (hk : k < 16) (room : 4080 * r + 4080 ≤ length b) (S : Restoring b (16 * r + k) o true changed)
+    (D : WordDone o (16 * r + k) true 0 next (is_some c) (count_found c)) where
+  pub row_found : (n : ℕ) → c ≡ Some n → count_found c ≤ 8 → Restoring b (16 * r + (k + 1)) next true (changed + n)
+  row_found n e few =
+      let D' : WordDone o (16 * r + k) true 0 next true n = rw e at D in
+      let few' : n ≤ 8 = rw e at few in
+      row_step b o r true changed k next true (changed + n) hk room S (counted_on o (16 * r + k) changed n next D') (omega arith)
 
-  pub after_alone : (k : ℕ) → k ≡ alone r → Restoring b (16 * r + alone r) o reached changed → Restoring b (16 * r + k) o reached changed
-  after_alone k e S = rw e S
+  pub row_lost : (to : ℕ) (d : Answer ℕ) → d ≡ None → c ≡ None → k < to → Restoring b (16 * r + to) next (is_some d) (count_found d)
+  row_lost to d ed e h =
+      let D' : WordDone o (16 * r + k) true 0 next false 0 = rw e at D in
+      let D'' : WordDone o (16 * r + k) true changed next false 0 = record { long = D'.long; found = λ t. absurd (one_not_other t refl); lost = D'.lost } in
+      rw ed (lost_on b next (16 * r + (k + 1)) (16 * r + to) 0 (omega arith) (row_step b o r true changed k next false 0 hk room S D'' (omega arith)))
 
-  pub row_end : (k : ℕ) → k ≤ 16 → 16 ≤ k → Restoring b (16 * r + k) o reached changed → Restoring b (16 * r + 16) o reached changed
-  row_end k l h = at_word b o (16 * r + k) (16 * r + 16) reached changed (omega arith)
-
-  pub rows_step : Restoring b (16 * r + 16) o reached changed → Restoring b (16 * (r + 1)) o reached changed
-  rows_step = at_word b o (16 * r + 16) (16 * (r + 1)) reached changed (omega arith)
-
-  pub rows_end : (n : ℕ) → r ≤ n → n ≤ r → Restoring b (16 * r) o reached changed → Restoring b (16 * n) o reached changed
-  rows_end n l h = at_word b o (16 * r) (16 * n) reached changed (omega arith)
+-- an answer that is none stays so
+pub none_on : (b o : List ℕ) (w v : ℕ) (c d : Answer ℕ) → d ≡ None → c ≡ None → w ≤ v → Restoring b w o (is_some c) (count_found c) → Restoring b v o (is_some d) (count_found d)
+none_on b o w v c d ed e h S = let S' : Restoring b w o false 0 = rw e at S in rw ed (lost_on b o w v 0 h S')
 
 module _ (n : ℕ) (b : List ℕ) (long : length b ≡ 4080 * n) (o : List ℕ) (changed : ℕ) (S : Restoring b (16 * n) o true changed) where
   abbrev A : RestoredTo b (16 * n) o changed
@@ -386,20 +360,10 @@ module _ (n : ℕ) (b : List ℕ) (long : length b ≡ 4080 * n) (o : List ℕ) 
   count_is : changed ≡ apart b (block_of_words n ws)
   count_is = A.count ∙ sum_same (16 * n) _ _ (λ w l. ap (apart (received_bytes b w)) (sym (word_here w l))) ∙ sym (apart_words n b (block_of_words n ws) long)
 
-  restored_answer : (buffer out : List ℕ) → length buffer ≡ 4080 * n → out ≡ over buffer 0 (4080 * n) (λ i. at o (0 + i)) → (refusal : ℕ) →
-      ◌≡◌ {A = Correction × List ℕ} (Corrected changed, out) (block_corrected n refusal b buffer)
+  restored_answer : (buffer : List ℕ) → length buffer ≡ 4080 * n → length o ≡ 4080 * n → (refusal : ℕ) → ◌≡◌ {A = Correction × List ℕ} (Corrected changed, o) (block_corrected n refusal b buffer)
   unfolding block_corrected corrected restored_block found
-  restored_answer buffer out room e refusal =
-      rw (
-        eq-eqb (length b) (4080 * n) long,
-        eq-eqb (length buffer) (4080 * n) room,
-        all_there,
-        ← count_is,
-        is_block_lem out (ap length e ∙ over_length buffer 0 (4080 * n) (λ i. at o (0 + i)) ∙ room) (λ i l.
-            let z : 0 + i ≡ i = omega arith in
-            ap (λ (o : List ℕ). at o i) e ∙ ap (at (over buffer 0 (4080 * n) (λ i. at o (0 + i)))) (sym z)
-            ∙ over_in buffer 0 (4080 * n) (λ i. at o (0 + i)) i l (omega arith) ∙ ap (at o) z),
-      )
+  restored_answer buffer room full refusal =
+      rw (eq-eqb (length b) (4080 * n) long, eq-eqb (length buffer) (4080 * n) room, all_there, ← count_is, ← is_block_lem o full (λ i l. refl))
 
 lost_answer : (n : ℕ) (b o : List ℕ) (changed : ℕ) → length b ≡ 4080 * n → Restoring b (16 * n) o false changed → (buffer : List ℕ) → length buffer ≡ 4080 * n → (refusal : ℕ) →
     ◌≡◌ {A = Correction × List ℕ} (Refused 5, buffer) (block_corrected n refusal b buffer)
@@ -416,17 +380,23 @@ pub refused_space : (n refusal : ℕ) (b buffer : List ℕ) → length b ≡ 408
 unfolding block_corrected corrected
 refused_space n refusal b buffer e ne = rw (eq-eqb (length b) (4080 * n) e, ne_eqb (length buffer) (4080 * n) ne)
 
-module _ (n refusal : ℕ) (b buffer held : List ℕ) (reached : Bool) (changed : ℕ) (long : length b ≡ 4080 * n) (room : length buffer ≡ 4080 * n)
-    (S : Restoring b (16 * n) held reached changed) where
-  pub answer_restored : reached ≡ true → (out : List ℕ) → out ≡ over buffer 0 (4080 * n) (λ i. at held (0 + i)) →
-      ◌≡◌ {A = Correction × List ℕ} (Corrected changed, out) (block_corrected n refusal b buffer)
-  answer_restored t out e = restored_answer n b long held changed (rw t at S) buffer out room e refusal
+module _ (n refusal : ℕ) (b buffer held : List ℕ) (c : Answer ℕ) (long : length b ≡ 4080 * n) (room : length buffer ≡ 4080 * n)
+    (S : Restoring b (16 * n) held (is_some c) (count_found c)) where
+  pub answer_restored : (changed : ℕ) (out : List ℕ) → c ≡ Some changed → length out ≡ 4080 * n → out ≡ held → ◌≡◌ {A = Correction × List ℕ} (Corrected changed, out) (block_corrected n refusal b buffer)
+  answer_restored changed out t full e =
+      let S' : Restoring b (16 * n) held true changed = rw t at S in
+      let S'' : Restoring b (16 * n) out true changed = rw (← e) at S' in
+      restored_answer n b long out changed S'' buffer room full refusal
 
-  pub answer_lost : reached ≡ false → ◌≡◌ {A = Correction × List ℕ} (Refused 5, buffer) (block_corrected n refusal b buffer)
-  answer_lost f = lost_answer n b held changed long (rw f at S) buffer room refusal
+  pub answer_lost : c ≡ None → ◌≡◌ {A = Correction × List ℕ} (Refused 5, buffer) (block_corrected n refusal b buffer)
+  answer_lost f = let S' : Restoring b (16 * n) held false 0 = rw f at S in lost_answer n b held 0 long S' buffer room refusal
 
 -- ---- for the C host
 
-pub count_left_out : (a : Correction × List ℕ) (c : Correction) (out : List ℕ) (n : ℕ) → ◌≡◌ {A = Correction × List ℕ} (c, out) a → n ≡ refusal_of c → ◌≡◌ {A = ℕ × List ℕ} (n, out) (without_changes a)
+pub count_left_out : (a : Correction × List ℕ) (r : Result ℕ Refusal) (out : List ℕ) (n : ℕ) → ◌≡◌ {A = Correction × List ℕ} (correction_of r, out) a → n ≡ refusal_number r → ◌≡◌ {A = ℕ × List ℕ} (n, out) (without_changes a)
 unfolding without_changes
-count_left_out a c out n e h = rw (← e, h)
+count_left_out a r out n e h = rw (← e, h) (told r)
+  where
+    told : (r : Result ℕ Refusal) → ◌≡◌ {A = ℕ × List ℕ} (refusal_number r, out) (refusal_of (correction_of r), out)
+    told (Ok n) = refl
+    told (Err x) = refl

@@ -2,9 +2,8 @@
 -- the number of the refusal of a wrong length, which comes first.
 use Rattle.std.specs.Prelude.{List, ℕ, ◌*◌, eqb, length}
 use Rattle.fields.specs.Places.{apart}
-use Rattle.words.specs.declared.Correction.{Correction}
-use Rattle.words.specs.declared.Correction.TheVariants.{Corrected, Refused}
-use Rattle.words.specs.Answers.{unless, answered, found, corrected, refusal_of}
+use Rattle.words.specs.Corrections.{Correction, Corrected, Refused, refusal_of}
+use Rattle.words.specs.Answers.{unless, answered, found, corrected}
 use Rattle.g709.specs.Rows.{block_of, payload_of_rows, is_written, restored_block}
 
 -- encoder ("maker"): the payload's length, `long`; the size of the buffer, 3

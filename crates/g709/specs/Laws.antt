@@ -2,7 +2,7 @@
 use Rattle.std.specs.Prelude.{◌≡◌, true, false, List, [], ◌∷◌, ℕ, ◌+◌, ◌*◌, ◌/◌, ◌%◌, ◌≤◌, ◌<◌, length}
 use Rattle.fields.specs.Field.{Field, PinnedC}
 use Rattle.fields.specs.Places.{at, sum_to, apart}
-use Rattle.words.specs.declared.Correction.TheVariants.{Corrected, Refused}
+use Rattle.words.specs.Corrections.{Corrected, Refused}
 use Rattle.words.specs.ReedSolomon.{generator_of}
 use Rattle.words.specs.Codes.{ReedSolomon}
 use Rattle.g709.specs.Rows.{is_payload_of, is_block_of, is_byte_word, byte_word, block_of, payload_of_rows, is_written, received_bytes}

@@ -1,22 +1,16 @@
 // Bytes as elements of field C, and columns of sixteen of them, one for each word of a row: byte k of each column is lane k. What is done with a column is the same for all
 // words, so that it becomes operations on vectors of sixteen bytes.
-ghost use Rattle.std.specs.Prelude.{◌≡◌, ◌&&◌, ◌+◌, ◌%◌, ◌≤◌, ◌<◌, eqb, length};
-ghost use Rattle.fields.specs.Lists.{tabulate};
-ghost use Rattle.fields.specs.Elements.{xor, scale, doubled, times_c};
-ghost use Rattle.g709.specs.Steps.Registers.{agree};
+ghost use Rattle.std.specs.Prelude.{◌≡◌, ◌%◌, ◌<◌};
+ghost use Rattle.fields.specs.Elements.{scale, doubled, times_c};
 ghost use Rattle.g709.specs.Steps.Restoring.{lane_of};
 
 // Words in a row.
 pub(crate) const WORDS: usize = 16;
 
-// Sixteen columns, and one of zeros.
-pub(crate) const CELLS: usize = 272;
+// Bytes of sixteen columns, such as a row's parity; and of one more, of zeros.
+pub(crate) const PARITY: usize = 16 * WORDS;
 
-pub(crate) fn plus(x: u8, y: u8) -> u8
-    ensures { result ≡ xor x y }
-{
-    x ^ y
-}
+pub(crate) const CELLS: usize = 17 * WORDS;
 
 fn double(x: u8) -> u8
     ensures { result ≡ doubled 8 285 x }
@@ -36,35 +30,13 @@ pub(crate) fn product(x: u8, y: u8) -> u8
 {
     let mut a = x;
     let mut b = y;
-    let mut r: u8 = 0;
-    let mut i: usize = 0;
-    while i < 8 {
-        r = plus(r, part(a, b));
+    let mut r = 0;
+    for _i in 0..8_u8 {
+        r ^= part(a, b);
         a = double(a);
-        b = b / 2;
-        i += 1;
+        b /= 2;
     }
     r
-}
-
-// Columns of zeros.
-pub(crate) fn empty() -> [u8; CELLS]
-    ensures { (result ≡ tabulate 272 (λ i. 0)) × (length result ≡ 272) }
-{
-    [0; CELLS]
-}
-
-fn wide(x: u8) -> u16
-    ensures { result ≡ x }
-{
-    x as u16
-}
-
-pub(crate) fn narrow(x: u16) -> u8
-    requires { x < 256 }
-    ensures { result ≡ x }
-{
-    x as u8
 }
 
 // What sixteen columns hold of word k.
@@ -72,32 +44,9 @@ pub(crate) fn lane(columns: &[u8; CELLS], k: usize) -> [u16; WORDS]
     requires { k < 16 }
     ensures { result ≡ lane_of columns.now k }
 {
-    let mut cells = [0u16; WORDS];
-    let mut i: usize = 0;
-    while i < WORDS {
-        cells[i] = wide(columns[WORDS * i + k]);
-        i += 1;
+    let mut cells = [0; WORDS];
+    for i in 0..WORDS {
+        cells[i] = u16::from(columns[WORDS * i + k]);
     }
     cells
-}
-
-// d where x and y are equal, else 1.
-fn difference(d: u8, x: u8, y: u8) -> u8
-    ensures { eqb result 0 ≡ eqb d 0 && eqb x y }
-{
-    if x == y { d } else { 1 }
-}
-
-// The first n bytes of a are those of b from a place on.
-pub(crate) fn agree(a: &[u8], b: &[u8], from: usize, n: usize) -> bool
-    requires { (n ≤ length a.now) × (from + n ≤ length b.now) }
-    ensures { result ≡ agree a.now b.now from n }
-{
-    let mut d: u8 = 0;
-    let mut i: usize = 0;
-    while i < n {
-        d = difference(d, a[i], b[from + i]);
-        i += 1;
-    }
-    d == 0
 }

@@ -1,196 +1,147 @@
-// Division of the sixteen words of a row by the generator, a column at a step: cell i of the sixteen registers is a column. The generator's coefficients are written out, so
-// that a product is some of the eight doublings of a byte.
-ghost use Rattle.std.specs.Prelude.{◌≡◌, ◌+◌, ◌*◌, ◌≤◌, ◌<◌, length};
-ghost use Rattle.fields.specs.Lists.{tabulate};
+// Division of the sixteen words of a row by the generator, a column at a step: cell i of the sixteen registers is a column. A row's data is first folded to 81 columns, which
+// takes sums alone.
+ghost use Rattle.std.specs.Prelude.{◌≡◌, List, ℕ, ◌+◌, ◌≤◌, ◌<◌, length};
 ghost use Rattle.fields.specs.Elements.{xor};
 ghost use Rattle.fields.specs.Places.{at};
-ghost use Rattle.g709.specs.Steps.Registers.{over, row_divided, row_remainders, leading, cell_stored, cells_stored};
-ghost use Rattle.g709.specs.Steps.Folding.{taps, QuotientTo};
+ghost use Rattle.g709.specs.Steps.Registers.{over, registers, row_divided, row_remainders, leading, cell_stored, cells_stored};
+ghost use Rattle.g709.specs.Steps.Folding.{taps, QuotientTo, Folded};
 
-use crate::columns::{CELLS, WORDS, plus, product};
+use crate::columns::{CELLS, PARITY, WORDS, product};
 
-fn leading(r: &[u8; CELLS], row: &[u8], from: usize) -> [u8; WORDS]
-    requires { from + 16 ≤ length row.now }
-    ensures { result ≡ leading r.now row.now from }
+// Bytes of a row's data, and of a row.
+pub(crate) const DATA: usize = 239 * WORDS;
+
+pub(crate) const ROW: usize = 255 * WORDS;
+
+// The generator's coefficients below x^16, highest power first.
+const GENERATOR: [u8; 16] = [
+    59, 13, 104, 189, 68, 209, 30, 8, 163, 65, 41, 229, 98, 50, 36, 59,
+];
+
+fn leading(r: &[u8; CELLS], columns: &[u8; LEFT], from: usize) -> [u8; WORDS]
+    requires { from + 16 ≤ 1296 }
+    ensures { result ≡ leading r.now columns.now from }
 {
-    let mut f = [0u8; WORDS];
-    let mut k: usize = 0;
-    while k < WORDS {
-        f[k] = plus(r[k], row[from + k]);
-        k += 1;
+    let mut f = [0; WORDS];
+    for k in 0..WORDS {
+        f[k] = r[k] ^ columns[from + k];
     }
     f
 }
 
-// Stores cell k of the registers; y is the generator's coefficient.
-fn store(r: &mut [u8; CELLS], f: &[u8; WORDS], k: usize, y: u8)
-    requires { (k < 16) × (length r.old ≡ 272) }
-    ensures { (r.new ≡ cell_stored r.old f.now k y) × (length r.new ≡ 272) }
+// Stores cell k of the registers.
+fn store(r: &mut [u8; CELLS], f: &[u8; WORDS], k: usize)
+    requires { k < 16 }
+    ensures { r.new ≡ cell_stored r.old f.now k (at GENERATOR k) }
 {
     let n = WORDS * k;
-    let mut j: usize = 0;
-    while j < WORDS {
-        r[n + j] = plus(r[n + WORDS + j], product(f[j], y));
-        j += 1;
+    let y = GENERATOR[k];
+    for j in 0..WORDS {
+        r[n + j] = r[n + WORDS + j] ^ product(f[j], y);
     }
 }
 
-fn four(r: &mut [u8; CELLS], f: &[u8; WORDS], k: usize, y0: u8, y1: u8, y2: u8, y3: u8)
-    requires { (k < 13) × (length r.old ≡ 272) }
-    ensures { (r.new ≡ cell_stored (cell_stored (cell_stored (cell_stored r.old f.now k y0) f.now (k + 1) y1) f.now (k + 2) y2) f.now (k + 3) y3) × (length r.new ≡ 272) }
+// One column more. Written out, so that each product is a few doublings: with a loop a row's check takes 2.6 times as many instructions.
+fn step(r: &mut [u8; CELLS], columns: &[u8; LEFT], from: usize)
+    requires { from + 16 ≤ 1296 }
+    ensures { r.new ≡ cells_stored r.old (leading r.old columns.now from) 16 }
 {
-    store(r, f, k, y0);
-    store(r, f, k + 1, y1);
-    store(r, f, k + 2, y2);
-    store(r, f, k + 3, y3);
+    let f = leading(r, columns, from);
+    store(r, &f, 0);
+    store(r, &f, 1);
+    store(r, &f, 2);
+    store(r, &f, 3);
+    store(r, &f, 4);
+    store(r, &f, 5);
+    store(r, &f, 6);
+    store(r, &f, 7);
+    store(r, &f, 8);
+    store(r, &f, 9);
+    store(r, &f, 10);
+    store(r, &f, 11);
+    store(r, &f, 12);
+    store(r, &f, 13);
+    store(r, &f, 14);
+    store(r, &f, 15);
 }
 
-// One column more.
-fn step(r: &mut [u8; CELLS], row: &[u8], from: usize)
-    requires { (from + 16 ≤ length row.now) × (length r.old ≡ 272) }
-    ensures { (r.new ≡ cells_stored r.old (leading r.old row.now from) 16) × (length r.new ≡ 272) }
+// The registers after the first 65 of the columns.
+fn steps(columns: &[u8; LEFT]) -> [u8; CELLS]
+    ensures { result ≡ row_divided columns.now 0 65 }
 {
-    let f = leading(r, row, from);
-    four(r, &f, 0, 59, 13, 104, 189);
-    four(r, &f, 4, 68, 209, 30, 8);
-    four(r, &f, 8, 163, 65, 41, 229);
-    four(r, &f, 12, 98, 50, 36, 59);
-}
-
-// The registers after n columns from a place on.
-fn steps(row: &[u8], from: usize, n: usize, r: &mut [u8; CELLS])
-    requires { (from + 16 * n ≤ length row.now) × (r.old ≡ tabulate 272 (λ i. 0)) × (length r.old ≡ 272) }
-    ensures { (r.new ≡ row_divided row.now from n) × (length r.new ≡ 272) }
-{
-    let mut s: usize = 0;
-    while s < n {
-        step(r, row, from + WORDS * s);
-        s += 1;
+    let mut r = [0; CELLS];
+    for s in 0..65 {
+        step(&mut r, columns, WORDS * s);
     }
+    r
 }
 
-// A column for each of 81 zeros, of the quotient's 174, and of 81 zeros.
-const SPACE: usize = 5376;
+// The quotient by the polynomial of 22 terms has 174 columns, and 81 columns are left. Before and behind the quotient stand 81 columns of zeros.
+const QUOTIENT: usize = 174 * WORDS;
 
-// The 81 columns that a row is folded to.
-const LEFT: usize = 1296;
+const LEFT: usize = 81 * WORDS;
 
-fn space() -> [u8; SPACE]
-    ensures { (result ≡ tabulate 5376 (λ i. 0)) × (length result ≡ 5376) }
-{
-    [0; SPACE]
-}
+const SPACE: usize = LEFT + QUOTIENT + LEFT;
 
-fn left() -> [u8; LEFT]
-    ensures { length result ≡ 1296 }
-{
-    [0; LEFT]
-}
+// The exponents of that polynomial below 81.
+const EXPONENTS: [usize; 21] = [
+    0, 1, 2, 3, 4, 9, 17, 20, 22, 23, 30, 32, 41, 42, 43, 48, 51, 57, 69, 75, 79,
+];
 
 fn taps(q: &[u8; SPACE], i: usize) -> u8
     requires { i < 4080 }
     ensures { result ≡ taps q.now i }
 {
-    q[i + 0]
-        ^ q[i + 16]
-        ^ q[i + 32]
-        ^ q[i + 48]
-        ^ q[i + 64]
-        ^ q[i + 144]
-        ^ q[i + 272]
-        ^ q[i + 320]
-        ^ q[i + 352]
-        ^ q[i + 368]
-        ^ q[i + 480]
-        ^ q[i + 512]
-        ^ q[i + 656]
-        ^ q[i + 672]
-        ^ q[i + 688]
-        ^ q[i + 768]
-        ^ q[i + 816]
-        ^ q[i + 912]
-        ^ q[i + 1104]
-        ^ q[i + 1200]
-        ^ q[i + 1264]
+    let mut sum = 0;
+    for e in EXPONENTS {
+        sum ^= q[i + WORDS * e];
+    }
+    sum
 }
 
-// Stores the quotient of the row by the polynomial of 22 terms.
-fn quotient(row: &[u8], from: usize, q: &mut [u8; SPACE])
-    requires { (from + 3824 ≤ length row.now) × (q.old ≡ tabulate 5376 (λ i. 0)) × (length q.old ≡ 5376) }
-    ensures { QuotientTo (λ i. at row.now (from + i)) 2784 q.new }
+// The columns that are left: 65 of the payload and sixteen of zeros, with the quotient's multiple added.
+fn fold(payload: &[u8; DATA]) -> [u8; LEFT]
+    ensures { (q : List ℕ) × QuotientTo (at payload.now) 2784 q × Folded (at payload.now) q result }
 {
-    let mut i: usize = 0;
-    while i < 2784 {
-        q[LEFT + i] = plus(row[from + i], taps(q, i));
-        i += 1;
+    let mut q = [0; SPACE];
+    for i in 0..QUOTIENT {
+        q[LEFT + i] = payload[i] ^ taps(&q, i);
+    }
+    let mut columns = [0; LEFT];
+    for i in 0..LEFT - PARITY {
+        columns[i] = payload[QUOTIENT + i] ^ taps(&q, QUOTIENT + i);
+    }
+    for i in LEFT - PARITY..LEFT {
+        columns[i] = taps(&q, QUOTIENT + i);
+    }
+    columns
+}
+
+// Adds sixteen columns to the registers.
+fn add(r: &mut [u8; CELLS], columns: &[u8])
+    requires { length columns.now ≡ 256 }
+    ensures { r.new ≡ over r.old 0 256 (λ i. xor (at r.old i) (at columns.now i)) }
+{
+    for i in 0..PARITY {
+        r[i] ^= columns[i];
     }
 }
 
-// Stores the columns that are left: 65 of the row, and sixteen of zeros.
-fn store_first(row: &[u8], from: usize, q: &[u8; SPACE], out: &mut [u8; LEFT])
-    requires { (from + 3824 ≤ length row.now) × (length out.old ≡ 1296) }
-    ensures { (out.new ≡ over out.old 0 1040 (λ i. xor (at row.now (from + 2784 + i)) (taps q.now (2784 + i)))) × (length out.new ≡ 1296) }
+// The registers after the 239 columns of data: the parity bytes.
+pub(crate) fn divide(payload: &[u8; DATA]) -> [u8; CELLS]
+    ensures { result ≡ registers (at payload.now) 239 }
 {
-    let mut i: usize = 0;
-    while i < 1040 {
-        out[0 + i] = plus(row[from + 2784 + i], taps(q, 2784 + i));
-        i += 1;
-    }
+    let columns = fold(payload);
+    let mut r = steps(&columns);
+    add(&mut r, &columns[LEFT - PARITY..]);
+    r
 }
 
-fn store_last(q: &[u8; SPACE], out: &mut [u8; LEFT])
-    requires { length out.old ≡ 1296 }
-    ensures { (out.new ≡ over out.old 1040 256 (λ i. taps q.now (3824 + i))) × (length out.new ≡ 1296) }
+// The remainders of the sixteen words of a row. A word's values at the roots are those of its remainder.
+pub(crate) fn remainders(row: &[u8; ROW]) -> [u8; CELLS]
+    ensures { result ≡ row_remainders row.now 0 }
 {
-    let mut i: usize = 0;
-    while i < 256 {
-        out[1040 + i] = taps(q, 3824 + i);
-        i += 1;
-    }
-}
-
-// Adds the last sixteen columns.
-fn add(out: &[u8; LEFT], r: &mut [u8; CELLS])
-    requires { length r.old ≡ 272 }
-    ensures { (r.new ≡ over r.old 0 256 (λ i. xor (at r.old i) (at out.now (1040 + i)))) × (length r.new ≡ 272) }
-{
-    let mut i: usize = 0;
-    while i < 256 {
-        r[0 + i] = plus(r[i], out[1040 + i]);
-        i += 1;
-    }
-}
-
-// The registers after the 239 columns of data from a place on: the parity bytes.
-pub(crate) fn divide(row: &[u8], from: usize, r: &mut [u8; CELLS])
-    requires { (from + 3824 ≤ length row.now) × (r.old ≡ tabulate 272 (λ i. 0)) × (length r.old ≡ 272) }
-    ensures { (r.new ≡ row_divided row.now from 239) × (length r.new ≡ 272) }
-{
-    let mut q = space();
-    quotient(row, from, &mut q);
-    let mut out = left();
-    store_first(row, from, &q, &mut out);
-    store_last(&q, &mut out);
-    steps(&out, 0, 65, r);
-    add(&out, r);
-}
-
-fn add_parity(row: &[u8], from: usize, r: &mut [u8; CELLS])
-    requires { (from + 256 ≤ length row.now) × (length r.old ≡ 272) }
-    ensures { (r.new ≡ over r.old 0 256 (λ i. xor (at r.old i) (at row.now (from + i)))) × (length r.new ≡ 272) }
-{
-    let mut i: usize = 0;
-    while i < 256 {
-        r[0 + i] = plus(r[i], row[from + i]);
-        i += 1;
-    }
-}
-
-// The remainders of the sixteen words of the row from a place on. A word's values at the roots are those of its remainder.
-pub(crate) fn remainders(row: &[u8], from: usize, r: &mut [u8; CELLS])
-    requires { (from + 4080 ≤ length row.now) × (r.old ≡ tabulate 272 (λ i. 0)) × (length r.old ≡ 272) }
-    ensures { (r.new ≡ row_remainders row.now from) × (length r.new ≡ 272) }
-{
-    divide(row, from, r);
-    add_parity(row, from + 3824, r);
+    let mut r = divide(row[..DATA].try_into().unwrap());
+    add(&mut r, &row[DATA..]);
+    r
 }

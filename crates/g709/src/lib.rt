@@ -7,14 +7,15 @@
 //     correct  a word's remainder gives its syndromes (module syndromes), from which the decoder finds the errors (module corrector; in a row with many of them their places
 //              are found by columns: modules locators and root_columns); one word with no code word within eight bytes refuses the block
 //
-// Every input is answered: an entry returns 0, or the number of the refusal; a refusal leaves the output buffer as it was. Frames: 1 or 2 (length), 3 (size of the output
-// buffer), then 4 (no frame) or 5 (uncorrectable). Single rows: 8 (length), 3, then 4 or 5.
+// Every input is answered: an entry returns Ok, or the refusal; a refusal leaves the output buffer as it was. Frames: a wrong length (PayloadLength or BlockLength), then
+// BufferSize, then NoCodeWord or Uncorrectable. Single rows: RowLength, BufferSize, then NoCodeWord or Uncorrectable.
 #![tactic(auto)]
 
 ghost use Rattle.std.specs.Prelude.{◌≡◌};
+ghost use Rattle.words.specs.Corrections.{refusal_number, correction_of};
 ghost use Rattle.g709.specs.Answers.{row_encoded, row_checked, row_extracted, row_corrected, rows_encoded, rows_checked, rows_extracted, rows_corrected};
 
-use words::Correction;
+pub use words::Refusal;
 
 mod block;
 mod columns;
@@ -24,58 +25,58 @@ mod locators;
 mod root_columns;
 mod syndromes;
 
-// Writes the frame of the payload and returns 0; 1 or 3.
-pub fn encode(payload: &[u8], out: &mut [u8]) -> u8
-    ensures { (result, out.new) ≡ rows_encoded payload.now out.old }
+// Writes the frame of the payload; PayloadLength or BufferSize.
+pub fn encode(payload: &[u8], out: &mut [u8]) -> Result<(), Refusal>
+    ensures { (refusal_number result, out.new) ≡ rows_encoded payload.now out.old }
 {
-    block::encode(payload, 4, 1, out)
+    block::encode(payload, 4, Refusal::PayloadLength, out)
 }
 
-// 0 for a frame; 2 or 4.
-pub fn check(block: &[u8]) -> u8
-    ensures { result ≡ rows_checked block.now }
+// Accepts a frame; BlockLength or NoCodeWord.
+pub fn check(block: &[u8]) -> Result<(), Refusal>
+    ensures { refusal_number result ≡ rows_checked block.now }
 {
-    block::check(block, 4, 2)
+    block::check(block, 4, Refusal::BlockLength)
 }
 
-// Writes the payload of a frame and returns 0; 2, 3 or 4.
-pub fn extract(block: &[u8], out: &mut [u8]) -> u8
-    ensures { (result, out.new) ≡ rows_extracted block.now out.old }
+// Writes the payload of a frame; BlockLength, BufferSize or NoCodeWord.
+pub fn extract(block: &[u8], out: &mut [u8]) -> Result<(), Refusal>
+    ensures { (refusal_number result, out.new) ≡ rows_extracted block.now out.old }
 {
-    block::extract(block, 4, 2, out)
+    block::extract(block, 4, Refusal::BlockLength, out)
 }
 
-// Writes the frame whose words are within eight bytes of those received; 2, 3 or 5.
-pub fn correct(block: &[u8], out: &mut [u8]) -> Correction
-    ensures { (result, out.new) ≡ rows_corrected block.now out.old }
+// Writes the frame whose words are within eight bytes of those received, and counts the changed bytes; BlockLength, BufferSize or Uncorrectable.
+pub fn correct(block: &[u8], out: &mut [u8]) -> Result<u16, Refusal>
+    ensures { (correction_of result, out.new) ≡ rows_corrected block.now out.old }
 {
-    block::correct(block, 4, 2, out)
+    block::correct(block, 4, Refusal::BlockLength, out)
 }
 
-// Writes the row of the data and returns 0; 8 or 3.
-pub fn encode_row(payload: &[u8], out: &mut [u8]) -> u8
-    ensures { (result, out.new) ≡ row_encoded payload.now out.old }
+// Writes the row of the data; RowLength or BufferSize.
+pub fn encode_row(payload: &[u8], out: &mut [u8]) -> Result<(), Refusal>
+    ensures { (refusal_number result, out.new) ≡ row_encoded payload.now out.old }
 {
-    block::encode(payload, 1, 8, out)
+    block::encode(payload, 1, Refusal::RowLength, out)
 }
 
-// 0 for a row; 8 or 4.
-pub fn check_row(row: &[u8]) -> u8
-    ensures { result ≡ row_checked row.now }
+// Accepts a row; RowLength or NoCodeWord.
+pub fn check_row(row: &[u8]) -> Result<(), Refusal>
+    ensures { refusal_number result ≡ row_checked row.now }
 {
-    block::check(row, 1, 8)
+    block::check(row, 1, Refusal::RowLength)
 }
 
-// Writes the data of a row and returns 0; 8, 3 or 4.
-pub fn extract_row(row: &[u8], out: &mut [u8]) -> u8
-    ensures { (result, out.new) ≡ row_extracted row.now out.old }
+// Writes the data of a row; RowLength, BufferSize or NoCodeWord.
+pub fn extract_row(row: &[u8], out: &mut [u8]) -> Result<(), Refusal>
+    ensures { (refusal_number result, out.new) ≡ row_extracted row.now out.old }
 {
-    block::extract(row, 1, 8, out)
+    block::extract(row, 1, Refusal::RowLength, out)
 }
 
-// Writes the row whose words are within eight bytes of those received; 8, 3 or 5.
-pub fn correct_row(row: &[u8], out: &mut [u8]) -> Correction
-    ensures { (result, out.new) ≡ row_corrected row.now out.old }
+// Writes the row whose words are within eight bytes of those received, and counts the changed bytes; RowLength, BufferSize or Uncorrectable.
+pub fn correct_row(row: &[u8], out: &mut [u8]) -> Result<u16, Refusal>
+    ensures { (correction_of result, out.new) ≡ row_corrected row.now out.old }
 {
-    block::correct(row, 1, 8, out)
+    block::correct(row, 1, Refusal::RowLength, out)
 }

@@ -1,16 +1,15 @@
 // The locator polynomials of the sixteen words of a row, side by side, so that their roots are found by columns. This pays where many words have several
 // wrong bytes.
-ghost use Rattle.std.specs.Prelude.{◌≡◌, cond, ℕ, ◌+◌, ◌*◌, ◌≤◌, ◌<◌, eqb, length};
-ghost use Rattle.fields.specs.Elements.{powers_c, exponents_c};
+ghost use Rattle.std.specs.Prelude.{◌≡◌, cond, ℕ, ◌≤◌, ◌<◌, IfSome, eqb};
 ghost use Rattle.fields.specs.Places.{at};
 ghost use Rattle.decoding.specs.Steps.RootSearch.{kept};
-ghost use Rattle.g709.specs.Steps.Locating.{polynomial_stored, LocatorsTo, LocatorSet, LocatorValues, ValuesIf, PlacesTo};
+ghost use Rattle.g709.specs.Steps.Locating.{polynomial_stored, LocatorsTo, LocatorSet, LocatorValues, PlacesTo};
 
 use crate::columns::{CELLS, WORDS};
 use crate::root_columns::{TERMS, VALUES};
 use crate::{columns, root_columns};
 use decoding::root_search::Places;
-use decoding::{COEFFICIENTS, RADIUS, annihilator, root_search};
+use decoding::{COEFFICIENTS, annihilator, root_search};
 
 // Bytes of a word.
 const BYTES: usize = 255;
@@ -20,62 +19,41 @@ const CROWD: usize = 6;
 
 // Stores the coefficients of polynomial k.
 fn set_polynomial(terms: &mut [u8; TERMS], k: usize, polynomial: [u16; COEFFICIENTS])
-    requires k_bound { (k < 16) × (length terms.old ≡ 144) }
+    requires k_bound { k < 16 }
     requires by_index { (d : ℕ) → at polynomial d < 256 }
-    ensures { (terms.new ≡ polynomial_stored terms.old k polynomial) × (length terms.new ≡ 144) }
+    ensures { terms.new ≡ polynomial_stored terms.old k polynomial }
 {
-    let mut d: usize = 0;
-    while d < COEFFICIENTS {
-        terms[WORDS * d + k] = columns::narrow(polynomial[d]);
-        d += 1;
+    for d in 0..COEFFICIENTS {
+        terms[WORDS * d + k] = polynomial[d] as u8;
     }
 }
 
 // Stores the locator polynomial of word k.
-fn set_locator(exp: &[u16], log: &[u16], s: &[u8; CELLS], k: usize, terms: &mut [u8; TERMS])
-    requires exp_value { (exp.now ≡ powers_c) × (log.now ≡ exponents_c) }
-    requires k_bound { (k < 16) × (length terms.old ≡ 144) }
+fn set_locator(s: &[u8; CELLS], k: usize, terms: &mut [u8; TERMS])
+    requires { k < 16 }
     ensures { LocatorSet s.now k terms.old terms.new }
 {
-    let t = columns::lane(s, k);
-    let polynomial = annihilator::annihilator(exp, log, t);
+    let field = fields::field_c();
+    let polynomial = annihilator::annihilator(field, columns::lane(s, k));
     set_polynomial(terms, k, polynomial);
 }
 
-// Stores the locator polynomials of the sixteen words.
-fn set_locators(exp: &[u16], log: &[u16], s: &[u8; CELLS], terms: &mut [u8; TERMS])
-    requires exp_value { (exp.now ≡ powers_c) × (log.now ≡ exponents_c) }
-    requires terms_len { length terms.old ≡ 144 }
-    ensures { LocatorsTo s.now 16 terms.new × (length terms.new ≡ 144) }
+// The locator polynomials of the sixteen words.
+fn locators(s: &[u8; CELLS]) -> [u8; TERMS]
+    ensures { LocatorsTo s.now 16 result }
 {
-    let mut k: usize = 0;
-    while k < WORDS {
-        set_locator(exp, log, s, k, terms);
-        k += 1;
+    let mut terms = [0; TERMS];
+    for k in 0..WORDS {
+        set_locator(s, k, &mut terms);
     }
+    terms
 }
 
-fn no_terms() -> [u8; TERMS]
-    ensures { length result ≡ 144 }
+// Stores their values at all powers of a.
+fn evaluate(s: &[u8; CELLS], values: &mut [u8; VALUES])
+    ensures { LocatorValues s.now values.new }
 {
-    [0; TERMS]
-}
-
-// A place for the values.
-pub(crate) fn no_values() -> [u8; VALUES]
-    ensures { length result ≡ 4080 }
-{
-    [0; VALUES]
-}
-
-// Stores the values of the locator polynomials at all powers of a.
-fn evaluate(exp: &[u16], log: &[u16], s: &[u8; CELLS], values: &mut [u8; VALUES])
-    requires exp_value { (exp.now ≡ powers_c) × (log.now ≡ exponents_c) }
-    requires values_len { length values.old ≡ 4080 }
-    ensures { LocatorValues s.now values.new × (length values.new ≡ 4080) }
-{
-    let mut terms = no_terms();
-    set_locators(exp, log, s, &mut terms);
+    let mut terms = locators(s);
     root_columns::evaluate(&mut terms, values);
 }
 
@@ -95,60 +73,34 @@ pub(crate) fn places(values: &[u8; VALUES], k: usize) -> Places
     requires { k < 16 }
     ensures { PlacesTo values.now k 255 result.at result.count }
 {
-    let mut p = Places {
-        at: [0u16; RADIUS],
-        count: 0,
-    };
-    let mut i: usize = 0;
-    while i < BYTES {
+    let mut p = Places::NONE;
+    for i in 0..BYTES {
         p = keep_root(p, values[WORDS * (BYTES - 1 - i) + k], i);
-        i += 1;
     }
     p
 }
 
-// 1 for three values that no single wrong byte has: x, y and z with y y other than x z.
-fn several(x: u8, y: u8, z: u8) -> usize
-    ensures { result ≤ 1 }
-{
-    if y == 0 {
-        return 0;
-    }
-    if columns::product(y, y) == columns::product(x, z) {
-        return 0;
-    }
-    1
+// Whether three values are such as no single wrong byte has: x, y and z with y y other than x z.
+fn several(x: u8, y: u8, z: u8) -> bool {
+    y != 0 && columns::product(y, y) != columns::product(x, z)
 }
 
-// How many words of a row have more than one wrong byte, by a look at their syndromes that is wrong for few: the answer does not depend on it.
-fn crowded(s: &[u8; CELLS]) -> usize {
-    let mut n: usize = 0;
-    let mut j: usize = 0;
-    while j < WORDS {
-        n += several(s[j], s[16 + j], s[32 + j]);
-        j += 1;
-    }
-    n
+// Whether many words of a row have more than one wrong byte, by a look at their syndromes that is wrong for few: what is found does not depend on it.
+fn is_crowded(s: &[u8; CELLS]) -> bool {
+    (0..WORDS)
+        .filter(|&k| several(s[k], s[WORDS + k], s[2 * WORDS + k]))
+        .count()
+        >= CROWD
 }
 
-// Stores the values of the locator polynomials and returns true, if they are wanted and the row has enough words with more than one wrong byte.
-pub(crate) fn locate(
-    exp: &[u16],
-    log: &[u16],
-    s: &[u8; CELLS],
-    wanted: bool,
-    values: &mut [u8; VALUES],
-) -> bool
-    requires exp_value { (exp.now ≡ powers_c) × (log.now ≡ exponents_c) }
-    requires values_len { length values.old ≡ 4080 }
-    ensures { ValuesIf result s.now values.new }
+// The values of the locator polynomials, if the row has enough words with more than one wrong byte.
+pub(crate) fn locate<'a>(s: &[u8; CELLS], values: &'a mut [u8; VALUES]) -> Option<&'a [u8; VALUES]>
+    ensures { IfSome result (λ values. LocatorValues s.now values.now) }
 {
-    if !wanted {
-        return false;
+    if is_crowded(s) {
+        evaluate(s, values);
+        Some(values)
+    } else {
+        None
     }
-    if crowded(s) < CROWD {
-        return false;
-    }
-    evaluate(exp, log, s, values);
-    true
 }

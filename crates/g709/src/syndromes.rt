@@ -1,64 +1,62 @@
 // The syndromes of the sixteen words of a row: the values of their remainders at the sixteen roots, a column of sixteen bytes at a step. Value j of word k is byte 16 j + k,
-// as the remainders stand. Products are by constants that are written out.
-ghost use Rattle.std.specs.Prelude.{◌≡◌, ◌+◌, ◌<◌, length};
-ghost use Rattle.fields.specs.Lists.{tabulate};
+// as the remainders stand.
+ghost use Rattle.std.specs.Prelude.{◌≡◌, ◌<◌};
+ghost use Rattle.fields.specs.Places.{at};
 ghost use Rattle.g709.specs.Steps.ColumnSyndromes.{value_stored, values_stored, SyndromesTo};
 
-use crate::columns::{CELLS, WORDS, agree, plus, product};
+use crate::columns::{CELLS, WORDS, product};
 
-// Value j, of which the first i columns are done, is multiplied by y, the power a^j, and column i is added.
-fn next_value(s: &mut [u8; CELLS], rest: &[u8; CELLS], i: usize, j: usize, y: u8)
-    requires { (i < 16) × (j < 16) × (length s.old ≡ 272) }
-    ensures { (s.new ≡ value_stored s.old rest.now i j y) × (length s.new ≡ 272) }
+// The roots: a^0 to a^15.
+const ROOTS: [u8; 16] = [
+    1, 2, 4, 8, 16, 32, 64, 128, 29, 58, 116, 232, 205, 135, 19, 38,
+];
+
+// Value j, of which the first i columns are done, is multiplied by root j, and column i is added.
+fn next_value(s: &mut [u8; CELLS], rest: &[u8; CELLS], i: usize, j: usize)
+    requires { (i < 16) × (j < 16) }
+    ensures { s.new ≡ value_stored s.old rest.now i j (at ROOTS j) }
 {
     let m = WORDS * i;
     let n = WORDS * j;
-    let mut l: usize = 0;
-    while l < WORDS {
-        s[n + l] = plus(product(s[n + l], y), rest[m + l]);
-        l += 1;
+    let y = ROOTS[j];
+    for l in 0..WORDS {
+        s[n + l] = product(s[n + l], y) ^ rest[m + l];
     }
 }
 
-fn four(s: &mut [u8; CELLS], rest: &[u8; CELLS], i: usize, j: usize, y0: u8, y1: u8, y2: u8, y3: u8)
-    requires { (i < 16) × (j < 13) × (length s.old ≡ 272) }
-    ensures { (s.new ≡ value_stored (value_stored (value_stored (value_stored s.old rest.now i j y0) rest.now i (j + 1) y1) rest.now i (j + 2) y2) rest.now i (j + 3) y3) × (length s.new ≡ 272) }
-{
-    next_value(s, rest, i, j, y0);
-    next_value(s, rest, i, j + 1, y1);
-    next_value(s, rest, i, j + 2, y2);
-    next_value(s, rest, i, j + 3, y3);
-}
-
-// One column more.
+// One column more, written out as a step of the division is.
 fn next_values(s: &mut [u8; CELLS], rest: &[u8; CELLS], i: usize)
-    requires { (i < 16) × (length s.old ≡ 272) }
-    ensures { (s.new ≡ values_stored s.old rest.now i 16) × (length s.new ≡ 272) }
+    requires { i < 16 }
+    ensures { s.new ≡ values_stored s.old rest.now i 16 }
 {
-    four(s, rest, i, 0, 1, 2, 4, 8);
-    four(s, rest, i, 4, 16, 32, 64, 128);
-    four(s, rest, i, 8, 29, 58, 116, 232);
-    four(s, rest, i, 12, 205, 135, 19, 38);
+    next_value(s, rest, i, 0);
+    next_value(s, rest, i, 1);
+    next_value(s, rest, i, 2);
+    next_value(s, rest, i, 3);
+    next_value(s, rest, i, 4);
+    next_value(s, rest, i, 5);
+    next_value(s, rest, i, 6);
+    next_value(s, rest, i, 7);
+    next_value(s, rest, i, 8);
+    next_value(s, rest, i, 9);
+    next_value(s, rest, i, 10);
+    next_value(s, rest, i, 11);
+    next_value(s, rest, i, 12);
+    next_value(s, rest, i, 13);
+    next_value(s, rest, i, 14);
+    next_value(s, rest, i, 15);
 }
 
-fn all_values(s: &mut [u8; CELLS], rest: &[u8; CELLS])
-    requires { (s.old ≡ tabulate 272 (λ i. 0)) × (length s.old ≡ 272) }
-    ensures { SyndromesTo rest.now 16 s.new × (length s.new ≡ 272) }
+// The syndromes of the words with these remainders. Remainders of zeros, as a row without wrong bytes has them, have syndromes of zeros.
+pub(crate) fn syndromes(rest: &[u8; CELLS]) -> [u8; CELLS]
+    ensures { SyndromesTo rest.now 16 result }
 {
-    let mut i: usize = 0;
-    while i < WORDS {
-        next_values(s, rest, i);
-        i += 1;
+    let mut s = [0; CELLS];
+    if *rest == s {
+        return s;
     }
-}
-
-// Stores the syndromes. Remainders of zeros, as a row without wrong bytes has them, leave the zeros that stand there.
-pub(crate) fn store(s: &mut [u8; CELLS], rest: &[u8; CELLS])
-    requires { (s.old ≡ tabulate 272 (λ i. 0)) × (length s.old ≡ 272) × (length rest.now ≡ 272) }
-    ensures { SyndromesTo rest.now 16 s.new × (length s.new ≡ 272) }
-{
-    if agree(rest, s, 0, CELLS) {
-        return;
+    for i in 0..WORDS {
+        next_values(&mut s, rest, i);
     }
-    all_values(s, rest);
+    s
 }

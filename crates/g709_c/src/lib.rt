@@ -2,17 +2,18 @@
 #![tactic(auto)]
 
 ghost use Rattle.std.specs.Prelude.{◌≡◌};
-ghost use Rattle.words.specs.Answers.{refusal_of};
+ghost use Rattle.words.specs.Corrections.{refusal_number};
 ghost use Rattle.g709.specs.Answers.{row_encoded, row_checked, row_extracted, row_corrected, rows_encoded, rows_checked, rows_extracted, rows_corrected, without_changes};
 
-use words::Correction;
+use words::Refusal;
 
-fn refusal(c: Correction) -> u8
-    ensures { result ≡ refusal_of c }
+// 0, or the refusal's number.
+fn number_of<T: Copy>(answer: Result<T, Refusal>) -> u8
+    ensures { result ≡ refusal_number answer }
 {
-    match c {
-        Correction::Corrected { changed } => 0,
-        Correction::Refused { number } => number,
+    match answer {
+        Ok(_) => 0,
+        Err(refusal) => u8::from(refusal),
     }
 }
 
@@ -20,21 +21,21 @@ fn refusal(c: Correction) -> u8
 pub extern "C" fn g709_encode(payload: &[u8], frame: &mut [u8]) -> u8
     ensures { (result, frame.new) ≡ rows_encoded payload.now frame.old }
 {
-    g709::encode(payload, frame)
+    number_of(g709::encode(payload, frame))
 }
 
 #[unsafe(no_mangle)]
 pub extern "C" fn g709_check(block: &[u8]) -> u8
     ensures { result ≡ rows_checked block.now }
 {
-    g709::check(block)
+    number_of(g709::check(block))
 }
 
 #[unsafe(no_mangle)]
 pub extern "C" fn g709_extract(block: &[u8], payload: &mut [u8]) -> u8
     ensures { (result, payload.new) ≡ rows_extracted block.now payload.old }
 {
-    g709::extract(block, payload)
+    number_of(g709::extract(block, payload))
 }
 
 // The number of changed bytes is not handed out.
@@ -42,33 +43,33 @@ pub extern "C" fn g709_extract(block: &[u8], payload: &mut [u8]) -> u8
 pub extern "C" fn g709_correct(block: &[u8], frame: &mut [u8]) -> u8
     ensures { (result, frame.new) ≡ without_changes (rows_corrected block.now frame.old) }
 {
-    refusal(g709::correct(block, frame))
+    number_of(g709::correct(block, frame))
 }
 
 #[unsafe(no_mangle)]
 pub extern "C" fn g709_encode_row(payload: &[u8], row: &mut [u8]) -> u8
     ensures { (result, row.new) ≡ row_encoded payload.now row.old }
 {
-    g709::encode_row(payload, row)
+    number_of(g709::encode_row(payload, row))
 }
 
 #[unsafe(no_mangle)]
 pub extern "C" fn g709_check_row(row: &[u8]) -> u8
     ensures { result ≡ row_checked row.now }
 {
-    g709::check_row(row)
+    number_of(g709::check_row(row))
 }
 
 #[unsafe(no_mangle)]
 pub extern "C" fn g709_extract_row(row: &[u8], payload: &mut [u8]) -> u8
     ensures { (result, payload.new) ≡ row_extracted row.now payload.old }
 {
-    g709::extract_row(row, payload)
+    number_of(g709::extract_row(row, payload))
 }
 
 #[unsafe(no_mangle)]
 pub extern "C" fn g709_correct_row(received: &[u8], row: &mut [u8]) -> u8
     ensures { (result, row.new) ≡ without_changes (row_corrected received.now row.old) }
 {
-    refusal(g709::correct_row(received, row))
+    number_of(g709::correct_row(received, row))
 }

@@ -2,3 +2,4 @@
 pub mod InterleavedBits
 pub mod BitSliced
 pub mod EightBytes
+pub mod LentBlock

@@ -41,11 +41,8 @@ impl Interleaved {
     pub const BYTES: usize = Interleaved::PLACE_BYTES * Inner::PLACES;
 }
 
-const PARITY_BYTES: usize = Interleaved::BYTES - Interleaved::DATA_BYTES;
-
 // What the parity places are to be, from the data places.
-fn parity_places(bytes: &[u8]) -> [u64; Inner::PARITY]
-    requires { length bytes.now ≡ 16320 }
+fn parity_places(bytes: &[u8; Interleaved::BYTES]) -> [u64; Inner::PARITY]
     ensures { result ≡ parity_places bytes.now }
 {
     let residues = residues::residues(bytes, residues::DATA_BLOCKS);
@@ -53,17 +50,11 @@ fn parity_places(bytes: &[u8]) -> [u64; Inner::PARITY]
 }
 
 // Writes the parity places.
-fn store(cells: &[u64], out: &mut [u8])
-    requires { (length cells.now ≡ 88) × (length out.old ≡ 16320) }
+fn store(cells: &[u64; Inner::PARITY], out: &mut [u8; Interleaved::BYTES])
     ensures { Placed 15616 (parity_bytes cells.now) out.old out.new }
 {
-    let mut m: usize = 0;
-    while m < PARITY_BYTES {
-        out[Interleaved::DATA_BYTES + m] = places::byte(
-            cells[m / Interleaved::PLACE_BYTES],
-            m % Interleaved::PLACE_BYTES,
-        );
-        m += 1;
+    for (q, cell) in cells.iter().enumerate() {
+        places::put_place(out, Interleaved::DATA_PLACES + q, *cell);
     }
 }
 
@@ -72,8 +63,11 @@ pub fn encode(out: &mut [u8])
     requires { length out.old ≡ 16320 }
     ensures { out.new ≡ bytes_of 16320 (with_parity (bit_at out.old)) }
 {
-    let cells = parity_places(out);
-    store(&cells, out);
+    let Some(block) = out.first_chunk_mut() else {
+        unreachable!();
+    };
+    let cells = parity_places(block);
+    store(&cells, block);
 }
 
 // Each inner word of the block is a code word.
@@ -81,7 +75,7 @@ pub fn are_code_words(block: &[u8]) -> bool
     requires { length block.now ≡ 16320 }
     ensures { result ≡ inner_codes (bit_at block.now) }
 {
-    residues::wrong_words(block) == 0
+    residues::wrong_words(block.try_into().unwrap()) == 0
 }
 
 // A block to write into: its length is all that is promised.
@@ -97,14 +91,15 @@ pub fn correct(block: &mut [u8]) -> u64
     requires { length block.old ≡ 16320 }
     ensures { InnerPassed block.old block.new result }
 {
+    let Some(block) = block.first_chunk_mut() else {
+        unreachable!();
+    };
     let residues = residues::residues(block, lanes::WORD_BLOCKS);
     let wrong = residues::wrong(&residues);
     if wrong == 0 {
         return 0;
     }
-    let exp = fields::exp_b();
-    let log = fields::log_b();
-    let many = singles::correct_singles(&exp, &log, &residues, wrong, block);
+    let many = singles::correct_singles(&residues, wrong, block);
     let left = candidates::correct(&residues, many, block);
-    one_by_one::correct_each(&exp, &log, &residues, left, block)
+    one_by_one::correct_each(&residues, left, block)
 }

@@ -1,11 +1,10 @@
 // The parity places of the inner words from their residues: for each parity place the matrix has 88 bits, which pick the numbers whose sum it is. The sums of
 // each four numbers are made first, so that four bits cost one read.
-ghost use Rattle.std.specs.Prelude.{◌≡◌, [], ◌∷◌, ◌<◌, ◌/◌, ◌%◌, length};
+ghost use Rattle.std.specs.Prelude.{◌≡◌, [], ◌∷◌, ◌<◌};
 ghost use Rattle.fields.specs.Lists.{tabulate};
 ghost use Rattle.inner_words.specs.Steps.ParityMatrix.{parity_matrix, four_sum, four_sums, parity_sum, parity_sums};
 
 use crate::parity_matrix;
-use crate::residues::put;
 use words::Inner;
 
 // Groups of four numbers, and the sums of one group.
@@ -16,10 +15,11 @@ const SUMS: usize = 16;
 // Bytes of the bits that pick the numbers of one parity place.
 const PICK_BYTES: usize = Inner::PARITY / 8;
 
-fn matrix() -> [u8; Inner::PARITY * PICK_BYTES]
-    ensures { result ≡ parity_matrix }
+// The matrix, which stands in the program once.
+fn matrix() -> &'static [u8; Inner::PARITY * PICK_BYTES]
+    ensures { result.now ≡ parity_matrix }
 {
-    parity_matrix::PARITY_MATRIX
+    &parity_matrix::PARITY_MATRIX
 }
 
 // The sum of no number, of the last, of the last but one, and so on: the bits of the place in the list say which.
@@ -47,63 +47,45 @@ fn sums_of(a: u64, b: u64, c: u64, d: u64) -> [u64; SUMS]
 }
 
 // The sums of each four numbers.
-fn four_sums(numbers: &[u64]) -> [u64; FOURS * SUMS]
-    requires { length numbers.now ≡ 88 }
+fn four_sums(numbers: &[u64; Inner::PARITY]) -> [u64; FOURS * SUMS]
     ensures { result ≡ four_sums numbers.now }
 {
-    let mut out = [0u64; FOURS * SUMS];
-    let mut g: usize = 0;
-    while g < FOURS {
+    let mut out = [0; FOURS * SUMS];
+    for g in 0..FOURS {
         let i = 4 * g;
         let sums = sums_of(numbers[i], numbers[i + 1], numbers[i + 2], numbers[i + 3]);
-        put(&sums, SUMS * g, &mut out);
-        g += 1;
+        out[SUMS * g..SUMS * (g + 1)].copy_from_slice(&sums);
     }
     out
 }
 
-// The first four bits of a byte, and the other four.
-fn first_four(byte: u8) -> usize
-    ensures { (result ≡ byte / 16) × (result < 16) }
-{
-    (byte / 16) as usize
-}
-
-fn last_four(byte: u8) -> usize
-    ensures { (result ≡ byte % 16) × (result < 16) }
-{
-    (byte % 16) as usize
-}
-
-// Parity place q: the sum of the numbers that its bits pick.
-fn parity_sum(sums: &[u64], matrix: &[u8], q: usize) -> u64
-    requires { (length sums.now ≡ 352) × (length matrix.now ≡ 968) × (q < 88) }
+// Parity place q: the sum of the numbers that its bits pick, those of the first four bits of a byte, and of the other four.
+fn parity_sum(
+    sums: &[u64; FOURS * SUMS],
+    matrix: &[u8; Inner::PARITY * PICK_BYTES],
+    q: usize,
+) -> u64
+    requires { q < 88 }
     ensures { result ≡ parity_sum sums.now matrix.now q }
 {
-    let mut x: u64 = 0;
-    let mut m: usize = 0;
-    while m < PICK_BYTES {
-        let byte = matrix[PICK_BYTES * q + m];
-        let i = 2 * SUMS * m + first_four(byte);
-        let k = 2 * SUMS * m + SUMS + last_four(byte);
-        x = x ^ sums[i] ^ sums[k];
-        m += 1;
+    let mut x = 0;
+    for m in 0..PICK_BYTES {
+        let byte = usize::from(matrix[PICK_BYTES * q + m]);
+        let i = 2 * SUMS * m;
+        x = x ^ sums[i + byte / SUMS] ^ sums[i + SUMS + byte % SUMS];
     }
     x
 }
 
 // The parity places, from the residues of the data places.
-pub(crate) fn from_residues(residues: &[u64]) -> [u64; Inner::PARITY]
-    requires { length residues.now ≡ 88 }
+pub(crate) fn from_residues(residues: &[u64; Inner::PARITY]) -> [u64; Inner::PARITY]
     ensures { result ≡ parity_sums residues.now }
 {
     let sums = four_sums(residues);
     let matrix = matrix();
-    let mut out = [0u64; Inner::PARITY];
-    let mut q: usize = 0;
-    while q < Inner::PARITY {
-        out[q] = parity_sum(&sums, &matrix, q);
-        q += 1;
+    let mut out = [0; Inner::PARITY];
+    for (q, place) in out.iter_mut().enumerate() {
+        *place = parity_sum(&sums, matrix, q);
     }
     out
 }

@@ -1,5 +1,5 @@
 // The matrix that makes the parity bits of inner words of their residues: for each parity place 88 bits, which pick the numbers whose sum it is.
-pub const PARITY_MATRIX: [u8; 968] = [
+pub static PARITY_MATRIX: [u8; 968] = [
     144, 123, 171, 18, 51, 101, 3, 229, 22, 48, 158, 32, 247, 82, 36, 230, 202, 5, 202, 44, 105,
     60, 65, 238, 164, 73, 77, 132, 9, 148, 24, 218, 121, 131, 221, 72, 146, 155, 8, 17, 40, 49,
     180, 242, 7, 186, 145, 37, 182, 16, 34, 80, 35, 97, 228, 15, 85, 38, 75, 236, 32, 70, 160, 6,

@@ -1,5 +1,5 @@
 -- Counting in bit planes: full adders, steps of eight numbers with their carries, and the counts from the planes. Assumes nothing.
-use mathlib.Core.Path.{◌≡◌, refl, ap, ap₂, ◌∙◌}
+use mathlib.Core.Path.{◌≡◌, refl, sym, ap, ap₂, ◌∙◌}
 use mathlib.Core.Bool.{true}
 use mathlib.Core.List.{List, [], ◌∷◌}
 use Prim.Native.Nat.{ℕ, zero, suc, ◌+◌, ◌-◌, ◌*◌, ◌/◌, ◌%◌, ◌^◌, ◌≤◌, ◌<◌, zero-le, min, max}
@@ -10,11 +10,10 @@ use native.Mathlib.Omega.{arith}
 use borrow.Author.Tests.{eqb-true}
 use lib.Bits.{bit_and, bit_or, and_mask}
 use lib.Dec.{eqb}
-use lib.ListN.{length, get_or, set, replicate}
+use lib.ListN.{length, get_or, set, replicate, take, drop}
 use lib.Pow.{pow_pos, pow_mono}
+use Rattle.std.proofs.lemmas.List.{get_or-drop, get_or-take, length-take-le, take_rest}
 use lib.Seq.{get_or-set_same, get_or-set_other}
-use mir.Syntax.{w16}
-use mir.Val.{Fits}
 use Rattle.fields.specs.Elements.{xor}
 use Rattle.fields.specs.Lists.{tabulate}
 use Rattle.fields.specs.Places.{at, every, sum_to}
@@ -81,10 +80,24 @@ pub eight_added : {xs : ℕ → ℕ} {i : ℕ} {s r : Planes} →
 unfolding ones_in sum_to
 eight_added {xs} {i} e = record { each = λ k. let first : i + 0 ≡ i = omega arith in omega (arith, ap (λ (j : ℕ). lane_bit k (xs j)) first, e k) }
 
+-- the first eight of a list from number n on
+pub eight_from : (xs : List ℕ) (n : ℕ) {s r : Planes} → EightMore (at (take (length xs - n) (drop n xs))) 0 s r → EightMore (at xs) n s r
+eight_from xs n e =
+    let rest = rw (take_rest xs n) at e in
+    record {
+      each = λ k.
+          let same = ones_same k (λ q. at (drop n xs) (0 + q)) (λ q. at xs (n + q)) 8 (λ q l. ap (at (drop n xs)) (zero-add q) ∙ get_or-drop n xs q 0) in
+          omega (arith, rest.each k, same);
+    }
+
 pub carried_start : {xs : ℕ → ℕ} {carries : List ℕ} → ((i : ℕ) → at carries i ≡ 0) →
     Carried xs 0 (record { ones = 0; twos = 0; fours = 0; carry = 0 }) carries
 unfolding ones_in sum_to
 carried_start z = record { each = λ k. omega (arith, bit_none k); none = λ i h. z i }
+
+pub carried_default : {xs : ℕ → ℕ} {s : Planes} {carries : List ℕ} → s ≡ record { ones = 0; twos = 0; fours = 0; carry = 0 } → ((i : ℕ) → at carries i ≡ 0) →
+    Carried xs 0 s carries
+carried_default e z = rw e (carried_start z)
 
 pub carried_next : {xs : ℕ → ℕ} {i n m : ℕ} {s r : Planes} {carries : List ℕ} → Carried xs i s carries → i < n → n ≤ m → length carries ≡ m →
     EightMore xs (8 * i) s r → Carried xs (i + 1) r (set carries i r.carry)
@@ -103,6 +116,17 @@ carried_next {xs} {i} {n} {m} {s} {r} {carries} so_far h few long e =
 pub carried_end : {xs : ℕ → ℕ} {i n : ℕ} {s : Planes} {carries : List ℕ} → Carried xs i s carries → i ≤ n → n ≤ i → Carried xs n s carries
 carried_end {xs} {i} {n} so_far h l = let e : i ≡ n = omega arith in rw e at so_far
 
+-- the first n times eight of a list
+pub carried_first : (xs : List ℕ) (n : ℕ) {s : Planes} {carries : List ℕ} → 8 * n ≤ length xs →
+    Carried (at (take (8 * n) xs)) (length (take (8 * n) xs) / 8) s carries → Carried (at xs) n s carries
+carried_first xs n {s} {carries} h all =
+    let long : length (take (8 * n) xs) / 8 ≡ n = omega (arith, length-take-le (8 * n) xs h) in
+    let first = rw long at all in
+    record {
+      each = λ k. ones_same k (at xs) (at (take (8 * n) xs)) (8 * n) (λ i l. sym (get_or-take (8 * n) xs i 0 l)) ∙ first.each k;
+      none = first.none;
+    }
+
 -- ---- planes, added to the counts one by one
 
 -- count k, with a plane added
@@ -118,20 +142,7 @@ bit_times zero w h = omega arith
 bit_times (suc zero) w h = omega arith
 bit_times (suc (suc b)) w h = absurd (omega arith)
 
-pub one_fits : (y : ℕ) → Fits w16 (bit_and y 1)
-one_fits y = record { fits = omega (arith, and_mask y 1) }
-
-module _ (y weight : ℕ) (light : weight ≤ 2048) where
-  weighed_few : bit_and y 1 * weight ≤ weight
-  weighed_few = bit_times (bit_and y 1) weight (omega (arith, and_mask y 1))
-
-  pub weighed_fits : Fits w16 (bit_and y 1 * weight)
-  weighed_fits = record { fits = omega (arith, weighed_few) }
-
 module _ (before counts : List ℕ) (x weight k : ℕ) (so_far : FilledOver 64 (added_at before x weight) before k counts) where
-  pub plane_fits : (y : ℕ) → weight ≤ 2048 → ((i : ℕ) → at before i < weight) → Fits w16 (get_or counts k 0 + bit_and y 1 * weight)
-  plane_fits y light few = record { fits = omega (arith, weighed_few y weight light, so_far.ahead k (le_refl k), few k) }
-
   pub plane_next : k < 64 →
       FilledOver 64 (added_at before x weight) before (k + 1) (set counts k (get_or counts k 0 + bit_and (x / 2 ^ (8 * (k / 8) + 7 - k % 8)) 1 * weight))
   unfolding added_at lane_bit turned
@@ -149,44 +160,43 @@ unfolding weighed
 weighed_lt k f zero = pow_pos 0
 weighed_lt k f (suc n) = omega (arith, weighed_lt k f n, bit_times (lane_bit k (f n)) (2 ^ n) (bit_lt k (f n)), pow-suc 2 n)
 
+-- the weight of plane i, as the function has it
+weight_is : (i : ℕ) → i < 12 → 1 * 2 ^ i % 65536 ≡ 2 ^ i
+weight_is i l = let few : 2 ^ i ≤ 2 ^ 11 = pow_mono {j = 11} (omega arith) in omega arith
+
 -- the invariant: the first i planes are added
-pub record Weighing (planes : List ℕ) (i weight : ℕ) (counts : List ℕ) : Type 0 where
+pub record Weighing (planes : List ℕ) (i : ℕ) (counts : List ℕ) : Type 0 where
   pub within : i ≤ 12
-  pub weight_is : weight ≡ 2 ^ i
   pub long : length counts ≡ 64
   pub value : counts ≡ tabulate 64 (λ k. weighed (turned k) (at planes) i)
 
-pub weighing_start : {planes : List ℕ} → Weighing planes 0 1 (replicate 64 0)
+pub weighing_start : {planes : List ℕ} → Weighing planes 0 (replicate 64 0)
 unfolding weighed tabulate
-weighing_start = record { within = zero-le; weight_is = refl; long = refl; value = refl }
+weighing_start = record { within = zero-le; long = refl; value = refl }
 
-module _ (planes counts : List ℕ) (i weight : ℕ) (so_far : Weighing planes i weight counts) where
+module _ (planes counts : List ℕ) (i : ℕ) (so_far : Weighing planes i counts) where
   count_at : (k : ℕ) → k < 64 → at counts k ≡ weighed (turned k) (at planes) i
   count_at k l = ap (λ (c : List ℕ). at c k) so_far.value ∙ tabulate_at 64 (λ k. weighed (turned k) (at planes) i) k 0 l
 
-  pub weighing_few : (k : ℕ) → at counts k < weight
-  weighing_few k = go (dec_lt k 64)
-    where
-      go : Dec (k < 64) → at counts k < weight
-      go (yes l) = omega (arith, count_at k l, weighed_lt (turned k) (at planes) i, so_far.weight_is)
-      go (no g) = omega (arith, past counts k (omega (arith, so_far.long)), so_far.weight_is, pow_pos i)
-
   module _ (l : i < 12) where
-    pub weighing_light : weight ≤ 2048
-    weighing_light = let few : 2 ^ i ≤ 2 ^ 11 = pow_mono {j = 11} (omega arith) in omega (arith, so_far.weight_is)
+    pub weighing_few : (k : ℕ) → at counts k < 1 * 2 ^ i % 65536
+    weighing_few k = rw (weight_is i l) (go (dec_lt k 64))
+      where
+        go : Dec (k < 64) → at counts k < 2 ^ i
+        go (yes b) = omega (arith, count_at k b, weighed_lt (turned k) (at planes) i)
+        go (no g) = omega (arith, past counts k (omega (arith, so_far.long)), pow_pos i)
 
-    pub weighing_double : Fits w16 (2 * weight)
-    weighing_double = record { fits = omega (arith, weighing_light) }
+    pub weighing_light : 1 * 2 ^ i % 65536 ≤ 2048
+    weighing_light = rw (weight_is i l) (let few : 2 ^ i ≤ 2 ^ 11 = pow_mono {j = 11} (omega arith) in few)
 
-    pub weighing_next : (next : List ℕ) → next ≡ plane_added counts (at planes i) weight → Weighing planes (i + 1) (2 * weight) next
+    pub weighing_next : (next : List ℕ) → next ≡ plane_added counts (at planes i) (1 * 2 ^ i % 65536) → Weighing planes (i + 1) next
     unfolding weighed plane_added
     weighing_next next e =
         record {
           within = omega arith;
-          weight_is = rw add-one (omega (arith, so_far.weight_is, pow-suc 2 i));
           long = ap length e ∙ tabulate_length 64 _;
           value = e ∙ rw add-one (tabulate_same 64 _ _ (λ k h.
-              ap₂ (λ (n w : ℕ). n + lane_bit (turned k) (at planes i) * w) (count_at k h) so_far.weight_is));
+              ap₂ (λ (n w : ℕ). n + lane_bit (turned k) (at planes i) * w) (count_at k h) (weight_is i l)));
         }
 
   pub weighing_end : 12 ≤ i → counts ≡ plane_counts planes

@@ -1,23 +1,26 @@
 -- What an operation on bit-sliced elements is for each inner word k: the field's own operation on the elements of that word. Assumes nothing.
 use mathlib.Core.Path.{◌≡◌, refl, sym, ap, ap₂, ◌∙◌}
 use mathlib.Core.Bool.{true, cond}
-use mathlib.Core.List.{List, [], ◌∷◌}
-use Prim.Native.Nat.{ℕ, zero, suc, ◌+◌, ◌-◌, ◌*◌, ◌/◌, ◌%◌, ◌^◌, ◌<◌, min, max}
+use mathlib.Core.List.{List, [], ◌∷◌, ◌++◌}
+use Prim.Native.Nat.{ℕ, zero, suc, ◌+◌, ◌-◌, ◌*◌, ◌/◌, ◌%◌, ◌^◌, ◌≤◌, ◌<◌, min, max}
 use native.Mathlib.Nat.{pow-suc, zero-div}
 use native.Mathlib.Omega.{arith}
 use borrow.Author.Tests.{eqb-true}
 use lib.Bits.{bit_and, bit_or, and_shr, and_step, or_shr, or_step}
 use lib.Dec.{eqb}
-use lib.ListN.{length}
+use lib.ListN.{length, drop, replicate}
 use lib.Pow.{pow_pos, shr-shr}
+use Rattle.std.proofs.lemmas.List.{drop_more}
 use Rattle.fields.specs.Elements.{xor, scale, doubled, times_from, times}
+use Rattle.fields.specs.Lists.{tabulate}
 use Rattle.fields.specs.Places.{at, every}
+use Rattle.fields.proofs.Lists.{tabulate_is}
 use Rattle.fields.proofs.Places.Tests.{every_at}
 use Rattle.fields.proofs.Xor.{xor_high, xor_half, xor_bit, xor_zero_l, xor_zero_r, xor_comm, xor_cancel, additive_zero}
 use Rattle.fields.proofs.Doubling.{scale_sum, doubled_sum}
 use Rattle.fields.proofs.Times.{zero_times}
 use Rattle.lanes.specs.declared.Lanes.{Lanes}
-use Rattle.lanes.specs.Steps.Sliced.{cells, lane_bit, lane, element}
+use Rattle.lanes.specs.Steps.Sliced.{lane_bit, lane, element}
 
 -- ---- numbers by their lowest bit and the rest
 
@@ -52,19 +55,14 @@ module _ (m p : ℕ) where
 
 -- ---- lists of numbers as the functions make them
 
--- the sums of two lists, number by number; a list with a mask; a number joined with those of a list
-abbrev plus : List ℕ → List ℕ → List ℕ
-plus [] t = t
-plus (x ∷ s) [] = x ∷ s
-plus (x ∷ s) (y ∷ t) = xor x y ∷ plus s t
-
-abbrev masks : ℕ → List ℕ → List ℕ
-masks m [] = []
-masks m (x ∷ s) = bit_and x m ∷ masks m s
-
-abbrev some : ℕ → List ℕ → ℕ
+-- a number joined with those of a list
+abbrev pub some : ℕ → List ℕ → ℕ
 some x [] = x
 some x (y ∷ s) = some (bit_or x y) s
+
+pub some_more : (x : ℕ) (s : List ℕ) (y : ℕ) → some x (s ++ y ∷ []) ≡ bit_or (some x s) y
+some_more x [] y = refl
+some_more x (z ∷ s) y = some_more (bit_or x z) s y
 
 -- the sum of f at some places; a list of such sums
 abbrev total : (ℕ → ℕ) → List ℕ → ℕ
@@ -123,32 +121,35 @@ module _ (k : ℕ) where
 -- ---- sums, masks, and what is not zero
 
 module _ (k : ℕ) where
-  plus_lane : (s t : List ℕ) → lane k (plus s t) ≡ xor (lane k s) (lane k t)
-  unfolding lane
-  plus_lane [] t = sym (xor_zero_l _)
-  plus_lane (x ∷ s) [] = sym (xor_zero_r _)
-  plus_lane (x ∷ s) (y ∷ t) = rw (bit_sum k, plus_lane s t) (sym (sum_digits _ _ _ _ (bit_lt k x) (bit_lt k y)))
+  -- the number of a list is that of its places
+  own : (s : List ℕ) → length s ≡ 11 → lane k (tabulate 11 (at s)) ≡ lane k s
+  own s e = ap (lane k) (sym (tabulate_is 11 (at s) s 0 e (λ i l. refl)))
 
-  masks_lane : (s : List ℕ) (m : ℕ) → lane k (masks m s) ≡ scale (lane_bit k m) (lane k s)
-  unfolding lane
-  masks_lane [] m = sym (additive_zero (scale (lane_bit k m)) (scale_sum (lane_bit k m)))
-  masks_lane (x ∷ s) m = rw (bit_masked k, masks_lane s m) (mask_digits _ _ _ (bit_lt k x) (bit_lt k m))
+  plus_lane : (n : ℕ) (f g : ℕ → ℕ) → lane k (tabulate n (λ i. xor (f i) (g i))) ≡ xor (lane k (tabulate n f)) (lane k (tabulate n g))
+  unfolding lane tabulate
+  plus_lane zero f g = sym (xor_zero_l 0)
+  plus_lane (suc n) f g = rw (bit_sum k, plus_lane n (λ i. f (suc i)) (λ i. g (suc i))) (sym (sum_digits _ _ _ _ (bit_lt k (f 0)) (bit_lt k (g 0))))
+
+  masks_lane : (n : ℕ) (f : ℕ → ℕ) (m : ℕ) → lane k (tabulate n (λ i. bit_and (f i) m)) ≡ scale (lane_bit k m) (lane k (tabulate n f))
+  unfolding lane tabulate
+  masks_lane zero f m = sym (additive_zero (scale (lane_bit k m)) (scale_sum (lane_bit k m)))
+  masks_lane (suc n) f m = rw (bit_masked k, masks_lane n (λ i. f (suc i)) m) (mask_digits _ _ _ (bit_lt k (f 0)) (bit_lt k m))
 
   some_lane : (x : ℕ) (s : List ℕ) → lane_bit k (some x s) ≡ min (lane_bit k x + 2 * lane k s) 1
   unfolding lane
   some_lane x [] = omega (arith, bit_lt k x)
   some_lane x (y ∷ s) = some_lane (bit_or x y) s ∙ rw (bit_some k) (omega (arith, bit_lt k x, bit_lt k y))
 
-  pub sum_is : (x y : Lanes) → lane k (plus (cells x) (cells y)) ≡ xor (element k x) (element k y)
-  sum_is x y = plus_lane (cells x) (cells y)
+  pub plus_is : (x y : Lanes) {out : List ℕ} → length x.0 ≡ 11 → length y.0 ≡ 11 → out ≡ tabulate 11 (λ i. xor (at x.0 i) (at y.0 i)) →
+      lane k out ≡ xor (element k x) (element k y)
+  plus_is x y ex ey e = ap (lane k) e ∙ plus_lane 11 (at x.0) (at y.0) ∙ ap₂ xor (own x.0 ex) (own y.0 ey)
 
-  pub masked_is : (x : Lanes) (m : ℕ) → lane k (masks m (cells x)) ≡ scale (lane_bit k m) (element k x)
-  masked_is x m = masks_lane (cells x) m
+  pub masked_is : (x : Lanes) (m : ℕ) {out : List ℕ} → length x.0 ≡ 11 → out ≡ tabulate 11 (λ i. bit_and (at x.0 i) m) →
+      lane k out ≡ scale (lane_bit k m) (element k x)
+  masked_is x m ex e = ap (lane k) e ∙ masks_lane 11 (at x.0) m ∙ ap (scale (lane_bit k m)) (own x.0 ex)
 
-  pub nonzero_is : (x : Lanes) →
-      lane_bit k (some x.r0 (x.r1 ∷ x.r2 ∷ x.r3 ∷ x.r4 ∷ x.r5 ∷ x.r6 ∷ x.r7 ∷ x.r8 ∷ x.r9 ∷ x.r10 ∷ [])) ≡ min (element k x) 1
-  unfolding lane
-  nonzero_is x = some_lane x.r0 (x.r1 ∷ x.r2 ∷ x.r3 ∷ x.r4 ∷ x.r5 ∷ x.r6 ∷ x.r7 ∷ x.r8 ∷ x.r9 ∷ x.r10 ∷ [])
+  pub nonzero_is : (x : Lanes) {r : ℕ} → r ≡ some 0 x.0 → lane_bit k r ≡ min (element k x) 1
+  nonzero_is x e = rw e (some_lane 0 x.0 ∙ rw (bit_none k) (omega arith))
 
   pub chosen_is : (x y m : ℕ) → xor y (scale (lane_bit k m) (xor x y)) ≡ cond (eqb (lane_bit k m) 1) x y
   unfolding scale
@@ -186,24 +187,42 @@ module _ (k : ℕ) where
     totals_same [] = refl
     totals_same (l ∷ ls) = rw (total_same l, totals_same ls)
 
-  tested : (ls : List (List ℕ)) (g : ℕ → ℕ) → Gives ls g → (x : Lanes) → lane k (totals (at (cells x)) ls) ≡ g (element k x)
-  tested ls g t x = totals_same _ _ (lane_bit_lem (cells x)) ls ∙ eqb-true _ _ (every_at 2048 _ t (element k x) (lane_lt (cells x)))
+  tested : (ls : List (List ℕ)) (g : ℕ → ℕ) → Gives ls g → (x : Lanes) → length x.0 ≡ 11 → lane k (totals (at x.0) ls) ≡ g (element k x)
+  tested ls g t x e = totals_same _ _ (lane_bit_lem x.0) ls ∙ eqb-true _ _ (every_at 2048 _ t (element k x) (rw e at (lane_lt x.0)))
 
-  pub doubled_is : (x : Lanes) → lane k (totals (at (cells x)) doubles) ≡ doubled 11 2053 (element k x)
+  pub doubled_is : (x : Lanes) → length x.0 ≡ 11 → lane k (totals (at x.0) doubles) ≡ doubled 11 2053 (element k x)
   doubled_is = tested doubles (doubled 11 2053) doubles_tested
 
-  pub square_is : (x : Lanes) → lane k (totals (at (cells x)) squares) ≡ times 11 2053 (element k x) (element k x)
+  pub square_is : (x : Lanes) → length x.0 ≡ 11 → lane k (totals (at x.0) squares) ≡ times 11 2053 (element k x) (element k x)
   square_is = tested squares (λ x. times 11 2053 x x) squares_tested
 
   -- ---- products, bit by bit
 
-  pub first_bit : (x c : ℕ) {r : ℕ} → r ≡ scale (lane_bit k c) x → r ≡ times_from 11 2053 1 x (lane_bit k c + 2 * 0)
-  unfolding times_from doubled scale xor
-  first_bit x c e = e ∙ sym (times_digit 11 2053 0 x (lane_bit k c) 0 (bit_lt k c))
+  -- the invariant: p is the product by the bits of y from number i on
+  pub record Multiplied (x y : Lanes) (i : ℕ) (p : Lanes) : Type 0 where
+    pub value : element k p ≡ times_from 11 2053 (11 - i) (element k x) (lane k (drop i y.0))
 
-  pub next_bit : (n x y c : ℕ) {p r : ℕ} → p ≡ times_from 11 2053 n x y → r ≡ xor (doubled 11 2053 p) (scale (lane_bit k c) x) →
-      r ≡ times_from 11 2053 (suc n) x (lane_bit k c + 2 * y)
-  next_bit n x y c ep er = er ∙ rw ep (sym (times_digit 11 2053 n x (lane_bit k c) y (bit_lt k c)))
+  pub multiplied_start : (x y : Lanes) → length y.0 ≡ 11 → Multiplied x y 11 (record { 0 = replicate 11 0 })
+  unfolding times_from lane
+  multiplied_start x y e = record { value = rw (bit_none k) refl }
+
+  pub multiplied_next : {x y p r : Lanes} {i : ℕ} → Multiplied x y i p → length y.0 ≡ 11 → 0 < i → i ≤ 11 →
+      element k r ≡ xor (doubled 11 2053 (element k p)) (scale (lane_bit k (at y.0 (i - 1))) (element k x)) → Multiplied x y (i - 1) r
+  unfolding lane
+  multiplied_next {x} {y} {p} {r} {i} so_far e some most er =
+      let j = i - 1 in
+      let more : j + 1 ≡ i = omega arith in
+      let n : 11 - j ≡ suc (11 - i) = omega arith in
+      let l : j < length y.0 = omega arith in
+      record {
+        value =
+            rw (n, drop_more y.0 j 0 l, more)
+            (er ∙ rw (so_far.value) (sym (times_digit 11 2053 (11 - i) (element k x) (lane_bit k (at y.0 j)) (lane k (drop i y.0)) (bit_lt k (at y.0 j)))));
+      }
+
+  pub multiplied_end : {x y p : Lanes} {i : ℕ} → Multiplied x y i p → i ≤ 0 → element k p ≡ times 11 2053 (element k x) (element k y)
+  unfolding times
+  multiplied_end {x} {y} {p} {i} h l = let e : i ≡ 0 = omega arith in rw e at h.value
 
   -- nothing is multiplied where an element is zero
   pub none_times : (x : Lanes) (y n : ℕ) → lane_bit k n ≡ min (element k x) 1 → n ≡ 0 → element k x ≡ times 11 2053 (element k x) y

@@ -2,7 +2,6 @@
 // test.
 ghost use Rattle.std.specs.Prelude.{◌≡◌, length};
 
-use crate::elements::BANK;
 use crate::{RESIDUES, locators, search};
 
 // Writes the places to be inverted in the wrong inner words: bit k of number p, the highest first, is 1 where word k is to be inverted in place p.
@@ -10,10 +9,8 @@ pub fn find(residues: &[u64; RESIDUES], wrong: u64, flips: &mut [u64])
     requires { length flips.old ≡ 2040 }
     ensures { length flips.new ≡ 2040 }
 {
-    let mut syndromes = [0u64; BANK];
-    locators::syndromes(residues, &mut syndromes);
-    let mut locator = [0u64; BANK];
-    locators::locators(&syndromes, &mut locator);
+    let syndromes = locators::syndromes(residues);
+    let locator = locators::locators(&syndromes);
     let degree = locators::degree(&locator);
-    search::search(&locator, degree, wrong, flips);
+    search::search(&locator, degree, wrong, flips.try_into().unwrap());
 }

@@ -1,7 +1,7 @@
 // Bit-sliced inner words: a number of 64 bits holds one bit of each of the 64 inner words, eleven numbers an element of field B of each, or a residue. The
 // wrong places of all inner words are found at once in this form:
 //
-//     elements     sums, products and squares; banks of sixteen elements
+//     elements     sums, products and squares
 //     locators     syndromes from residues: that modulo the least polynomial of a^e gives the syndrome of a^e for the odd e, a square that of an even one;
 //                  then the locator polynomials, by Berlekamp and Massey's algorithm
 //     search       Chien search: the places at which a locator polynomial is zero
@@ -31,20 +31,8 @@ pub const FIRST_PLACES: usize = 5;
 pub const WORD_BLOCKS: usize = 185;
 
 // Every inner word: bit k of a number, the highest first, is that of inner word k.
-pub const ALL: u64 = 0xffff_ffff_ffff_ffff;
+pub const ALL: u64 = u64::MAX;
 
 // The eleven coefficients of 64 elements or residues, the lowest power first.
 #[derive(Clone, Copy)]
-pub struct Lanes {
-    pub r0: u64,
-    pub r1: u64,
-    pub r2: u64,
-    pub r3: u64,
-    pub r4: u64,
-    pub r5: u64,
-    pub r6: u64,
-    pub r7: u64,
-    pub r8: u64,
-    pub r9: u64,
-    pub r10: u64,
-}
+pub struct Lanes(pub [u64; DEGREE]);

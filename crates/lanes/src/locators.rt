@@ -1,195 +1,141 @@
 // Syndromes of all inner words, and by them the locator polynomials: Berlekamp and Massey's algorithm, without division, in the form for binary codes, which
 // takes eight steps.
-ghost use Rattle.std.specs.Prelude.{◌+◌, ◌*◌, ◌≤◌, ◌<◌};
+ghost use Rattle.std.specs.Prelude.{◌<◌};
 
-use crate::elements::BANK;
-use crate::{ALL, DEGREE, FACTORS, Lanes, RESIDUES, elements};
-use decoding::RADIUS;
+use crate::{ALL, DEGREE, Lanes, RESIDUES};
+use decoding::{COEFFICIENTS, RADIUS, SYNDROMES};
 
-// Coefficients of a locator polynomial, which has degree eight at most.
-const COEFFICIENTS: usize = RADIUS + 1;
-
-// The syndrome of a^e, with e = 2 j + 1: the value at a^e of the residue modulo its least polynomial, which is the j-th factor; Horner's rule.
-fn odd_syndrome(residues: &[u64; RESIDUES], j: usize) -> Lanes
-    requires { j < 8 }
-{
-    let mut v = elements::bit(0);
-    let mut i: usize = 0;
-    while i < DEGREE {
-        v = elements::sum(
-            elements::times_power(v, 2 * j + 1),
-            elements::bit(residues[DEGREE * j + (DEGREE - 1 - i)]),
-        );
-        i += 1;
+// The syndrome of a^e: the value at a^e of the residue modulo its least polynomial; Horner's rule.
+fn odd_syndrome(residue: &[u64], e: usize) -> Lanes {
+    let mut v = Lanes::ZERO;
+    for x in residue.iter().rev() {
+        v = v.times_power(e).plus(Lanes::bit(*x));
     }
     v
 }
 
-// The sixteen syndromes, of a, a^2, .. a^16.
-pub(crate) fn syndromes(residues: &[u64; RESIDUES], bank: &mut [u64; BANK]) {
-    let mut j: usize = 0;
-    while j < FACTORS {
-        elements::put(bank, 2 * j, odd_syndrome(residues, j));
-        let root = elements::get(bank, j);
-        elements::put(bank, 2 * j + 1, elements::square(root));
-        j += 1;
+// The sixteen syndromes, of a, a^2, .. a^16. The j-th factor is the least polynomial of a^(2 j + 1).
+pub(crate) fn syndromes(residues: &[u64; RESIDUES]) -> [Lanes; SYNDROMES] {
+    let mut syndromes = [Lanes::ZERO; SYNDROMES];
+    for (j, residue) in residues.chunks_exact(DEGREE).enumerate() {
+        syndromes[2 * j] = odd_syndrome(residue, 2 * j + 1);
+        syndromes[2 * j + 1] = syndromes[j].square();
     }
+    syndromes
 }
 
-// Terms of the discrepancy in step r: coefficients that a syndrome stands for.
-fn terms_in(r: usize) -> usize
-    requires { r < 8 }
-    ensures { (result ≤ 9) × (result ≤ 2 * r + 1) }
-{
-    if 2 * r + 1 < COEFFICIENTS {
-        return 2 * r + 1;
-    }
-    COEFFICIENTS
-}
+// The coefficients of a locator polynomial, the lowest first. It has degree eight at most.
+pub(crate) type Polynomial = [Lanes; COEFFICIENTS];
 
-// The next syndrome that a locator polynomial would give differs by this from the syndrome in step r: the sum of its coefficients times the syndromes
-// from number 2 r + 1 down.
-fn discrepancy(locator: &[u64; BANK], syndromes: &[u64; BANK], r: usize) -> Lanes
-    requires { r < 8 }
-{
-    let n = terms_in(r);
-    let mut d = elements::bit(0);
-    let mut i: usize = 0;
-    while i < n {
-        d = elements::sum(
-            d,
-            elements::sparse_product(
-                elements::get(locator, i),
-                elements::get(syndromes, 2 * r - i),
-            ),
-        );
-        i += 1;
+// The next syndrome that a locator polynomial would give differs by this from the last of those given: the sum of its coefficients times these syndromes, the
+// last one first.
+fn discrepancy(locator: &Polynomial, syndromes: &[Lanes]) -> Lanes {
+    let mut d = Lanes::ZERO;
+    for (x, y) in locator.iter().zip(syndromes.iter().rev()) {
+        d = d.plus(x.sparse_product(*y));
     }
     d
 }
 
 // The locator polynomial times g, plus d times the other.
-fn combine(locator: &mut [u64; BANK], g: Lanes, other: &[u64; BANK], d: Lanes) {
-    let mut i: usize = 0;
-    while i < COEFFICIENTS {
-        let x = elements::sum(
-            elements::sparse_product(elements::get(locator, i), g),
-            elements::sparse_product(elements::get(other, i), d),
-        );
-        elements::put(locator, i, x);
-        i += 1;
+fn combine(locator: &mut Polynomial, g: Lanes, other: &Polynomial, d: Lanes) {
+    for (x, y) in locator.iter_mut().zip(other) {
+        *x = x.sparse_product(g).plus(y.sparse_product(d));
     }
 }
 
 // The polynomial becomes the one given in the inner words of the mask; then it is multiplied by x^2, without the terms of too high a degree.
-fn follow(other: &mut [u64; BANK], mask: u64, locator: &[u64; BANK]) {
-    let mut k: usize = 0;
-    while k < RADIUS - 1 {
-        let i = RADIUS - 2 - k;
-        let x = elements::chosen(mask, elements::get(locator, i), elements::get(other, i));
-        elements::put(other, RADIUS - k, x);
-        k += 1;
+fn follow(other: &mut Polynomial, mask: u64, locator: &Polynomial) {
+    for i in (0..RADIUS - 1).rev() {
+        other[i + 2] = Lanes::chosen(mask, locator[i], other[i]);
     }
-    elements::put(other, 0, elements::bit(0));
-    elements::put(other, 1, elements::bit(0));
+    other[0] = Lanes::ZERO;
+    other[1] = Lanes::ZERO;
 }
 
-// Number j, from 1 to 9, has the inner words in which the shortest recurrence of the syndromes so far has at least length j.
+// Number j has the inner words in which the shortest recurrence of the syndromes so far has at least length j.
 #[derive(Clone, Copy)]
-struct Lengths {
-    at: [u64; COEFFICIENTS + 1],
+struct Lengths([u64; COEFFICIENTS + 1]);
+
+impl Lengths {
+    // The inner words in which a length that becomes n less itself is at least j then.
+    fn reflected(self, n: usize, j: usize) -> u64
+        requires { n < 18 }
+    {
+        match self.0.get((n + 1).saturating_sub(j)) {
+            Some(longer) => !longer,
+            None => ALL,
+        }
+    }
+
+    // A length becomes n less itself in the inner words of the mask.
+    fn lengthened(self, n: usize, mask: u64) -> Self
+        requires { n < 18 }
+    {
+        let mut lengths = self;
+        for j in 1..=COEFFICIENTS {
+            lengths.0[j] = (self.reflected(n, j) & mask) | (self.0[j] & !mask);
+        }
+        lengths
+    }
 }
 
-// The inner words in which a length that becomes 2 r + 1 less itself is at least j then.
-fn reflected(lengths: Lengths, r: usize, j: usize) -> u64
-    requires { (r < 8) × (j < 10) }
-{
-    if 2 * r + 2 <= j {
-        return 0;
-    }
-    let q = 2 * r + 2 - j;
-    if COEFFICIENTS < q {
-        return ALL;
-    }
-    lengths.at[q] ^ ALL
-}
-
-// Lengths are reflected in the inner words of the mask.
-fn lengthened(lengths: Lengths, r: usize, mask: u64) -> Lengths
-    requires { r < 8 }
-{
-    let mut at = [0u64; COEFFICIENTS + 1];
-    let mut j: usize = 0;
-    while j < COEFFICIENTS {
-        let x = reflected(lengths, r, j + 1);
-        at[j + 1] = (x & mask) | (lengths.at[j + 1] & (mask ^ ALL));
-        j += 1;
-    }
-    Lengths { at }
-}
-
-// What a step hands to the next: the discrepancy at which a length last grew, and the lengths.
-#[derive(Clone, Copy)]
-struct Progress {
+// What the steps go through: the locator polynomials, what they were before the length last grew, moved up, the discrepancy at which it grew, and the lengths.
+#[derive(Drop)]
+struct Recurrences {
+    locator: Polynomial,
+    other: Polynomial,
     factor: Lanes,
     lengths: Lengths,
 }
 
-// Berlekamp-Massey step r: a locator polynomial with a discrepancy d is multiplied by the factor, and d times the other polynomial is added, which is the
-// locator polynomial before the length last grew, moved up. Where the length grows, the locator polynomial from before is the other one for the next steps.
-fn step(
-    progress: Progress,
-    r: usize,
-    syndromes: &[u64; BANK],
-    locator: &mut [u64; BANK],
-    other: &mut [u64; BANK],
-) -> Progress
-    requires { r < 8 }
-{
-    let d = discrepancy(locator, syndromes, r);
-    let wrong = elements::nonzero(d);
-    if wrong == 0 {
-        follow(other, 0, locator);
-        return progress;
+impl Recurrences {
+    fn new() -> Self {
+        let one = Lanes::bit(ALL);
+        let mut locator = [Lanes::ZERO; COEFFICIENTS];
+        let mut other = [Lanes::ZERO; COEFFICIENTS];
+        let mut lengths = [0; COEFFICIENTS + 1];
+        locator[0] = one;
+        other[1] = one;
+        lengths[0] = ALL;
+        Recurrences {
+            locator,
+            other,
+            factor: one,
+            lengths: Lengths(lengths),
+        }
     }
-    let lengths = progress.lengths;
-    let factor = progress.factor;
-    let grows = wrong & (lengths.at[r + 1] ^ ALL);
-    let old = *locator;
-    combine(locator, factor, other, d);
-    follow(other, grows, &old);
-    Progress {
-        factor: elements::chosen(grows, d, factor),
-        lengths: lengthened(lengths, r, grows),
+
+    // Berlekamp-Massey step r: a locator polynomial with a discrepancy d is multiplied by the factor, and d times the other polynomial is added. Where the length
+    // grows, the locator polynomial from before is the other one for the next steps.
+    fn step(&mut self, r: usize, syndromes: &[Lanes; SYNDROMES])
+        requires { r < 8 }
+    {
+        let d = discrepancy(&self.locator, &syndromes[..2 * r + 1]);
+        let wrong = d.nonzero();
+        if wrong == 0 {
+            follow(&mut self.other, 0, &self.locator);
+            return;
+        }
+        let grows = wrong & !self.lengths.0[r + 1];
+        let before = self.locator;
+        combine(&mut self.locator, self.factor, &self.other, d);
+        follow(&mut self.other, grows, &before);
+        self.factor = Lanes::chosen(grows, d, self.factor);
+        self.lengths = self.lengths.lengthened(2 * r + 1, grows);
     }
 }
 
-// The locator polynomials, the lowest coefficient first. Their roots are the inverses of the locators.
-pub(crate) fn locators(syndromes: &[u64; BANK], locator: &mut [u64; BANK]) {
-    let mut other = [0u64; BANK];
-    elements::put(locator, 0, elements::bit(ALL));
-    elements::put(&mut other, 1, elements::bit(ALL));
-    let mut progress = Progress {
-        factor: elements::bit(ALL),
-        lengths: Lengths {
-            at: [0u64; COEFFICIENTS + 1],
-        },
-    };
-    let mut r: usize = 0;
-    while r < RADIUS {
-        progress = step(progress, r, syndromes, locator, &mut other);
-        r += 1;
+// The locator polynomials. Their roots are the inverses of the locators.
+pub(crate) fn locators(syndromes: &[Lanes; SYNDROMES]) -> Polynomial {
+    let mut recurrence = Recurrences::new();
+    for r in 0..RADIUS {
+        recurrence.step(r, syndromes);
     }
+    recurrence.locator
 }
 
 // The largest degree of the locator polynomials.
-pub(crate) fn degree(locator: &[u64; BANK]) -> usize {
-    let mut i: usize = RADIUS;
-    while 0 < i {
-        if elements::nonzero(elements::get(locator, i)) != 0 {
-            return i;
-        }
-        i -= 1;
-    }
-    0
+pub(crate) fn degree(locator: &Polynomial) -> usize {
+    locator.iter().rposition(|x| x.nonzero() != 0).unwrap_or(0)
 }

@@ -1,29 +1,28 @@
--- The order of the worst list. This file alone looks into it: each way through its function, document 02's words for it, and that it is a strict total order.
+-- The order of the worst list. This file alone looks into it: the comparison of ranks, document 02's words for it, and that it is a strict total order.
 -- Assumes nothing.
 use mathlib.Core.Path.{◌≡◌, refl, sym, ◌∙◌}
 use mathlib.Core.Logic.{◌⊎◌, inl, inr}
-use mathlib.Core.Bool.{or-false}
+use mathlib.Core.Bool.{◌&&◌, ◌||◌, or-false}
 use mathlib.Core.List.{List}
 use Prim.Native.Nat.{ℕ, ◌+◌, ◌≤◌, ◌<◌}
 use native.Mathlib.Decide.{dec_lt, ℕ_discrete}
 use native.Mathlib.Omega.{arith}
 use borrow.Author.Tests.{ltb-true, lt-ltb, le-ltb, eq-eqb, ne_eqb}
-use lib.Dec.{ltb}
-use lib.ListN.{get_or}
+use lib.Dec.{eqb, ltb}
+use Rattle.std.proofs.Common.{Option, Some}
+use Rattle.std.proofs.lemmas.Bool.Decides.{nat_tests}
+use Rattle.std.specs.declared.cmp.Ordering.{Ordering}
+use Rattle.std.specs.Ordering.{nat_cmp, is_gt, is_some_and, partial_ordering_then}
 use Rattle.logging.specs.WorstList.{Counts, count_in, count_of, data_of, is_before}
 use Rattle.logging.specs.Laws.{Before, PutFirst}
 
 -- ---- counts
 
-pub count_inside : (list : List ℕ) (k x : ℕ) → k < 64 → x ≡ get_or list k 0 → x ≡ count_in list k
-unfolding count_in
-count_inside list k x h e = rw (lt-ltb k 64 h, e)
-
-pub count_outside : (list : List ℕ) (k : ℕ) → 64 ≤ k → 0 ≡ count_in list k
+count_outside : (list : List ℕ) (k : ℕ) → 64 ≤ k → 0 ≡ count_in list k
 unfolding count_in
 count_outside list k h = rw (le-ltb k 64 h)
 
-pub count_together : (counts : Counts) (k x y : ℕ) → x ≡ count_in counts.0 k → y ≡ count_in counts.1 k → x + y ≡ count_of counts k
+count_together : (counts : Counts) (k x y : ℕ) → x ≡ count_in counts.0 k → y ≡ count_in counts.1 k → x + y ≡ count_of counts k
 unfolding count_of
 count_together counts k x y ex ey = rw (ex, ey)
 
@@ -31,7 +30,7 @@ count_together counts k x y ex ey = rw (ex, ey)
 pub none_outside : (counts : Counts) (k : ℕ) → 64 ≤ k → 0 ≡ count_of counts k
 none_outside counts k h = count_together counts k 0 0 (count_outside counts.0 k h) (count_outside counts.1 k h)
 
--- ---- each way through the function
+-- ---- its parts, one after another
 
 module _ (counts : Counts) (j k x y : ℕ) (ex : x ≡ count_of counts j) (ey : y ≡ count_of counts k) where
   pub before_count : (x ≡ y → ⊥) → ltb y x ≡ is_before counts j k
@@ -46,6 +45,16 @@ module _ (counts : Counts) (j k x y : ℕ) (ex : x ≡ count_of counts j) (ey : 
     pub before_number : u ≡ v → ltb k j ≡ is_before counts j k
     unfolding is_before
     before_number e = rw (← ex, ← ey, le-ltb y x (omega arith), eq-eqb x y equal, ← eu, ← ev, le-ltb v u (omega arith), eq-eqb u v e)
+
+-- ranks, field by field
+larger : (x y : ℕ) (o : Option Ordering) → is_some_and is_gt (partial_ordering_then (Some (nat_cmp x y)) o) ≡ (ltb y x || (eqb x y && is_some_and is_gt o))
+larger x y o = grind (arith, nat_tests)
+
+pub before_ranked : (counts : Counts) (j k x y u v m n : ℕ) → x ≡ count_of counts j → y ≡ count_of counts k → u ≡ data_of counts j → v ≡ data_of counts k →
+    m ≡ j → n ≡ k →
+    is_some_and is_gt (partial_ordering_then (Some (nat_cmp x y)) (partial_ordering_then (Some (nat_cmp u v)) (Some (nat_cmp m n)))) ≡ is_before counts j k
+unfolding is_before
+before_ranked counts j k x y u v m n ex ey eu ev em en = rw (← ex, ← ey, ← eu, ← ev, ← em, ← en) (grind (larger, arith))
 
 -- ---- document 02's words
 

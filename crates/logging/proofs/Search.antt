@@ -1,17 +1,17 @@
 -- The search for the next place, each way through its functions: what can be listed, what a place holds once one more inner word is looked at, and all inner
 -- words. Assumes nothing.
 use mathlib.Core.Path.{◌≡◌, refl, sym, ◌∙◌}
-use mathlib.Core.Logic.{◌⊎◌, inl, inr, ⊎_elim}
+use mathlib.Core.Logic.{◌⊎◌, inl, inr}
 use mathlib.Core.Bool.{Bool, true, false, not, ◌&&◌, ◌||◌, cond, and-true, and-false, or-true, false≢true}
 use mathlib.Core.List.{List}
-use Prim.Native.Nat.{ℕ, ◌+◌, ◌≤◌, ◌<◌, zero-le}
+use Prim.Native.Nat.{ℕ, ◌+◌, ◌<◌}
 use native.Mathlib.Decide.{dec_lt}
-use native.Mathlib.Nat.{le_refl}
 use native.Mathlib.Numerals.{add-one}
 use native.Mathlib.Omega.{arith}
 use borrow.Author.Tests.{ltb-true, lt-ltb, eq-eqb, ne_eqb}
 use lib.Dec.{eqb, ltb}
 use lib.ListN.{get_or}
+use Rattle.std.proofs.Common.{Option, Some, None, IfSome, unwrap_or}
 use Rattle.logging.specs.WorstList.{Counts, count_of, is_before, is_open, earlier, first_open}
 use Rattle.logging.proofs.Order.{none_outside}
 
@@ -22,15 +22,7 @@ module _ (counts : Counts) (listed : List Bool) (k : ℕ) where
   abbrev pub Open : Type 0
   Open = is_open counts listed k ≡ true
 
-  pub open_outside : 64 ≤ k → false ≡ is_open counts listed k
-  unfolding is_open
-  open_outside h = rw (← none_outside counts k h)
-
-  pub open_listed : get_or listed k false ≡ true → false ≡ is_open counts listed k
-  unfolding is_open
-  open_listed e = rw e (sym (and-false (ltb 0 (count_of counts k))))
-
-  pub open_counted : (x : ℕ) → get_or listed k false ≡ false → x ≡ count_of counts k → ltb 0 x ≡ is_open counts listed k
+  open_counted : (x : ℕ) → get_or listed k false ≡ false → x ≡ count_of counts k → ltb 0 x ≡ is_open counts listed k
   unfolding is_open
   open_counted x e ex = rw (e, ex) (sym (and-true (ltb 0 (count_of counts k))))
 
@@ -92,25 +84,32 @@ module _ (counts : Counts) (listed : List Bool) (j k : ℕ) where
 
 -- ---- all inner words
 
--- the invariant of the search: j is the first of those among the first k that can be listed
-pub record Searched (counts : Counts) (listed : List Bool) (k j : ℕ) : Type 0 where
-  pub within : k ≤ 64
-  pub place : j ≤ 64
-  pub value : j ≡ first_open counts listed k
+-- `first` holds the first of those among the first k that can be listed; the next one is looked at
+module _ (counts : Counts) (listed : List Bool) (k : ℕ) (first : Option ℕ) (so_far : unwrap_or first 64 ≡ first_open counts listed k) where
+  -- it cannot be listed
+  pub first_closed : (t : Bool) → t ≡ is_open counts listed k → t ≡ false → unwrap_or first 64 ≡ first_open counts listed (k + 1)
+  unfolding first_open
+  first_closed t e o = rw add-one (so_far ∙ earlier_closed counts listed (first_open counts listed k) k t e o)
 
-pub searched_start : {counts : Counts} {listed : List Bool} → Searched counts listed 0 64
-unfolding first_open
-searched_start = record { within = zero-le; place = le_refl 64; value = refl }
+  -- it can be listed; the test u says whether it stands before the one that was first, and is true if there is none
+  module _ (t : Bool) (e : t ≡ is_open counts listed k) (o : t ≡ true) (u : Bool) (none : first ≡ None → u ≡ true)
+      (some : (j : ℕ) → first ≡ Some j → u ≡ is_before counts k j) where
+    pub first_new : u ≡ true → k ≡ first_open counts listed (k + 1)
+    unfolding first_open
+    first_new b = rw add-one (go first refl)
+      where
+        go : (f : Option ℕ) → first ≡ f → k ≡ earlier counts listed (first_open counts listed k) k
+        go None q = let v = rw q at so_far in earlier_empty counts listed (first_open counts listed k) k t e o (sym v)
+        go (Some j) q = let v = rw q at so_far in let s = some j q in earlier_new counts listed (first_open counts listed k) k t u e o (rw v at s) b
 
-pub searched_next : (counts : Counts) (listed : List Bool) (k j i : ℕ) → Searched counts listed k j → k < 64 → i ≡ earlier counts listed j k →
-    Searched counts listed (k + 1) i
-unfolding first_open
-searched_next counts listed k j i s h e =
-    record {
-      within = omega arith;
-      place = ⊎_elim (λ w. omega (arith, w, e, s.place)) (λ w. omega (arith, w, e)) (earlier_one counts listed j k);
-      value = e ∙ rw (add-one, ← s.value);
-    }
-
-pub searched_end : (counts : Counts) (listed : List Bool) (k j : ℕ) → Searched counts listed k j → 64 ≤ k → j ≡ first_open counts listed 64
-searched_end counts listed k j s h = let e : k ≡ 64 = omega (arith, s.within) in rw e at s.value
+    pub first_same : IfSome first (λ j. j < 64) → u ≡ false → unwrap_or first 64 ≡ first_open counts listed (k + 1)
+    unfolding first_open
+    first_same within b = rw add-one (go first refl)
+      where
+        go : (f : Option ℕ) → first ≡ f → unwrap_or first 64 ≡ earlier counts listed (first_open counts listed k) k
+        go None q = absurd (false≢true (sym b ∙ none q))
+        go (Some j) q =
+            let l = rw q at within in
+            let v = rw q at so_far in
+            let s = some j q in
+            rw q (v ∙ earlier_same counts listed (first_open counts listed k) k u (λ e. omega (arith, l, v)) (rw v at s) b)

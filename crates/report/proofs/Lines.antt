@@ -9,5 +9,6 @@ unfolding inner_lines
 lines_then counts [] k = append-nil (inner_line counts k)
 lines_then counts (j ∷ ks) k = ap (λ l. inner_line counts j ++ l) (lines_then counts ks k) ∙ sym (append_assoc (inner_line counts j) (inner_lines counts ks) (inner_line counts k))
 
-pub lines_next : (counts : Counts) (ks : List ℕ) (i : ℕ) → i < length ks → inner_lines counts (take i ks) ++ inner_line counts (get_or ks i 0) ≡ inner_lines counts (take (i + 1) ks)
-lines_next counts ks i p = sym (lines_then counts (take i ks) (get_or ks i 0)) ∙ ap (inner_lines counts) (sym (take-suc ks i 0 p)) ∙ ap (λ n. inner_lines counts (take n ks)) (sym (add-one i))
+pub lines_next : (counts : Counts) (ks : List ℕ) (i k : ℕ) → i < length ks → k ≡ get_or ks i 0 → inner_lines counts (take i ks) ++ inner_line counts k ≡ inner_lines counts (take (i + 1) ks)
+lines_next counts ks i k p e =
+    rw e (sym (lines_then counts (take i ks) (get_or ks i 0)) ∙ ap (inner_lines counts) (sym (take-suc ks i 0 p)) ∙ ap (λ n. inner_lines counts (take n ks)) (sym (add-one i)))

@@ -5,41 +5,21 @@
 
 ghost use Rattle.std.specs.Prelude.{◌≡◌, ◌≤◌, length, take, IfOk, OnOk, IfSome};
 ghost use Rattle.std.specs.Io.KnownBytes.{Appends};
-ghost use Rattle.report.specs.Printed.{line, inner_line, listed, printed, report_on};
+ghost use Rattle.report.specs.Printed.{inner_line, listed, printed, report_on};
 
 use frames::{Frame, Report};
 use std::io;
 use std::io::{Read, Write};
 
-fn wide(n: u16) -> u64
-    ensures { result ≡ n }
-{
-    n as u64
-}
-
-// What ends each line: text and a number.
-#[tactic(auto, using(crate::proofs::Written::appends_then), unfolding(crate::specs::Printed::line))]
-fn line<W: Write>(writer: &mut W, before: &[u8], n: u64) -> io::Result<()>
-    ensures { OnOk result (Appends (W.contents writer.old) (W.contents writer.new) (line before.now n)) }
-{
-    writer.write_all(before)?;
-    writeln!(writer, "{n}")
-}
-
 // The line of inner word k; none for an empty place of the list.
-#[tactic(auto, using(crate::proofs::Written::appends_then, crate::proofs::Written::appends_nothing), unfolding(crate::specs::Printed::inner_line))]
-fn inner_word<W: Write>(
-    writer: &mut W,
-    data: &[u16; Frame::INNER_WORDS],
-    parity: &[u16; Frame::INNER_WORDS],
-    k: usize,
-) -> io::Result<()>
-    ensures { OnOk result (Appends (W.contents writer.old) (W.contents writer.new) (inner_line («data».now, parity.now) k)) }
+#[tactic(auto, using(crate::proofs::Written::appends_then, crate::proofs::Written::appends_nothing), unfolding(crate::specs::Printed::inner_line, crate::specs::Printed::line))]
+fn inner_word<W: Write>(writer: &mut W, report: &Report, k: usize) -> io::Result<()>
+    ensures { OnOk result (Appends (W.contents writer.old) (W.contents writer.new) (inner_line (report.now.data, report.now.parity) k)) }
 {
     if k < logging::EMPTY {
-        let data_places = wide(data[k]);
-        write!(writer, "inner {k} {data_places}")?;
-        line(writer, b" ", wide(parity[k]))?;
+        let in_data = report.data[k];
+        let in_parity = report.parity[k];
+        writeln!(writer, "inner {k} {in_data} {in_parity}")?;
     }
     Ok(())
 }
@@ -47,26 +27,22 @@ fn inner_word<W: Write>(
 fn worst_words<W: Write>(writer: &mut W, report: Report) -> io::Result<()>
     ensures { OnOk result (Appends (W.contents writer.old) (W.contents writer.new) (listed (report.«data», report.parity))) }
 {
-    let data = report.data;
-    let parity = report.parity;
-    let list = logging::worst_words(report);
-    let mut i: usize = 0;
-    while i < logging::LISTED {
-        inner_word(writer, &data, &parity, list[i] as usize)?;
-        i += 1;
+    for k in logging::worst_words(report) {
+        inner_word(writer, &report, usize::from(k))?;
     }
     Ok(())
 }
 
-#[tactic(auto, using(crate::proofs::Written::appends_then), unfolding(crate::specs::Printed::printed))]
+#[tactic(auto, using(crate::proofs::Written::appends_then), unfolding(crate::specs::Printed::printed, crate::specs::Printed::line))]
 fn print<W: Write>(writer: &mut W, report: Report) -> io::Result<()>
     ensures { OnOk result (Appends (W.contents writer.old) (W.contents writer.new) (printed report.refusal (report.«data», report.parity) report.sum)) }
 {
-    if report.refusal == 0 {
-        line(writer, b"mended ", report.sum as u64)?;
+    let Report { refusal, sum, .. } = report;
+    if refusal == 0 {
+        writeln!(writer, "mended {sum}")?;
         worst_words(writer, report)
     } else {
-        line(writer, b"refused ", report.refusal as u64)
+        writeln!(writer, "refused {refusal}")
     }
 }
 
@@ -77,11 +53,10 @@ fn read_full<R: Read>(reader: &mut R, buffer: &mut [u8]) -> io::Result<usize>
 {
     let mut done: usize = 0;
     while done < buffer.len() {
-        let n = reader.read(&mut buffer[done..])?;
-        if n == 0 {
-            return Ok(done);
+        match reader.read(&mut buffer[done..])? {
+            0 => break,
+            n => done += n,
         }
-        done += n;
     }
     Ok(done)
 }

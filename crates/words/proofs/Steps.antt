@@ -3,11 +3,9 @@ pub mod Loops
 pub mod Digits
 pub mod Joining
 pub mod Shifting
-pub mod Limbs
-pub mod LimbProducts
+pub mod Products
 pub mod FourPlaces
 pub mod Inner
-pub mod Refusals
 pub mod Entries
 pub mod Corrections
 pub mod InnerCorrection

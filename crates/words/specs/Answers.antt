@@ -2,14 +2,15 @@
 use Rattle.std.specs.Prelude.{Bool, true, ◌&&◌, cond, List, ℕ, eqb, leb, length}
 use Rattle.std.proofs.Math.Option.{Option, none, some}
 use Rattle.fields.specs.Places.{at, all_below, apart_between, apart}
-use Rattle.words.specs.declared.Correction.{Correction}
-use Rattle.words.specs.declared.Correction.TheVariants.{Corrected, Refused}
-use Rattle.words.specs.declared.InnerCorrection.{InnerCorrection}
-use Rattle.words.specs.declared.InnerCorrection.TheVariants as Inner
+use Rattle.words.specs.Corrections.{Correction, Corrected, Refused}
+use Rattle.words.specs.InnerCorrections.{InnerCorrection}
+use Rattle.words.specs.InnerCorrections as Inner
 use Rattle.words.specs.Bits.{bits_of, bytes_of}
 use Rattle.words.specs.OuterCode.{is_outer, outer_parity}
 use Rattle.words.specs.InnerCode.{is_inner, inner_parity}
 use Rattle.words.specs.Nearest.{nearest}
+pub use Rattle.words.specs.Corrections.{number, refusal_number, correction_of, refusal_of, changed_of}
+pub use Rattle.words.specs.InnerCorrections.{inner_correction_of, inner_refusal_of, data_changed_of, parity_changed_of}
 
 -- the number n unless the test holds; else what follows
 abbrev pub unless : Bool → ℕ → ℕ → ℕ
@@ -44,28 +45,6 @@ inner_checked w = first_of (refusal (eqb (length w) 255) true true) (unless (is_
 
 unfoldable pub inner_encoded : List ℕ → List ℕ → ℕ × List ℕ
 inner_encoded d buffer = answered (refusal (eqb (length d) 244) (eqb (length buffer) 11) true) (bytes_of 11 (at (inner_parity (bits_of d)))) buffer
-
--- document 01's numbers for each case of a correction's answer: 0 or the refusal's number, and how many symbols of an outer word were changed
-abbrev pub refusal_of : Correction → ℕ
-refusal_of (Corrected changed) = 0
-refusal_of (Refused number) = number
-
-abbrev pub changed_of : Correction → ℕ
-changed_of (Corrected changed) = changed
-changed_of (Refused number) = 0
-
--- the same of an inner word, where changed data places and changed parity places are counted apart
-abbrev pub inner_refusal_of : InnerCorrection → ℕ
-inner_refusal_of (Inner.Corrected d p) = 0
-inner_refusal_of (Inner.Refused number) = number
-
-abbrev pub data_changed_of : InnerCorrection → ℕ
-data_changed_of (Inner.Corrected d p) = d
-data_changed_of (Inner.Refused number) = 0
-
-abbrev pub parity_changed_of : InnerCorrection → ℕ
-parity_changed_of (Inner.Corrected d p) = p
-parity_changed_of (Inner.Refused number) = 0
 
 -- the answer, and the buffer: the code word that was found, with its changes; or refusal 5, none within the radius ("beyond reach")
 unfoldable pub found : {A : Type 0} → (ℕ → A) → (List ℕ → A) → (List ℕ → List ℕ) → List ℕ → Option (List ℕ) → A × List ℕ

@@ -5,6 +5,8 @@ pub mod OuterCode
 pub mod InnerCode
 pub mod Nearest
 pub mod InnerWords
+pub mod Corrections
+pub mod InnerCorrections
 pub mod Answers
 pub mod Codes
 -- need not be believed

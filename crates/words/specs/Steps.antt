@@ -1,5 +1,5 @@
 -- What the functions below the entries give.
 pub mod Division
 pub mod SixSymbols
-pub mod Limbs
+pub mod Residues
 pub mod InnerDecoding

@@ -1,12 +1,12 @@
-// Inner words: binary polynomials, the divisor that the eight factors make, the remainder of a word after division by it, and correction: the values of the
-// remainder give the wrong places (module wrong_places), which are inverted.
-ghost use Rattle.std.specs.Prelude.{◌≡◌, ◌*◌, ◌/◌, ◌%◌, ◌+◌, ◌^◌, ◌≤◌, ◌<◌, length, eqb};
-ghost use Rattle.fields.specs.Elements.{xor, scale, doubled, powers_b, exponents_b};
+// Inner words: the divisor that the eight factors make, the remainder of a word after division by it, and correction: the values of the remainder give the
+// wrong places (module wrong_places), which are inverted. A binary polynomial is a number: bit i is the coefficient of z^i.
+ghost use Rattle.std.specs.Prelude.{◌≡◌, ◌*◌, ◌/◌, ◌%◌, ◌+◌, ◌^◌, ◌≤◌, ◌<◌, length};
+ghost use Rattle.fields.specs.Elements.{scale, doubled, powers_b};
 ghost use Rattle.fields.specs.Places.{at};
 ghost use Rattle.decoding.specs.Steps.Decoder.{with_errors};
 ghost use Rattle.words.specs.Bits.{bit_at, bits_of, number_of, bit_of, bytes_of};
 ghost use Rattle.words.specs.InnerCode.{value_of, factors, divisor, remainder};
-ghost use Rattle.words.specs.Steps.Limbs.{number, Represents, residue, Residues};
+ghost use Rattle.words.specs.Steps.Residues.{residue, residues};
 ghost use Rattle.words.specs.Steps.InnerDecoding.{odd_syndromes, plus_term, flips, InnerErrors};
 
 use crate::wrong_places::OddSyndromes;
@@ -14,62 +14,11 @@ use crate::{Inner, wrong_places};
 use decoding::error_values::Errors;
 use decoding::symbols;
 
-// Coefficients below z^48, the low ones, stand in one number, the others in another.
-const LOW_BITS: usize = 48;
-
-const LOW_VALUES: u64 = 1 << LOW_BITS;
-
-// A remainder, of degree below 88, has so many coefficients that are not low.
-const HIGH_BITS: usize = Inner::PARITY - LOW_BITS;
-
-const HIGH_VALUES: u64 = 1 << HIGH_BITS;
-
-// A binary polynomial: bit i of `low` is the coefficient of z^i, bit i of `high` that of z^(48 + i).
-#[derive(Clone, Copy)]
-pub struct Polynomial {
-    pub high: u64,
-    pub low: u64,
-}
-
-// A bit as the polynomial 0 or 1; any other byte as the polynomial of its bits.
-fn constant(b: u8) -> Polynomial
-    ensures { Represents result.high result.low b }
-{
-    Polynomial {
-        high: 0,
-        low: b as u64,
-    }
-}
-
-fn plus(u: Polynomial, v: Polynomial) -> Polynomial
-    requires { (u.low < 2 ^ 48) × (v.low < 2 ^ 48) }
-    ensures { Represents result.high result.low (xor (number u.high u.low) (number v.high v.low)) }
-{
-    Polynomial {
-        high: u.high ^ v.high,
-        low: u.low ^ v.low,
-    }
-}
-
-fn times_z(v: Polynomial) -> Polynomial
-    requires { (v.high < 2 ^ 60) × (v.low < 2 ^ 48) }
-    ensures { Represents result.high result.low (2 * number v.high v.low) }
-{
-    Polynomial {
-        high: 2 * v.high + (v.low >> (LOW_BITS - 1)),
-        low: 2 * v.low % LOW_VALUES,
-    }
-}
-
 // v where the bit is 1, and 0 where it is 0.
-fn scaled(b: u16, v: Polynomial) -> Polynomial
-    requires { v.low < 2 ^ 48 }
-    ensures { Represents result.high result.low (scale b (number v.high v.low)) }
+fn scaled(b: u16, v: u128) -> u128
+    ensures { result ≡ scale b v }
 {
-    if b == 0 {
-        return constant(0);
-    }
-    v
+    if b == 0 { 0 } else { v }
 }
 
 // The least polynomials of a, a^3, .. a^15 in field B, as 12-bit numbers.
@@ -83,42 +32,39 @@ fn factor(i: usize) -> u16
 }
 
 // The polynomial f of degree below 12 times v.
-fn times(f: u16, v: Polynomial) -> Polynomial
-    requires { (v.high < 2 ^ 40) × (v.low < 2 ^ 48) }
-    ensures { Represents result.high result.low (value_of (λ u. 2 * u) (number v.high v.low) 12 f) }
+fn times(f: u16, v: u128) -> u128
+    requires { v < 2 ^ 88 }
+    ensures { result ≡ value_of (λ u. 2 * u) v 12 f }
 {
-    let mut u = constant(0);
-    let mut k: u16 = 0;
-    while k < 12 {
-        u = plus(times_z(u), scaled((f >> (11 - k)) % 2, v));
-        k += 1;
+    let mut u = 0;
+    for k in 0..12u16 {
+        u = (2 * u) ^ scaled((f >> (11 - k)) % 2, v);
     }
     u
 }
 
 // The product of the eight factors, of degree 88.
-pub(crate) fn divisor() -> Polynomial
-    ensures { Represents result.high result.low divisor }
+fn divisor() -> u128
+    ensures { result ≡ divisor }
 {
-    let mut d = constant(1);
-    let mut i: usize = 0;
-    while i < 8 {
+    let mut d = 1;
+    for i in 0..8 {
         d = times(factor(i), d);
-        i += 1;
     }
     d
 }
 
 // z times v, less d where a term z^88 comes up.
-fn doubled(v: Polynomial, d: Polynomial) -> Polynomial
-    requires { (v.high < 2 ^ 60) × (v.low < 2 ^ 48) × (d.low < 2 ^ 48) }
-    ensures { Represents result.high result.low (doubled 88 (number d.high d.low) (number v.high v.low)) }
+fn doubled(v: u128, d: u128) -> u128
+    requires { v < 2 ^ 100 }
+    ensures { result ≡ doubled 88 d v }
 {
-    let t = times_z(v);
-    if (t.high >> HIGH_BITS) % 2 == 0 {
-        return t;
+    let t = 2 * v;
+    if (t >> Inner::PARITY) % 2 == 0 {
+        t
+    } else {
+        t ^ d
     }
-    plus(t, d)
 }
 
 // A division takes so many places a step.
@@ -130,54 +76,48 @@ const STEP_MASK: u8 = (1 << STEP) - 1;
 
 const STEPS: usize = Inner::PLACES / STEP;
 
+// So many coefficients of a remainder stay below z^88 in a step.
+const KEPT: usize = Inner::PARITY - STEP;
+
+const REMAINDERS: u128 = 1 << Inner::PARITY;
+
 // The remainder of k z^88 after division by the divisor d, where k is a polynomial of degree below 4.
-fn residue(d: Polynomial, k: usize) -> Polynomial
-    requires { Represents d.high d.low divisor × (k < 16) }
-    ensures { Represents result.high result.low (residue divisor k) }
+fn residue(d: u128, k: usize) -> u128
+    requires { (d ≡ divisor) × (k < 16) }
+    ensures { result ≡ residue divisor k }
 {
-    let mut v = Polynomial {
-        high: (k as u64) << (HIGH_BITS - STEP),
-        low: 0,
-    };
-    let mut i: usize = 0;
-    while i < STEP {
+    let mut v = (k as u128) << KEPT;
+    for _i in 0..STEP {
         v = doubled(v, d);
-        i += 1;
     }
     v
 }
 
-// The table of the division by d: entry k is the remainder of k z^88.
-fn residues(d: Polynomial) -> [Polynomial; STEP_VALUES]
-    requires { Represents d.high d.low divisor }
-    ensures { Residues divisor 16 result }
+// The table of the division: entry k is the remainder of k z^88.
+fn residues() -> [u128; STEP_VALUES]
+    ensures { result ≡ residues divisor }
 {
-    let mut t = [constant(0); STEP_VALUES];
-    let mut k: usize = 0;
-    while k < STEP_VALUES {
+    let d = divisor();
+    let mut t = [0; STEP_VALUES];
+    for k in 0..STEP_VALUES {
         t[k] = residue(d, k);
-        k += 1;
     }
     t
 }
 
 // The coefficients of z^84 to z^87 of v, as a number: z^4 takes them to z^88 and above.
-fn leading(v: Polynomial) -> usize
-    requires { v.low < 2 ^ 48 }
-    ensures { result ≡ number v.high v.low / 2 ^ 84 % 16 }
+fn leading(v: u128) -> usize
+    ensures { result ≡ v / 2 ^ 84 % 16 }
 {
-    (v.high >> (HIGH_BITS - STEP)) as usize % STEP_VALUES
+    ((v >> KEPT) % 16) as usize
 }
 
 // z^4 times v, without the terms from z^88 on, plus x.
-fn shifted(v: Polynomial, x: u8) -> Polynomial
-    requires { (v.low < 2 ^ 48) × (x < 16) }
-    ensures { Represents result.high result.low (16 * number v.high v.low % 2 ^ 88 + x) }
+fn shifted(v: u128, x: u8) -> u128
+    requires { x < 16 }
+    ensures { result ≡ 16 * v % 2 ^ 88 + x }
 {
-    Polynomial {
-        high: (v.high << STEP) % HIGH_VALUES + (v.low >> (LOW_BITS - STEP)),
-        low: (v.low << STEP) % LOW_VALUES + (x as u64),
-    }
+    (v << STEP) % REMAINDERS + u128::from(x)
 }
 
 // The four places from place 4 i on, half a byte, as a number; 0 past the end.
@@ -190,102 +130,78 @@ fn four_places(bytes: &[u8], i: usize) -> u8
     0
 }
 
-// The remainder of 2,040 places after division by the divisor d; places past the end of the bytes are 0. It takes four places a step, and so a
+// The remainder of 2,040 places after division by the divisor; places past the end of the bytes are 0. It takes four places a step, and so a
 // quarter of the steps: for the terms that come to z^88 and above, a step adds their remainder, which the table has.
-pub(crate) fn remainder(d: Polynomial, bytes: &[u8]) -> Polynomial
-    requires { Represents d.high d.low divisor }
-    ensures { Represents result.high result.low (remainder 88 divisor (bit_at bytes.now) 2040) }
+pub(crate) fn remainder(bytes: &[u8]) -> u128
+    ensures { result ≡ remainder 88 divisor (bit_at bytes.now) 2040 }
 {
-    let t = residues(d);
-    let mut v = constant(0);
-    let mut i: usize = 0;
-    while i < STEPS {
-        v = plus(t[leading(v)], shifted(v, four_places(bytes, i)));
-        i += 1;
+    let t = residues();
+    let mut v = 0;
+    for i in 0..STEPS {
+        v = t[leading(v)] ^ shifted(v, four_places(bytes, i));
     }
     v
 }
 
-pub(crate) fn is_zero(v: Polynomial) -> bool
-    ensures { result ≡ eqb (number v.high v.low) 0 }
-{
-    if v.high == 0 { v.low == 0 } else { false }
-}
-
 // Byte k of the eleven that the 88 coefficients of v make, the highest first.
-fn byte(v: Polynomial, k: usize) -> u8
-    requires { (v.low < 2 ^ 48) × (k < 11) }
-    ensures { result ≡ number_of 8 (λ j. bit_of 88 (number v.high v.low) (8 * k + j)) }
+fn byte(v: u128, k: usize) -> u8
+    requires { k < 11 }
+    ensures { result ≡ number_of 8 (λ j. bit_of 88 v (8 * k + j)) }
 {
     let shift = Inner::PARITY - 8 * (k + 1);
-    if shift < LOW_BITS {
-        return ((v.low >> shift) % 256) as u8;
-    }
-    ((v.high >> (shift - LOW_BITS)) % 256) as u8
+    ((v >> shift) % 256) as u8
 }
 
 // Writes the 88 coefficients of v as eleven bytes.
-pub(crate) fn store(v: Polynomial, out: &mut [u8])
-    requires { (v.low < 2 ^ 48) × (length out.old ≡ 11) }
-    ensures { out.new ≡ bytes_of 11 (bit_of 88 (number v.high v.low)) }
+pub(crate) fn store(v: u128, out: &mut [u8])
+    requires { length out.old ≡ 11 }
+    ensures { out.new ≡ bytes_of 11 (bit_of 88 v) }
 {
-    let mut k: usize = 0;
-    while k < Inner::PARITY_BYTES {
+    for k in 0..Inner::PARITY_BYTES {
         out[k] = byte(v, k);
-        k += 1;
     }
 }
 
 // Coefficient k of the 88 of v, the highest first.
-fn coefficient(v: Polynomial, k: usize) -> u16
-    requires { (v.low < 2 ^ 48) × (k < 88) }
-    ensures { (result ≡ bit_of 88 (number v.high v.low) k) × (result < 2) }
+fn coefficient(v: u128, k: usize) -> u16
+    requires { k < 88 }
+    ensures { (result ≡ bit_of 88 v k) × (result < 2) }
 {
-    let shift = Inner::PARITY - 1 - k;
-    if shift < LOW_BITS {
-        return ((v.low >> shift) % 2) as u16;
-    }
-    ((v.high >> (shift - LOW_BITS)) % 2) as u16
+    ((v >> (Inner::PARITY - 1 - k)) % 2) as u16
 }
 
 // The values w with those of the term c z^i added. A product by the bit c, not a branch on it: coefficients cannot be predicted.
-fn plus_term(exp: &[u16], w: OddSyndromes, c: u16, i: usize) -> OddSyndromes
+fn plus_term(w: OddSyndromes, c: u16, i: usize) -> OddSyndromes
     requires { (c < 2) × (i < 88) }
-    ensures { result.at ≡ plus_term exp.now w.at c i }
+    ensures { result.at ≡ plus_term powers_b w.at c i }
 {
-    let mut at = [0u16; Inner::RADIUS];
-    let mut j: usize = 0;
-    while j < Inner::RADIUS {
-        let x = fields::power(exp, (2 * (j as u16) + 1) * (i as u16));
+    let field = fields::field_b();
+    let mut at = [0; Inner::RADIUS];
+    for j in 0..Inner::RADIUS {
+        let x = field.power((2 * (j as u16) + 1) * (i as u16));
         at[j] = symbols::sum(w.at[j], c * x);
-        j += 1;
     }
     OddSyndromes { at }
 }
 
 // The values of v, of degree below 88: at a^e the sum of a^(e i) over its coefficients i that are 1.
-fn odd_syndromes(exp: &[u16], v: Polynomial) -> OddSyndromes
-    requires { v.low < 2 ^ 48 }
-    ensures { result.at ≡ odd_syndromes exp.now (number v.high v.low) }
+fn odd_syndromes(v: u128) -> OddSyndromes
+    ensures { result.at ≡ odd_syndromes powers_b v }
 {
     let mut w = OddSyndromes {
-        at: [0u16; Inner::RADIUS],
+        at: [0; Inner::RADIUS],
     };
-    let mut i: usize = 0;
-    while i < Inner::PARITY {
-        w = plus_term(exp, w, coefficient(v, Inner::PARITY - 1 - i), i);
-        i += 1;
+    for i in 0..Inner::PARITY {
+        w = plus_term(w, coefficient(v, Inner::PARITY - 1 - i), i);
     }
     w
 }
 
 // The errors in a word: the values of its remainder are those of the word.
-pub(crate) fn errors(exp: &[u16], log: &[u16], word: &[u8]) -> Errors
-    requires { (exp.now ≡ powers_b) × (log.now ≡ exponents_b) }
+pub(crate) fn errors(word: &[u8]) -> Errors
     ensures { InnerErrors word.now result.places.at result.values result.places.count result.left }
 {
-    let odd = odd_syndromes(exp, remainder(divisor(), word));
-    wrong_places::errors_of(exp, log, odd)
+    wrong_places::errors_of(odd_syndromes(remainder(word)))
 }
 
 // Writes the word with the wrong places inverted.
@@ -293,6 +209,6 @@ pub(crate) fn correct(word: &[u8], e: Errors, out: &mut [u8])
     requires { (length out.old ≡ length word.now) × (e.places.count ≤ 8) }
     ensures { bits_of out.new ≡ with_errors (bit_at word.now) e.places.at (flips e.values) e.places.count (8 * length word.now) }
 {
-    symbols::copy_bytes(word, out);
+    symbols::copy(word, out);
     wrong_places::invert(e, 1, 0, out);
 }

@@ -3,12 +3,12 @@
 ghost use Rattle.std.specs.Prelude.{◌≡◌, true, ◌≤◌, length};
 ghost use Rattle.fields.specs.Places.{at, all_below};
 ghost use Rattle.decoding.specs.Steps.Decoder.{with_error, with_errors};
-ghost use Rattle.words.specs.Answers.{outer_corrected};
+ghost use Rattle.words.specs.Answers.{correction_of, outer_corrected};
 ghost use Rattle.words.specs.Steps.Division.{outer_remainder};
 ghost use Rattle.words.specs.Steps.SixSymbols.{Packs};
 
 use crate::packed::Packed;
-use crate::{Correction, packed};
+use crate::{Refusal, packed};
 use decoding::error_values::Errors;
 use decoding::symbols;
 
@@ -28,29 +28,23 @@ fn correct(word: &[u16], e: Errors, out: &mut [u16])
 {
     symbols::copy(word, out);
     let places = e.places;
-    let mut k: usize = 0;
-    while k < places.count {
-        add(out, places.at[k] as usize, e.values[k]);
-        k += 1;
+    for k in 0..places.count {
+        add(out, usize::from(places.at[k]), e.values[k]);
     }
 }
 
 // Writes the code word within eight symbols of a word that no entry refuses, whose remainder is `rest`; 5.
-pub fn correct_from(rest: Packed, word: &[u16], out: &mut [u16]) -> Correction
+pub fn correct_from(rest: Packed, word: &[u16], out: &mut [u16]) -> Result<u16, Refusal>
     requires in_bounds { (17 ≤ length word.now) × (length word.now ≤ 1023) × (all_below 1024 word.now ≡ true) × (length out.old ≡ length word.now) }
     requires packs { Packs rest.high rest.middle rest.low (outer_remainder word.now) }
-    ensures { (result, out.new) ≡ outer_corrected word.now out.old }
+    ensures { (correction_of result, out.new) ≡ outer_corrected word.now out.old }
 {
-    let exp = fields::exp_a();
-    let log = fields::log_a();
-    let t = packed::root_values(&exp, &log, rest);
-    let e = decoding::decode(&exp, &log, t, word.len());
+    let t = packed::root_values(rest);
+    let e = decoding::decode(fields::field_a(), t, word.len());
     let left = e.left;
     if !symbols::all_below(&left, 1) {
-        return Correction::Refused { number: 5 };
+        return Err(Refusal::Uncorrectable);
     }
     correct(word, e, out);
-    Correction::Corrected {
-        changed: decoding::weight(e, 0, word.len()),
-    }
+    Ok(decoding::weight(e, 0, word.len()))
 }

@@ -202,6 +202,13 @@ const UNITS: [u64; TABLE_DIGITS * DIGIT_BITS] = [
     374914975425101824,
 ];
 
+// The table, made once and lent from word to word: each entry is the parity that it stands for.
+#[derive(Drop)]
+pub struct DigitTable {
+    pub entries: [u64; ENTRIES],
+    pub ghost made: { entries ≡ digit_parities },
+}
+
 fn units() -> [u64; TABLE_DIGITS * DIGIT_BITS]
     ensures { result ≡ unit_parities }
 {
@@ -228,10 +235,8 @@ fn store_bit(unit: u64, r: usize, b: usize, table: &mut [u64])
 {
     let n: usize = 1 << b;
     let from = DIGIT_VALUES * r;
-    let mut v: usize = 0;
-    while v < n {
+    for v in 0..n {
         table[from + n + v] = plus(table[from + v], unit);
-        v += 1;
     }
 }
 
@@ -241,10 +246,8 @@ fn store_digit(units: &[u64], r: usize, table: &mut [u64])
     ensures { Stored (64 * (r + 1)) table.new }
 {
     table[DIGIT_VALUES * r] = 0;
-    let mut b: usize = 0;
-    while b < DIGIT_BITS {
+    for b in 0..DIGIT_BITS {
         store_bit(units[DIGIT_BITS * r + b], r, b, table);
-        b += 1;
     }
 }
 
@@ -252,19 +255,15 @@ fn fill(units: &[u64], table: &mut [u64])
     requires { (units.now ≡ unit_parities) × (length table.old ≡ 1920) }
     ensures { table.new ≡ digit_parities }
 {
-    let mut r: usize = 0;
-    while r < TABLE_DIGITS {
+    for r in 0..TABLE_DIGITS {
         store_digit(units, r, table);
-        r += 1;
     }
 }
 
 // The parities of the digits.
-pub fn table() -> [u64; ENTRIES]
-    ensures { result ≡ digit_parities }
-{
+pub fn table() -> DigitTable {
     let units = units();
-    let mut table = blank();
-    fill(&units, &mut table);
-    table
+    let mut entries = blank();
+    fill(&units, &mut entries);
+    DigitTable { entries }
 }

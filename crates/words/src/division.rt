@@ -21,31 +21,29 @@ fn multiples(unit: u16) -> [u16; CELLS]
     requires { unit ≤ 32 }
     ensures { result ≡ multiples unit }
 {
-    let exp = fields::exp_a();
-    let log = fields::log_a();
+    let field = fields::field_a();
     let generator = reed_solomon::generator();
-    let mut table = [0u16; CELLS];
-    let mut n: usize = 0;
-    while n < CELLS {
+    let mut table = [0; CELLS];
+    for n in 0..CELLS {
         let k = (n / Outer::PARITY) as u16;
-        table[n] = fields::product(&exp, &log, unit * k, generator[n % Outer::PARITY + 1]);
-        n += 1;
+        table[n] = field.product(unit * k, generator[n % Outer::PARITY + 1]);
     }
     table
 }
 
-// The multiples by the low digits.
-pub(crate) fn low_multiples() -> [u16; CELLS]
-    ensures { result ≡ multiples 1 }
-{
-    multiples(1)
+// The multiples by the low digits, and those by the high digits.
+#[derive(Drop)]
+pub(crate) struct MultipleTables {
+    low: [u16; CELLS],
+    high: [u16; CELLS],
+    ghost made: { (low ≡ multiples 1) × (high ≡ multiples 32) },
 }
 
-// The multiples by the high digits.
-pub(crate) fn high_multiples() -> [u16; CELLS]
-    ensures { result ≡ multiples 32 }
-{
-    multiples(DIGITS)
+pub(crate) fn tables() -> MultipleTables {
+    MultipleTables {
+        low: multiples(1),
+        high: multiples(DIGITS),
+    }
 }
 
 // The division register: the remainder so far, highest power first.
@@ -66,35 +64,35 @@ impl Register {
     }
 
     // The register after one more symbol.
-    pub(crate) fn next(mut self, low: &[u16], high: &[u16], s: u16) -> Self
-        requires low_value { (low.now ≡ multiples 1) × (high.now ≡ multiples 32) }
-        requires cells_bound { (at self.cells 0 < 1024) × (s < 1024) }
+    pub(crate) fn next(mut self, tables: &MultipleTables, s: u16) -> Self
+        requires { (at self.cells 0 < 1024) × (s < 1024) }
         ensures { result.cells ≡ shifted_in times_a 16 (at generator) self.cells s }
     {
         let f = sum(self.cells[0], s);
-        let l = (f % DIGITS) as usize * Outer::PARITY;
-        let h = (f / DIGITS) as usize * Outer::PARITY;
-        let mut i: usize = 0;
-        while i < Register::LAST {
-            self.cells[i] = sum(self.cells[i + 1], sum(low[l + i], high[h + i]));
-            i += 1;
+        let l = usize::from(f % DIGITS) * Outer::PARITY;
+        let h = usize::from(f / DIGITS) * Outer::PARITY;
+        for i in 0..Register::LAST {
+            self.cells[i] = sum(
+                self.cells[i + 1],
+                sum(tables.low[l + i], tables.high[h + i]),
+            );
         }
-        self.cells[Register::LAST] = sum(low[l + Register::LAST], high[h + Register::LAST]);
+        self.cells[Register::LAST] = sum(
+            tables.low[l + Register::LAST],
+            tables.high[h + Register::LAST],
+        );
         self
     }
 }
 
 // The register after all symbols of data: the parity symbols.
-pub(crate) fn divide(low: &[u16], high: &[u16], data: &[u16]) -> Register
-    requires low_value { (low.now ≡ multiples 1) × (high.now ≡ multiples 32) }
-    requires data_value { all_below 1024 «data».now ≡ true }
+pub(crate) fn divide(tables: &MultipleTables, data: &[u16]) -> Register
+    requires { all_below 1024 «data».now ≡ true }
     ensures { result.cells ≡ outer_parity «data».now }
 {
     let mut register = Register::empty();
-    let mut i = 0;
-    while i < data.len() {
-        register = register.next(low, high, data[i]);
-        i += 1;
+    for &symbol in data {
+        register = register.next(tables, symbol);
     }
     register
 }

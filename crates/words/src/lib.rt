@@ -11,13 +11,13 @@
 //     correct  the remainder gives the syndromes, from which the decoder finds the wrong places
 // The decoder (crate decoding) is one for both codes.
 //
-// Every input is answered: an entry returns 0, or the number of the refusal; a refusal leaves the output buffer as it was. Where a word has more
+// Every input is answered: an entry returns what it found, or the refusal; a refusal leaves the output buffer as it was. Where a word has more
 // than one fault, the order is 6 (its length), 3 (the size of the output buffer), 7 (a symbol above 1,023), then 4 (no code word) or 5 (no code word
 // within eight).
 #![tactic(auto)]
 
 ghost use Rattle.std.specs.Prelude.{◌≡◌};
-ghost use Rattle.words.specs.Answers.{outer_checked, outer_encoded, inner_checked, inner_encoded, outer_corrected, inner_corrected};
+ghost use Rattle.words.specs.Answers.{number, refusal_number, correction_of, inner_correction_of, outer_checked, outer_encoded, inner_checked, inner_encoded, outer_corrected, inner_corrected};
 
 use decoding::symbols;
 
@@ -76,114 +76,131 @@ impl Inner {
     pub const RADIUS: usize = decoding::RADIUS;
 }
 
-// What the correction of Reed-Solomon words answers: how many symbols it changed, or the refusal's number.
-#[derive(Clone, Copy)]
-pub enum Correction {
-    Corrected { changed: u16 },
-    Refused { number: u8 },
+// Why a call refuses. `u8::from` gives the papers' number.
+#[derive(Clone, Copy, Debug, PartialEq, Eq)]
+pub enum Refusal {
+    // The payload is not as long as that of a frame.
+    PayloadLength = 1,
+
+    // The block is not as long as a frame.
+    BlockLength = 2,
+
+    // The output buffer is not exactly as long as the answer.
+    BufferSize = 3,
+
+    // A word that is no code word, a block that is no frame, or a row that is none.
+    NoCodeWord = 4,
+
+    // No code word within the radius: of a word, or of one of the words of a block.
+    Uncorrectable = 5,
+
+    // A word, or data for one, has none of the lengths allowed.
+    WordLength = 6,
+
+    // A symbol is above 1,023.
+    Symbol = 7,
+
+    // A row, or data for one, has not its length.
+    RowLength = 8,
 }
 
-// What the correction of an inner word answers: how many data places and how many parity places it changed, or the refusal's number.
-#[derive(Clone, Copy)]
-pub enum InnerCorrection {
-    Corrected { data: u16, parity: u16 },
-    Refused { number: u8 },
-}
+impl From<Refusal> for u8 {
+    ghost from_gives = { λ refusal n. n ≡ number refusal };
 
-// 0 for an outer code word; 6, 7 or 4.
-pub fn check_outer(word: &[u16]) -> u8
-    ensures { result ≡ outer_checked word.now }
-{
-    let refusal = reed_solomon::refusal(word, Outer::SHORTEST, Outer::LONGEST, true);
-    if refusal != 0 {
-        return refusal;
+    fn from(refusal: Refusal) -> u8 {
+        refusal as u8
     }
-    let exp = fields::exp_a();
-    let log = fields::log_a();
+}
+
+// How many data places and how many parity places of an inner word were changed.
+#[derive(Clone, Copy)]
+pub struct InnerChanges {
+    pub data: u16,
+    pub parity: u16,
+}
+
+// An outer code word; 6, 7 or 4.
+pub fn check_outer(word: &[u16]) -> Result<(), Refusal>
+    ensures { refusal_number result ≡ outer_checked word.now }
+{
+    reed_solomon::tested(word, Outer::SHORTEST, Outer::LONGEST, true)?;
     let table = digit_table::table();
     let rest = packed::remainder(&table, word);
-    let values = packed::root_values(&exp, &log, rest);
-    if symbols::all_below(&values, 1) { 0 } else { 4 }
+    let values = packed::root_values(rest);
+    if !symbols::all_below(&values, 1) {
+        return Err(Refusal::NoCodeWord);
+    }
+    Ok(())
 }
 
-// Writes the parity symbols of data and returns 0; 6, 3 or 7.
-pub fn encode_outer(data: &[u16], out: &mut [u16]) -> u8
-    ensures { (result, out.new) ≡ outer_encoded «data».now out.old }
+// Writes the parity symbols of data; 6, 3 or 7.
+pub fn encode_outer(data: &[u16], out: &mut [u16]) -> Result<(), Refusal>
+    ensures { (refusal_number result, out.new) ≡ outer_encoded «data».now out.old }
 {
     let fits = out.len() == Outer::PARITY;
-    let refusal = reed_solomon::refusal(data, Outer::SHORTEST_DATA, Outer::LONGEST_DATA, fits);
-    if refusal != 0 {
-        return refusal;
-    }
-    let low = division::low_multiples();
-    let high = division::high_multiples();
-    let register = division::divide(&low, &high, data);
+    reed_solomon::tested(data, Outer::SHORTEST_DATA, Outer::LONGEST_DATA, fits)?;
+    let register = division::divide(&division::tables(), data);
     let cells = register.cells;
-    reed_solomon::store(cells, out);
-    0
+    out.copy_from_slice(&cells);
+    Ok(())
 }
 
 // Writes the code word within eight symbols of the word; 6, 3, 7 or 5.
-pub fn correct_outer(word: &[u16], out: &mut [u16]) -> Correction
-    ensures { (result, out.new) ≡ outer_corrected word.now out.old }
+pub fn correct_outer(word: &[u16], out: &mut [u16]) -> Result<u16, Refusal>
+    ensures { (correction_of result, out.new) ≡ outer_corrected word.now out.old }
 {
     let fits = out.len() == word.len();
-    let number = reed_solomon::refusal(word, Outer::SHORTEST, Outer::LONGEST, fits);
-    if number != 0 {
-        return Correction::Refused { number };
-    }
+    reed_solomon::tested(word, Outer::SHORTEST, Outer::LONGEST, fits)?;
     let table = digit_table::table();
     let rest = packed::remainder(&table, word);
     corrector::correct_from(rest, word, out)
 }
 
-// 0 for an inner code word; 6 or 4.
-pub fn check_inner(word: &[u8]) -> u8
-    ensures { result ≡ inner_checked word.now }
+// An inner code word; 6 or 4.
+#[tactic(auto, using(crate::proofs::Steps::Entries::inner_tested), unfolding(crate::specs::Answers::inner_checked, crate::specs::Answers::first_of, crate::specs::Answers::refusal))]
+pub fn check_inner(word: &[u8]) -> Result<(), Refusal>
+    ensures { refusal_number result ≡ inner_checked word.now }
 {
     if word.len() != Inner::BYTES {
-        return 6;
+        return Err(Refusal::WordLength);
     }
-    if bch::is_zero(bch::remainder(bch::divisor(), word)) {
-        0
-    } else {
-        4
+    if bch::remainder(word) != 0 {
+        return Err(Refusal::NoCodeWord);
     }
+    Ok(())
 }
 
-// Writes the parity bytes of data and returns 0; 6 or 3.
-pub fn encode_inner(data: &[u8], out: &mut [u8]) -> u8
-    ensures { (result, out.new) ≡ inner_encoded «data».now out.old }
+// Writes the parity bytes of data; 6 or 3.
+pub fn encode_inner(data: &[u8], out: &mut [u8]) -> Result<(), Refusal>
+    ensures { (refusal_number result, out.new) ≡ inner_encoded «data».now out.old }
 {
     if data.len() != Inner::DATA_BYTES {
-        return 6;
+        return Err(Refusal::WordLength);
     }
     if out.len() != Inner::PARITY_BYTES {
-        return 3;
+        return Err(Refusal::BufferSize);
     }
-    bch::store(bch::remainder(bch::divisor(), data), out);
-    0
+    bch::store(bch::remainder(data), out);
+    Ok(())
 }
 
 // Writes the code word within eight places of the word; 6, 3 or 5.
-pub fn correct_inner(word: &[u8], out: &mut [u8]) -> InnerCorrection
-    ensures { (result, out.new) ≡ inner_corrected word.now out.old }
+pub fn correct_inner(word: &[u8], out: &mut [u8]) -> Result<InnerChanges, Refusal>
+    ensures { (inner_correction_of result, out.new) ≡ inner_corrected word.now out.old }
 {
     if word.len() != Inner::BYTES {
-        return InnerCorrection::Refused { number: 6 };
+        return Err(Refusal::WordLength);
     }
     if out.len() != Inner::BYTES {
-        return InnerCorrection::Refused { number: 3 };
+        return Err(Refusal::BufferSize);
     }
-    let exp = fields::exp_b();
-    let log = fields::log_b();
-    let e = bch::errors(&exp, &log, word);
-    if !wrong_places::explains(&exp, e) {
-        return InnerCorrection::Refused { number: 5 };
+    let e = bch::errors(word);
+    if !wrong_places::explains(fields::field_b(), e) {
+        return Err(Refusal::Uncorrectable);
     }
     bch::correct(word, e, out);
-    InnerCorrection::Corrected {
+    Ok(InnerChanges {
         data: decoding::weight(e, 0, Inner::DATA),
         parity: decoding::weight(e, Inner::DATA, Inner::PLACES),
-    }
+    })
 }

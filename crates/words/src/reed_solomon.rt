@@ -1,55 +1,54 @@
-// Outer words over a field that is lent as its two tables: refusals, values at the roots, and the generator.
+// Outer words: refusals, values at the roots over any field, and the generator.
 ghost use Rattle.std.specs.Prelude.{◌≡◌, length};
 ghost use Rattle.fields.specs.Places.{all_below};
 ghost use Rattle.decoding.specs.Steps.ByTables.{table_value, root_values};
 ghost use Rattle.words.specs.OuterCode.{generator};
-ghost use Rattle.words.specs.Answers.{refusal, within};
+ghost use Rattle.words.specs.Answers.{refusal_number, refusal, within};
 
-use crate::Outer;
+use crate::{Outer, Refusal};
 use decoding::symbols;
+use fields::BinaryField;
 
-// The refusal of a word, or of data, with that many symbols; `fits` says that the output buffer has the answer's size.
-pub(crate) fn refusal(word: &[u16], shortest: usize, longest: usize, fits: bool) -> u8
-    ensures { result ≡ refusal (within shortest longest (length word.now)) fits (all_below 1024 word.now) }
+// A word, or data, with that many symbols; `fits` says that the output buffer has the answer's size. 6, 3 or 7.
+#[tactic(auto, unfolding(crate::specs::Answers::refusal, crate::specs::Answers::within))]
+pub(crate) fn tested(
+    word: &[u16],
+    shortest: usize,
+    longest: usize,
+    fits: bool,
+) -> Result<(), Refusal>
+    ensures { refusal_number result ≡ refusal (within shortest longest (length word.now)) fits (all_below 1024 word.now) }
 {
-    if word.len() < shortest {
-        return 6;
-    }
-    if longest < word.len() {
-        return 6;
+    if word.len() < shortest || longest < word.len() {
+        return Err(Refusal::WordLength);
     }
     if !fits {
-        return 3;
+        return Err(Refusal::BufferSize);
     }
-    if symbols::all_below(word, Outer::SYMBOLS) {
-        0
-    } else {
-        7
+    if !symbols::all_below(word, Outer::SYMBOLS) {
+        return Err(Refusal::Symbol);
     }
+    Ok(())
 }
 
 // The value of the word at x, by Horner's rule.
-fn value(exp: &[u16], log: &[u16], word: &[u16], x: u16) -> u16
-    ensures { result ≡ table_value exp.now log.now word.now x }
+fn value(field: BinaryField, word: &[u16], x: u16) -> u16
+    ensures { result ≡ table_value field.entry.exp.now field.entry.log.now word.now x }
 {
     let mut v = 0;
-    let mut i = 0;
-    while i < word.len() {
-        v = symbols::sum(fields::product(exp, log, v, x), word[i]);
-        i += 1;
+    for &symbol in word {
+        v = symbols::sum(field.product(v, x), symbol);
     }
     v
 }
 
 // The word's values at the sixteen roots a^0 to a^15.
-pub fn root_values(exp: &[u16], log: &[u16], word: &[u16]) -> [u16; Outer::PARITY]
-    ensures { result ≡ root_values exp.now log.now word.now }
+pub fn root_values(field: BinaryField, word: &[u16]) -> [u16; Outer::PARITY]
+    ensures { result ≡ root_values field.entry.exp.now field.entry.log.now word.now }
 {
-    let mut values = [0u16; Outer::PARITY];
-    let mut j: u16 = 0;
-    while j < 16 {
-        values[j as usize] = value(exp, log, word, fields::power(exp, Outer::FIRST_ROOT + j));
-        j += 1;
+    let mut values = [0; Outer::PARITY];
+    for j in 0..Outer::PARITY {
+        values[j] = value(field, word, field.power(Outer::FIRST_ROOT + j as u16));
     }
     values
 }
@@ -63,15 +62,4 @@ pub(crate) fn generator() -> [u16; Outer::PARITY + 1]
     ensures { result ≡ generator }
 {
     GENERATOR
-}
-
-pub(crate) fn store(cells: [u16; Outer::PARITY], out: &mut [u16])
-    requires { length out.old ≡ 16 }
-    ensures { out.new ≡ cells }
-{
-    let mut i: usize = 0;
-    while i < Outer::PARITY {
-        out[i] = cells[i];
-        i += 1;
-    }
 }

@@ -10,6 +10,7 @@ ghost use Rattle.words.specs.Steps.InnerDecoding.{Syndromes, is_bit, is_binary, 
 use crate::Inner;
 use decoding::error_values::Errors;
 use decoding::symbols;
+use fields::BinaryField;
 
 // The values of a polynomial, or of a word, at a, a^3, .. a^15.
 #[derive(Clone, Copy)]
@@ -18,15 +19,14 @@ pub struct OddSyndromes {
 }
 
 // The values of a word at a, a^2, .. a^16, from those at the odd powers: at the even powers they are squares.
-fn syndromes(exp: &[u16], log: &[u16], odd: OddSyndromes) -> [u16; decoding::SYNDROMES]
-    ensures { Syndromes exp.now log.now odd.at 8 result }
+fn syndromes(odd: OddSyndromes) -> [u16; decoding::SYNDROMES]
+    ensures { Syndromes powers_b exponents_b odd.at 8 result }
 {
-    let mut t = [0u16; decoding::SYNDROMES];
-    let mut i: usize = 0;
-    while i < Inner::RADIUS {
+    let field = fields::field_b();
+    let mut t = [0; decoding::SYNDROMES];
+    for i in 0..Inner::RADIUS {
         t[2 * i] = odd.at[i];
-        t[2 * i + 1] = fields::product(exp, log, t[i], t[i]);
-        i += 1;
+        t[2 * i + 1] = field.product(t[i], t[i]);
     }
     t
 }
@@ -35,56 +35,47 @@ fn syndromes(exp: &[u16], log: &[u16], odd: OddSyndromes) -> [u16; decoding::SYN
 fn is_bit(value: u16, x: u16) -> bool
     ensures { result ≡ is_bit value x }
 {
-    if value == 0 { true } else { value == x }
+    value == 0 || value == x
 }
 
 // Each error's value is that of a wrong place.
-fn is_binary(exp: &[u16], e: Errors) -> bool
-    ensures { result ≡ is_binary exp.now e.places.at e.values e.places.count }
+fn is_binary(field: BinaryField, e: Errors) -> bool
+    ensures { result ≡ is_binary field.entry.exp.now e.places.at e.values e.places.count }
 {
     let places = e.places;
     let at = places.at;
     let values = e.values;
-    let mut k: usize = 0;
-    while k < places.count {
-        let x = decoding::locator(exp, Inner::PLACES, symbols::symbol(&at, k) as usize);
+    for k in 0..places.count {
+        let x = decoding::locator(field, Inner::PLACES, usize::from(symbols::symbol(&at, k)));
         if !is_bit(symbols::symbol(&values, k), x) {
             return false;
         }
-        k += 1;
     }
     true
 }
 
 // The errors in a word that has these values, which is a code word with at most eight places wrong only if they explain it.
-pub(crate) fn errors_of(exp: &[u16], log: &[u16], odd: OddSyndromes) -> Errors
-    requires { (exp.now ≡ powers_b) × (log.now ≡ exponents_b) }
+pub(crate) fn errors_of(odd: OddSyndromes) -> Errors
     ensures { ErrorsOf odd.at result.places.at result.values result.places.count result.left }
 {
-    let t = syndromes(exp, log, odd);
-    decoding::decode_bits(exp, log, t, Inner::PLACES)
+    decoding::decode_bits(fields::field_b(), syndromes(odd), Inner::PLACES)
 }
 
 // The errors in an inner word, from its odd syndromes, by tables of powers, which the caller lends from word to word.
-pub fn errors_by_tables(exp: &[u16], log: &[u16], tables: &mut [u16], odd: OddSyndromes) -> Errors
-    requires { (exp.now ≡ powers_b) × (log.now ≡ exponents_b) × PowerTables exp.now tables.old }
+pub fn errors_by_tables(tables: &mut [u16], odd: OddSyndromes) -> Errors
+    requires { PowerTables powers_b tables.old }
     ensures errors { ErrorsOf odd.at result.places.at result.values result.places.count result.left }
-    ensures tables { PowerTables exp.now tables.new }
+    ensures tables { PowerTables powers_b tables.new }
 {
-    let t = syndromes(exp, log, odd);
-    decoding::decode_bits_by_tables(exp, log, tables, t, Inner::PLACES)
+    decoding::decode_bits_by_tables(fields::field_b(), tables, syndromes(odd), Inner::PLACES)
 }
 
 // The errors leave nothing of the syndromes, and each has the value of a wrong place.
-pub fn explains(exp: &[u16], e: Errors) -> bool
-    ensures { result ≡ explains exp.now e.places.at e.values e.places.count e.left }
+pub fn explains(field: BinaryField, e: Errors) -> bool
+    ensures { result ≡ explains field.entry.exp.now e.places.at e.values e.places.count e.left }
 {
     let left = e.left;
-    if symbols::all_below(&left, 1) {
-        is_binary(exp, e)
-    } else {
-        false
-    }
+    symbols::all_below(&left, 1) && is_binary(field, e)
 }
 
 // Inverts place i, if the value is not zero; a place past the end changes nothing.
@@ -95,7 +86,7 @@ pub fn flip(out: &mut [u8], i: usize, value: u16)
         return;
     }
     if i / 8 < out.len() {
-        out[i / 8] = out[i / 8] ^ (128 >> (i % 8));
+        out[i / 8] ^= 128 >> (i % 8);
     }
 }
 
@@ -104,7 +95,7 @@ fn bit_place(step: usize, i: u16, first: usize) -> usize
     requires { (step ≤ 64) × (first < 64) }
     ensures { result ≡ step * i + first }
 {
-    step * (i as usize) + first
+    step * usize::from(i) + first
 }
 
 // Inverts the wrong places in bytes in which place i of the word stands at bit `step * i + first`.
@@ -113,9 +104,7 @@ pub fn invert(e: Errors, step: usize, first: usize, out: &mut [u8])
     ensures { (l : ℕ) → l < 8 * length out.old → bit_at out.new l ≡ xor (bit_at out.old l) (inverted step first e.places.at e.values e.places.count l) }
 {
     let places = e.places;
-    let mut k: usize = 0;
-    while k < places.count {
+    for k in 0..places.count {
         flip(out, bit_place(step, places.at[k], first), e.values[k]);
-        k += 1;
     }
 }

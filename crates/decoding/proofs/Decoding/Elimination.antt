@@ -1,7 +1,7 @@
 -- The elimination finds a polynomial that annihilates the syndromes: reduced by the pivots, one of nine rows has no cell left. Assumes nothing.
-use mathlib.Core.Path.{◌≡◌, refl, sym, ap, ap₂, ◌∙◌}
+use mathlib.Core.Path.{◌≡◌, refl, sym, ap₂, ◌∙◌}
 use mathlib.Core.Bool.{Bool, true, false, cond}
-use mathlib.Core.List.{List}
+use mathlib.Core.List.{List, []}
 use Prim.Native.Nat.{ℕ, zero, suc, ◌+◌, ◌-◌, ◌≤◌, ◌<◌}
 use native.Mathlib.Decide.{ℕ_discrete}
 use native.Mathlib.Nat.{not-suc-le-zero}
@@ -17,9 +17,8 @@ use Rattle.fields.specs.Places.{at, sum_to, differs}
 use Rattle.fields.proofs.Lists.{tabulate_at, tabulate_lt}
 use Rattle.fields.proofs.Places.Counting.{differs_most, sum_most, sum_one_more}
 use Rattle.fields.proofs.Places.Filling.{zeros_at}
-use Rattle.decoding.specs.declared.annihilator.Row.{Row}
 use Rattle.decoding.specs.Steps.Decoder.{Tables}
-use Rattle.decoding.specs.Steps.Annihilator.{Annihilates, power_row, plus_scaled, Zeros, cell_cleared, no_row, cells_of, reduced, FirstNonzero}
+use Rattle.decoding.specs.Steps.Annihilator.{Annihilates, power_row, plus_scaled, Zeros, cell_cleared, cells_of, reduced, FirstNonzero}
 use Rattle.decoding.proofs.Algebra.Field.{Ops, Laws, add_self, add-zero, mul_comm, mul_assoc, mul-zero}
 use Rattle.decoding.proofs.Algebra.Locators.{applied_to, applied_same, applied_linear, applied_zero, applied_power}
 use Rattle.decoding.proofs.Algebra.Tables.{table_ops, table_laws, table_applied}
@@ -40,13 +39,13 @@ module _ (es ls t : List ℕ) where
     pub above : (i : ℕ) → 8 ≤ i → i + d ≤ 16 → at v i ≡ 0
 
   -- the pivots after the rows of 1, x, .. x^(d - 1): there are d of them
-  pub record Pivots (d : ℕ) (pivots : List Row) : Type 0 where
+  pub record Pivots (d : ℕ) (pivots : List (List ℕ)) : Type 0 where
     pub long : length pivots ≡ 8
     pub each : (j : ℕ) → j < 8 → Pivot d j (cells_of pivots j)
     pub count : sum_to 8 (λ j. differs (at (cells_of pivots j) j) 0) ≡ d
 
   -- the row of a polynomial of degree d, with leading coefficient 1: those of its first n cells that have pivots are zero
-  record Reduced (pivots : List Row) (d n : ℕ) (u : List ℕ) : Type 0 where
+  record Reduced (pivots : List (List ℕ)) (d n : ℕ) (u : List ℕ) : Type 0 where
     pub linked : Linked u
     pub leading : at u (16 - d) ≡ 1
     pub above : (i : ℕ) → 8 ≤ i → i + d < 16 → at u i ≡ 0
@@ -113,7 +112,7 @@ module _ (es ls t : List ℕ) where
           go false true x h = K.in_one
           go false false x h = K.in_zero
 
-      power_reduced : (pivots : List Row) → Reduced pivots d 0 (power_row es ls t d)
+      power_reduced : (pivots : List (List ℕ)) → Reduced pivots d 0 (power_row es ls t d)
       power_reduced pivots =
           record {
             linked = record { inside = power_inside; made = λ j l. power_at j l ∙ made j };
@@ -129,7 +128,7 @@ module _ (es ls t : List ℕ) where
               (λ k l n. power_zero (8 + k) (omega arith) (omega arith) (λ e. n (omega arith)))))
 
       -- ---- its reduction
-      module _ (pivots : List Row) (each : (j : ℕ) → j < 8 → Pivot d j (cells_of pivots j)) where
+      module _ (pivots : List (List ℕ)) (each : (j : ℕ) → j < 8 → Pivot d j (cells_of pivots j)) where
         cleared_reduced : (n : ℕ) (u : List ℕ) → n < 8 → Reduced pivots d n u → Reduced pivots d (suc n) (cell_cleared es ls u (cells_of pivots n) n)
         unfolding cell_cleared
         cleared_reduced n u l h =
@@ -159,8 +158,8 @@ module _ (es ls t : List ℕ) where
         row_reduced (suc n) l = cleared_reduced n _ l (row_reduced n (omega arith))
 
     -- ---- the rows one after the other
-    abbrev zero_row : Row
-    zero_row = record { cells = replicate 17 0 }
+    abbrev zero_row : List ℕ
+    zero_row = replicate 17 0
 
     cells_zero : (n j i : ℕ) → at (cells_of (replicate n zero_row) j) i ≡ 0
     unfolding cells_of
@@ -184,7 +183,7 @@ module _ (es ls t : List ℕ) where
               made = λ i l. cells_zero 8 j i ∙ sym (applied_zero O K _ (λ k. at t (i + k)) 9 (λ k b. cells_zero 8 j (8 + k)));
             }
 
-    module _ (d : ℕ) (pivots : List Row) (so_far : Pivots d pivots) where
+    module _ (d : ℕ) (pivots : List (List ℕ)) (so_far : Pivots d pivots) where
       pub pivots_zeros : d < 9 → (j : ℕ) → j < 8 → Zeros (cells_of pivots j) j (17 - d)
       pivots_zeros small j h = record { before = (so_far.each j h).before; above = λ k lo hi. (so_far.each j h).above k lo (omega arith) }
 
@@ -195,13 +194,13 @@ module _ (es ls t : List ℕ) where
           sum_most 0 8 _ (λ i l. absurd (not-suc-le-zero l)) (λ j. differs_most (at (cells_of pivots j) j) 0) in
           absurd (omega (arith, so_far.count, few))
 
-      module _ (small : d < 9) (p row : Row) (ep : p.cells ≡ power_row es ls t d) (er : row.cells ≡ reduced es ls p.cells pivots 8) (j : ℕ)
-          (first : FirstNonzero row.cells j) where
-        row_is : Reduced pivots d 8 row.cells
+      module _ (small : d < 9) (p row : List ℕ) (ep : p ≡ power_row es ls t d) (er : row ≡ reduced es ls p pivots 8) (j : ℕ)
+          (first : FirstNonzero row j) where
+        row_is : Reduced pivots d 8 row
         row_is = rw (er, ep) (row_reduced d small pivots so_far.each 8 (omega arith))
 
         -- a row with no cell left annihilates
-        pub row_annihilates : (r : List ℕ) → j ≡ 8 → r ≡ tabulate 9 (λ k. at row.cells (8 + k)) → Annihilates es ls t r
+        pub row_annihilates : (r : List ℕ) → j ≡ 8 → r ≡ tabulate 9 (λ k. at row (8 + k)) → Annihilates es ls t r
         row_annihilates r e v = rw v (
             record {
               elements = tabulate_lt (length ls) 9 _ K.in_zero (λ k. row_is.linked.inside (8 + k));
@@ -225,13 +224,13 @@ module _ (es ls t : List ℕ) where
               go (yes e) = e
               go (no n) = absurd (first.here cell (row_is.zeros j cell n))
 
-          set_same : cells_of (set pivots j row) j ≡ row.cells
+          set_same : cells_of (set pivots j row) j ≡ row
           unfolding cells_of
-          set_same = ap (λ (r : Row). r.cells) (get_or-set_same pivots j row no_row (omega (arith, so_far.long, cell)))
+          set_same = get_or-set_same pivots j row [] (omega (arith, so_far.long, cell))
 
           set_other : (i : ℕ) → ¬ (i ≡ j) → cells_of (set pivots j row) i ≡ cells_of pivots i
           unfolding cells_of
-          set_other i n = ap (λ (r : Row). r.cells) (get_or-set_other pivots j i row no_row n)
+          set_other i n = get_or-set_other pivots j i row [] n
 
           pub pivots_next : Pivots (d + 1) (set pivots j row)
           unfolding differs
@@ -240,7 +239,7 @@ module _ (es ls t : List ℕ) where
                 long = length-set pivots j row ∙ so_far.long;
                 each = λ i l. go i l (ℕ_discrete i j);
                 count = sum_one_more 8 j (λ i. differs (at (cells_of pivots i) i) 0) (λ i. differs (at (cells_of (set pivots j row) i) i) 0) cell
-                    (rw (set_same, none, ne_eqb (at row.cells j) 0 (first.here cell)))
+                    (rw (set_same, none, ne_eqb (at row j) 0 (first.here cell)))
                     (λ i l n. rw (set_other i n)) ∙ omega (arith, so_far.count);
               }
             where

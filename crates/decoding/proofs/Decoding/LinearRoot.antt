@@ -69,6 +69,9 @@ module _ (es ls v : List ℕ) (T : Tables es ls) (n i : ℕ) (fits : n ≤ lengt
     pub all_roots : d ≡ 0 → FirstRoot es ls v n i i
     all_roots z = record { from = le_refl i; most = from; before = λ k lo hi. absurd (omega arith); here = λ b. constant i ∙ z }
 
+    pub all_past : n ≤ i → FirstRoot es ls v n i n
+    all_past h = record { from = from; most = le_refl n; before = λ k lo hi. absurd (omega arith); here = λ b. absurd (omega arith) }
+
     pub constant_none : (d ≡ 0 → ⊥) → FirstRoot es ls v n i n
     constant_none z = none (λ k h r. z (sym (constant k) ∙ r))
 

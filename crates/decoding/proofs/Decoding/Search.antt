@@ -9,16 +9,19 @@ use native.Mathlib.Numerals.{add-one}
 use native.Mathlib.Omega.{arith}
 use borrow.Author.Tests.{eq-eqb, ne_eqb, lt-ltb, le-ltb}
 use lib.Dec.{eqb, ltb}
-use lib.ListN.{length, set, length-set}
+use Rattle.std.proofs.lemmas.List.{length-map}
+use Rattle.std.proofs.Math.ListN.{get_or-map}
+use lib.ListN.{length, get_or, set, length-set}
 use lib.Seq.{get_or-set_same, get_or-set_other}
 use Rattle.fields.specs.Elements.{xor}
 use Rattle.fields.specs.Steps.ByTables.{table_product, table_inverse, table_power}
 use Rattle.fields.specs.Places.{at}
 use Rattle.fields.proofs.Lists.{tabulate_at, tabulate_length, tabulate_lt}
+use Rattle.decoding.specs.declared.root_search.Term.{Term}
 use Rattle.decoding.specs.declared.root_search.Terms.{Terms}
 use Rattle.decoding.specs.Steps.ByTables.{table_value}
 use Rattle.decoding.specs.Steps.Decoder.{Tables, locator, xor_to, times_power}
-use Rattle.decoding.specs.Steps.RootSearch.{add_term, with_term, terms_to, Exponents, powers_to, less_modulo, lowered, RootAt, quotient_of}
+use Rattle.decoding.specs.Steps.RootSearch.{add_term, with_term, terms_to, exponents_of, steps_of, Exponents, powers_to, less_modulo, lowered, RootAt, quotient_of}
 use Rattle.decoding.proofs.Algebra.Field.{Ops, Laws, add-zero, mul_left, undo}
 use Rattle.decoding.proofs.Algebra.PowerSums.{value_at, value_in, value_same}
 use Rattle.decoding.proofs.Algebra.Locators.{value_first, quotient_root, root_quotient}
@@ -82,12 +85,21 @@ fallen es ls k e s = times_power (table_product es ls) (table_inverse es ls (at 
 pub record Walk (es ls v : List ℕ) (n j : ℕ) (e s : List ℕ) (count : ℕ) : Type 0 where
   pub values : (k : ℕ) → j + k < n → xor_to count (λ l. fallen es ls k (at e l) (at s l)) ≡ table_value es ls v (locator es n (j + k))
 
+abbrev pub no_term : Term
+no_term = record { exponent = 0; step = 0 }
+
+pub exponent_at : (terms : List Term) (l : ℕ) → at (exponents_of terms) l ≡ (get_or terms l no_term).exponent
+exponent_at terms l = get_or-map (λ (t : Term). t.exponent) terms l no_term
+
+pub step_at : (terms : List Term) (l : ℕ) → at (steps_of terms) l ≡ (get_or terms l no_term).step
+step_at terms l = get_or-map (λ (t : Term). t.step) terms l no_term
+
 -- the sum of the terms of degree below d
 record Part (es ls v : List ℕ) (n j d : ℕ) (t : Terms) : Type 0 where
   pub few : t.count ≤ d
-  pub long : (length t.exponents ≡ 9) × (length t.steps ≡ 9)
-  pub inside : (l : ℕ) → l < t.count → (at t.exponents l < length es) × (at t.steps l < length es)
-  pub values : (k : ℕ) → j + k < n → xor_to t.count (λ l. fallen es ls k (at t.exponents l) (at t.steps l)) ≡
+  pub long : length t.terms ≡ 9
+  pub inside : (l : ℕ) → l < t.count → (at (exponents_of t.terms) l < length es) × (at (steps_of t.terms) l < length es)
+  pub values : (k : ℕ) → j + k < n → xor_to t.count (λ l. fallen es ls k (at (exponents_of t.terms) l) (at (steps_of t.terms) l)) ≡
       value_at (table_ops es ls) (locator es n (j + k)) (λ i. at v (9 - d + i)) d
 
 module _ (es ls : List ℕ) (T : Tables es ls) where
@@ -220,7 +232,7 @@ module _ (es ls : List ℕ) (T : Tables es ls) where
         part_more nz =
             record {
               few = omega (arith, S.few);
-              long = (length-set t.exponents count _ ∙ S.long.0, length-set t.steps count _ ∙ S.long.1);
+              long = length-set t.terms count _ ∙ S.long;
               inside = λ l b. inside l b (ℕ_discrete l count);
               values = λ k b. rw (add-one, here.0, here.1, by_value.1, by_power.1, falls k b)
                   (ap (λ (u : ℕ). xor u (term (X (j + k)) (at v (8 - d)) d)) (xor_to_same count _ _ (λ l c. rw ((before l c).0, (before l c).1)) ∙ S.values k b)
@@ -239,13 +251,17 @@ module _ (es ls : List ℕ) (T : Tables es ls) where
             by_power : (at ls power < length es) × (at es (at ls power) ≡ power)
             by_power = table_exponent es ls T power (P.nonzero d) (P.inside d)
 
-            here : (at more.exponents count ≡ at ls value) × (at more.steps count ≡ at ls power)
-            here = (get_or-set_same t.exponents count _ 0 (omega (arith, S.few, S.long.0)), get_or-set_same t.steps count _ 0 (omega (arith, S.few, S.long.1)))
+            here : (at (exponents_of more.terms) count ≡ at ls value) × (at (steps_of more.terms) count ≡ at ls power)
+            here =
+                let e : get_or more.terms count no_term ≡ record { exponent = at ls value; step = at ls power } = get_or-set_same t.terms count _ no_term (omega (arith, S.few, S.long)) in
+                (exponent_at more.terms count ∙ ap (λ (u : Term). u.exponent) e, step_at more.terms count ∙ ap (λ (u : Term). u.step) e)
 
-            before : (l : ℕ) → l < count → (at more.exponents l ≡ at t.exponents l) × (at more.steps l ≡ at t.steps l)
-            before l c = (get_or-set_other t.exponents count l _ 0 (λ q. omega arith), get_or-set_other t.steps count l _ 0 (λ q. omega arith))
+            before : (l : ℕ) → l < count → (at (exponents_of more.terms) l ≡ at (exponents_of t.terms) l) × (at (steps_of more.terms) l ≡ at (steps_of t.terms) l)
+            before l c =
+                let e : get_or more.terms l no_term ≡ get_or t.terms l no_term = get_or-set_other t.terms count l _ no_term (λ q. omega arith) in
+                (exponent_at more.terms l ∙ ap (λ (u : Term). u.exponent) e ∙ sym (exponent_at t.terms l), step_at more.terms l ∙ ap (λ (u : Term). u.step) e ∙ sym (step_at t.terms l))
 
-            inside : (l : ℕ) → l < count + 1 → Dec (l ≡ count) → (at more.exponents l < length es) × (at more.steps l < length es)
+            inside : (l : ℕ) → l < count + 1 → Dec (l ≡ count) → (at (exponents_of more.terms) l < length es) × (at (steps_of more.terms) l < length es)
             inside l b (yes q) = rw (q, here.0, here.1) (by_value.0, by_power.0)
             inside l b (no q) = let c : l < count = omega arith in rw ((before l c).0, (before l c).1) (S.inside l c)
 
@@ -259,7 +275,7 @@ module _ (es ls : List ℕ) (T : Tables es ls) where
 
       parts : (j d : ℕ) → d ≤ 9 → Part es ls v n j d (terms_to es ls v (X j) d)
       unfolding terms_to xor_to value_at
-      parts j zero h = record { few = zero-le; long = (refl, refl); inside = λ l h. absurd (not-suc-le-zero h); values = λ k h. refl }
+      parts j zero h = record { few = zero-le; long = refl; inside = λ l h. absurd (not-suc-le-zero h); values = λ k h. refl }
       parts j (suc d) h = part_next j d (terms_to es ls v (X j) d) h (parts j d (omega arith))
 
       -- all terms
@@ -267,16 +283,16 @@ module _ (es ls : List ℕ) (T : Tables es ls) where
         whole : Part es ls v n j 9 t
         whole = rw all (parts j 9 (le_refl 9))
 
-        pub terms_long : length t.exponents ≡ 9
-        terms_long = whole.long.0
+        pub terms_long : length (exponents_of t.terms) ≡ 9
+        terms_long = length-map t.terms _ ∙ whole.long
 
-        pub exponents_in : Exponents es t.count t.exponents
-        exponents_in = record { long = omega (arith, whole.few, whole.long.0); inside = λ l h. (whole.inside l h).0 }
+        pub exponents_in : Exponents es t.count (exponents_of t.terms)
+        exponents_in = record { long = omega (arith, whole.few, terms_long); inside = λ l h. (whole.inside l h).0 }
 
-        pub steps_in : Exponents es t.count t.steps
-        steps_in = record { long = omega (arith, whole.few, whole.long.1); inside = λ l h. (whole.inside l h).1 }
+        pub steps_in : Exponents es t.count (steps_of t.terms)
+        steps_in = record { long = omega (arith, whole.few, length-map t.terms (λ (u : Term). u.step), whole.long); inside = λ l h. (whole.inside l h).1 }
 
-        pub walk_start : Walk es ls v n j t.exponents t.steps t.count
+        pub walk_start : Walk es ls v n j (exponents_of t.terms) (steps_of t.terms) t.count
         walk_start =
             record { values = λ k h. whole.values k h ∙ value_same O K (X (j + k)) _ _ 9 (λ i l. ap (at v) (zero-add i)) ∙ sym (table_value_is es ls v (X (j + k)) 9 nine) }
 

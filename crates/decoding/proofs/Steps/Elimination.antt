@@ -1,7 +1,7 @@
 -- A step of each loop over the rows of the elimination. Assumes nothing.
 use mathlib.Core.Path.{◌≡◌, refl, sym, ap, ap₂, ◌∙◌}
 use mathlib.Core.Bool.{Bool, true, false, cond}
-use mathlib.Core.List.{List}
+use mathlib.Core.List.{List, []}
 use Prim.Native.Nat.{ℕ, ◌+◌, ◌-◌, ◌≤◌, ◌<◌, zero-le}
 use native.Mathlib.Decide.{ℕ_discrete, dec_lt}
 use native.Mathlib.Nat.{le_refl, not-suc-le-zero}
@@ -10,16 +10,17 @@ use native.Mathlib.Omega.{arith}
 use borrow.Author.Tests.{eq-eqb, ne_eqb, lt-ltb, le-ltb}
 use lib.Bits.{bit_and, and_zero_l}
 use lib.Dec.{eqb, ltb}
-use lib.ListN.{length, get_or, set, replicate, length-set}
-use lib.Seq.{get_or-set_same, get_or-set_other}
+use lib.ListN.{length, get_or, set, replicate, take, drop, length-set, length-drop}
+use Rattle.std.proofs.lemmas.List.{length-take-le}
+use lib.Seq.{get_or-take, get_or-drop, get_or-set_same, get_or-set_other}
 use Rattle.fields.specs.Elements.{xor}
 use Rattle.fields.specs.Steps.ByTables.{place_in, product_at, table_product, table_inverse}
+use Rattle.fields.specs.Lists.{tabulate}
 use Rattle.fields.specs.Places.{at}
 use Rattle.fields.proofs.Lists.{tabulate_is}
 use Rattle.fields.proofs.Xor.{xor_zero_r}
 use Rattle.fields.proofs.Places.Filling.{zeros_at}
-use Rattle.decoding.specs.declared.annihilator.Row.{Row}
-use Rattle.decoding.specs.Steps.Annihilator.{power_row, plus_scaled, PlusPart, Zeros, cell_cleared, no_row, cells_of, reduced, FirstNonzero}
+use Rattle.decoding.specs.Steps.Annihilator.{power_row, plus_scaled, PlusPart, Zeros, cell_cleared, cells_of, reduced, FirstNonzero}
 
 -- the first i cells are those of the row of x^d, the others zero
 pub record PowerRow (es ls t : List ℕ) (d i : ℕ) (cells : List ℕ) : Type 0 where
@@ -120,44 +121,37 @@ unfolding cell_cleared plus_scaled
 cleared_same es ls u v j i c long ei ec z =
     rw (← ei, ← ec, z) (tabulate_is 17 _ u 0 long (λ k l. sym (ap (xor (at u k)) (zero_product es ls (at v k)) ∙ xor_zero_r (at u k))))
 
-pub reduced_none : (es ls u : List ℕ) (pivots : List Row) → u ≡ reduced es ls u pivots 0
+pub reduced_none : (es ls u : List ℕ) (pivots : List (List ℕ)) → u ≡ reduced es ls u pivots 0
 unfolding reduced
 reduced_none es ls u pivots = refl
 
-module _ (es ls u : List ℕ) (pivots : List Row) (row : List ℕ) (j : ℕ) (so_far : row ≡ reduced es ls u pivots j) where
-  pub reduced_next : (r : List ℕ) → r ≡ cell_cleared es ls row (get_or pivots j no_row).cells j → r ≡ reduced es ls u pivots (j + 1)
+module _ (es ls u : List ℕ) (pivots : List (List ℕ)) (row : List ℕ) (j : ℕ) (so_far : row ≡ reduced es ls u pivots j) where
+  pub reduced_next : (r : List ℕ) → r ≡ cell_cleared es ls row (get_or pivots j []) j → r ≡ reduced es ls u pivots (j + 1)
   unfolding reduced cells_of
   reduced_next r e = rw (add-one, ← so_far) e
 
-  pub reduced_zeros : (top : ℕ) → ((k : ℕ) → k < 8 → Zeros (cells_of pivots k) k top) → j < 8 → Zeros (get_or pivots j no_row).cells j top
+  pub reduced_zeros : (top : ℕ) → ((k : ℕ) → k < 8 → Zeros (cells_of pivots k) k top) → j < 8 → Zeros (get_or pivots j []) j top
   unfolding cells_of
   reduced_zeros top each h = each j h
 
   pub reduced_end : j ≤ 8 → 8 ≤ j → row ≡ reduced es ls u pivots 8
   reduced_end l h = let e : j ≡ 8 = omega arith in rw e at so_far
 
--- the first j of n cells are zero
-pub record ZeroBelow (n : ℕ) (u : List ℕ) (j : ℕ) : Type 0 where
-  pub most : j ≤ n
-  pub before : (i : ℕ) → i < j → at u i ≡ 0
+-- the coefficients of a row
+pub row_end : (u : List ℕ) → length u ≡ 17 → take 9 (drop 8 u) ≡ tabulate 9 (λ k. at u (8 + k))
+row_end u long =
+    tabulate_is 9 _ (take 9 (drop 8 u)) 0 (length-take-le 9 (drop 8 u) (omega (arith, length-drop 8 u, long)))
+    (λ k l. get_or-take 9 (drop 8 u) k 0 l ∙ get_or-drop 8 u k 0)
 
-pub zero_none : {n : ℕ} {u : List ℕ} → ZeroBelow n u 0
-zero_none = record { most = zero-le; before = λ i h. absurd (not-suc-le-zero h) }
-
-module _ {n : ℕ} {u : List ℕ} {j : ℕ} (so_far : ZeroBelow n u j) where
-  pub zero_next : j < n → get_or u j 0 ≡ 0 → ZeroBelow n u (j + 1)
-  zero_next l z = record { most = omega arith; before = λ i h. go i h (ℕ_discrete i j) }
-    where
-      go : (i : ℕ) → i < j + 1 → Dec (i ≡ j) → at u i ≡ 0
-      go i h (yes e) = rw e z
-      go i h (no e) = so_far.before i (omega arith)
-
-  pub zero_end : n ≤ j → (i : ℕ) → i < n → at u i ≡ 0
-  zero_end l i h = so_far.before i (omega arith)
-
-module _ {u : List ℕ} {j : ℕ} (so_far : ZeroBelow 8 u j) where
-  pub first_here : (get_or u j 0 ≡ 0 → ⊥) → FirstNonzero u j
-  first_here n = record { most = so_far.most; before = so_far.before; here = λ l. n }
-
-  pub first_none : 8 ≤ j → FirstNonzero u 8
-  first_none l = record { most = omega arith; before = λ i h. so_far.before i (omega arith); here = λ h. absurd (omega arith) }
+-- how many of the cells 0 to 7 are zero before one is not
+pub first_found : (u : List ℕ) (j : ℕ) → length u ≡ 17 → j ≤ length (take 8 u) → ((k : ℕ) → k < j → at (take 8 u) k ≡ 0) →
+    (j < length (take 8 u) → at (take 8 u) j ≡ 0 → ⊥) → FirstNonzero u j
+first_found u j long most before here =
+    record {
+      most = omega (arith, size, most);
+      before = λ i h. sym (get_or-take 8 u i 0 (omega (arith, size, most))) ∙ before i h;
+      here = λ h z. here (omega (arith, size)) (get_or-take 8 u j 0 h ∙ z);
+    }
+  where
+    size : length (take 8 u) ≡ 8
+    size = length-take-le 8 u (omega (arith, long))

@@ -15,14 +15,10 @@ use Rattle.decoding.specs.Steps.Decoder.{locator, times_power, change_between, w
 use Rattle.decoding.specs.Steps.ErrorValues.{filtered, filtered_by, filter_factor, error_value, less_error, resolved}
 use Rattle.decoding.proofs.Decoding.Changes.{change_inside}
 
--- the locator of a place, and of a place past the end
-pub locator_inside : (es : List ℕ) (n i r : ℕ) → i < n → r ≡ table_power es (n - 1 - i) → r ≡ locator es n i
+-- the locator, by the exponent
+pub locator_by : (es : List ℕ) (n i s t r : ℕ) → s ≡ n - i → t ≡ s - 1 → r ≡ table_power es t → r ≡ locator es n i
 unfolding locator
-locator_inside es n i r h e = let q : n - 1 - i ≡ n - suc i = omega arith in rw (← q) e
-
-pub locator_past : (es : List ℕ) (n i r : ℕ) → n ≤ i → r ≡ table_power es 0 → r ≡ locator es n i
-unfolding locator
-locator_past es n i r h e = let q : n - suc i ≡ 0 = omega arith in rw q e
+locator_by es n i s t r ea eb e = let q : t ≡ n - suc i = omega arith in rw (← q) e
 
 -- ---- the values
 
@@ -95,11 +91,11 @@ module _ (es ls : List ℕ) (x v : ℕ) (t s : List ℕ) (j : ℕ) (so_far : Fil
   unfolding less_error less_entry
   less_end l = filled_end so_far l
 
-pub resolved_made : (es ls : List ℕ) (n k : ℕ) (e : Errors) (v x : ℕ) (left : List ℕ) → v ≡ error_value es ls n e.places.at e.left k →
-    x ≡ locator es n (get_or e.places.at k 0) → left ≡ less_error es ls x v e.left →
+pub resolved_made : (es ls : List ℕ) (n k : ℕ) (e : Errors) (v x i : ℕ) (left : List ℕ) → v ≡ error_value es ls n e.places.at e.left k →
+    x ≡ locator es n i → i ≡ get_or e.places.at k 0 → left ≡ less_error es ls x v e.left →
     record { places = e.places; values = set e.values k v; left = left } ≡ resolved es ls n k e
 unfolding resolved
-resolved_made es ls n k e v x left ev ex el = rw (el, ex, ev)
+resolved_made es ls n k e v x i left ev ex ei el = rw (el, ex, ei, ev)
 
 -- ---- the weight
 

@@ -1,17 +1,20 @@
 -- The search for the roots by tables of powers: a law for each way through a function and for each step of a loop. Assumes nothing.
 use mathlib.Core.Path.{◌≡◌, refl, sym, ap, ap₂, ◌∙◌}
-use mathlib.Core.Bool.{Bool, true, false, cond}
-use mathlib.Core.List.{List}
+use mathlib.Core.Bool.{Bool, true, false, ◌||◌, cond}
+use mathlib.Core.List.{List, ◌++◌}
 use Prim.Native.Nat.{ℕ, zero, suc, ◌+◌, ◌-◌, ◌*◌, ◌/◌, ◌%◌, ◌^◌, ◌≤◌, ◌<◌, zero-le}
 use native.Mathlib.Decide.{ℕ_discrete, dec_lt}
-use native.Mathlib.Nat.{add-mul-mod_self_left, le_refl, mod-add-mod, mod-lt, mul-le-mul, mul-suc, mul-zero, not-suc-le-zero}
+use native.Mathlib.Nat.{add-mul-mod_self_left, le_refl, mod-add-mod, mod-lt, mul-suc, mul-zero, not-suc-le-zero}
 use native.Mathlib.Numerals.{add-one}
 use native.Mathlib.Omega.{arith}
 use borrow.Author.Tests.{eq-eqb, ltb-true, ne_eqb, lt-ltb, le-ltb}
 use lib.Bits.{bit_and, and_mask}
 use lib.Dec.{eqb, ltb, lit<, lit≤}
-use lib.ListN.{length, get_or, set, length-set}
-use lib.Seq.{get_or-set_same, get_or-set_other}
+use lib.ListN.{length, get_or, set, take, drop, replicate, length-replicate, get_or-append, length-append, length-drop, length-set}
+use Rattle.std.proofs.lemmas.List.{length-take-le, get_or-append_right, map-set}
+use Rattle.std.proofs.Math.ListN.{get_or-map}
+use borrow.Rule.Slice.PartMut.{put_mid, post_of}
+use lib.Seq.{ext_get_or, get_or-take, get_or-drop, get_or-set_same, get_or-set_other}
 use mir.Syntax.{w64}
 use mir.Val.{Fits}
 use Rattle.fields.specs.Elements.{xor, powers_b}
@@ -22,38 +25,34 @@ use Rattle.fields.proofs.Lists.{tabulate_at, tabulate_length, tabulate_lt}
 use Rattle.fields.proofs.Instances.{field_b}
 use Rattle.fields.proofs.Ways.{past, wrapped_modulo}
 use Rattle.fields.proofs.Places.Tests.{below_at}
-use Rattle.fields.proofs.Places.Filling.{Filled, filled_next, filled_end}
+use Rattle.fields.proofs.Places.Filling.{zeros_at, Filled, filled_start, filled_next, filled_end}
+use Rattle.decoding.specs.declared.power_tables.TermTable.{TermTable}
 use Rattle.decoding.specs.declared.root_search.Places.{Places}
 use Rattle.decoding.specs.Steps.RootSearch.{less_modulo, kept}
-use Rattle.decoding.specs.Steps.PowerTables.{PowerTables, TableFilled, near, far, block_sum, stored, with_sums, reciprocals, table_base, table_start, table_bases, table_starts, table_position, four_at, eight_at, tables_sum, kept_to}
+use Rattle.decoding.specs.Steps.PowerTables.{PowerTables, TableFilled, near, far, block_sum, stored, with_sums, reciprocals, table_base, table_start, table_bases, table_starts, bases_of, starts_of, table_position, four_at, eight_at, AllInside, sum_from, tables_sum, kept_to}
 use Rattle.decoding.proofs.Algebra.Tables.{powers_length}
 use Rattle.decoding.proofs.Decoding.TableSums.{near_least, far_more, table_sum}
 
 -- ---- the tables
 
--- the first m entries are zero
-pub record Emptied (before : List ℕ) (m : ℕ) (tables : List ℕ) : Type 0 where
-  pub within : m ≤ 2087
-  pub long : length tables ≡ length before
-  pub done : (i : ℕ) → i < m → at tables i ≡ 0
+-- the first table is zero, and no other is there
+module _ (n : ℕ) (tables zeros : List ℕ) (whole : n ≡ 2087) (size : length tables ≡ 18784) (e : zeros ≡ replicate n 0) where
+  zeros_long : length zeros ≡ 2087
+  zeros_long = rw e (length-replicate n 0 ∙ whole)
 
-pub emptied_none : {tables : List ℕ} → Emptied tables 0 tables
-emptied_none = record { within = zero-le; long = refl; done = λ i h. absurd (not-suc-le-zero h) }
+  abbrev cleared : List ℕ
+  cleared = put_mid 0 n tables zeros
 
-module _ {before : List ℕ} {m : ℕ} {tables : List ℕ} (so_far : Emptied before m tables) (size : length before ≡ 18784) where
-  pub emptied_next : m < 2087 → Emptied before (m + 1) (set tables m 0)
-  emptied_next h = record { within = omega arith; long = length-set tables m 0 ∙ so_far.long; done = λ i l. go i l (ℕ_discrete i m) }
-    where
-      go : (i : ℕ) → i < m + 1 → Dec (i ≡ m) → at (set tables m 0) i ≡ 0
-      go i l (yes q) = rw q (get_or-set_same tables m 0 0 (omega (arith, so_far.long)))
-      go i l (no q) = get_or-set_other tables m i 0 0 q ∙ so_far.done i (omega arith)
+  cleared_long : length cleared ≡ 18784
+  cleared_long = length-append zeros (post_of 0 n tables) ∙ omega (arith, zeros_long, length-drop n tables, whole, size)
 
-  pub emptied_end : 2087 ≤ m → (es : List ℕ) → PowerTables es (set tables 18783 0)
-  emptied_end h es =
-      let none : at (set tables 18783 0) 18783 ≡ 0 = get_or-set_same tables 18783 0 0 (omega (arith, so_far.long)) in
+  pub emptied : (es : List ℕ) → PowerTables es (set cleared 18783 0)
+  emptied es =
+      let none : at (set cleared 18783 0) 18783 ≡ 0 = get_or-set_same cleared 18783 0 0 (omega (arith, cleared_long)) in
       record {
-        long = length-set tables 18783 0 ∙ so_far.long ∙ size;
-        zeros = λ i l. get_or-set_other tables 18783 i 0 0 (λ q. omega arith) ∙ so_far.done i (omega arith);
+        long = length-set cleared 18783 0 ∙ cleared_long;
+        zeros = λ i l. get_or-set_other cleared 18783 i 0 0 (λ q. omega arith) ∙ get_or-append zeros (post_of 0 n tables) 0 i (omega (arith, zeros_long))
+            ∙ ap (λ (l : List ℕ). get_or l i 0) e ∙ zeros_at n i;
         few = rw none zero-le;
         powers = λ d i pos l. absurd (omega (arith, none));
       }
@@ -129,17 +128,6 @@ unfolding block_sum
 sums_next tables sums a b l r so_far h e = filled_next so_far h e
 
 module _ (tables : List ℕ) (s : ℕ) (block : List ℕ) where
-  pub stored_none : tables ≡ stored tables s block 0
-  unfolding stored
-  stored_none = refl
-
-  pub stored_next : (k : ℕ) (r : List ℕ) → r ≡ stored tables s block k → set r (s + k) (get_or block k 0) ≡ stored tables s block (k + 1)
-  unfolding stored
-  stored_next k r e = rw (add-one, ← e)
-
-  pub stored_end : (k : ℕ) (r : List ℕ) → r ≡ stored tables s block k → k ≤ 40 → 40 ≤ k → r ≡ stored tables s block 40
-  stored_end k r e lo hi = let q : k ≡ 40 = omega arith in rw q at e
-
   stored_long : (k : ℕ) → length (stored tables s block k) ≡ length tables
   unfolding stored
   stored_long zero = refl
@@ -159,9 +147,48 @@ module _ (tables : List ℕ) (s : ℕ) (block : List ℕ) where
       go (yes e) before = rw e (get_or-set_same (stored tables s block k) (s + k) _ 0 (omega (arith, stored_long k)))
       go (no e) before = get_or-set_other (stored tables s block k) (s + k) (s + l) _ 0 (λ q. e (omega arith)) ∙ before (omega arith)
 
-pub sums_stored : (tables sums after : List ℕ) (s p q : ℕ) → sums ≡ tabulate 40 (block_sum tables (s - p) (s - q)) → after ≡ stored tables s sums 40 → after ≡ with_sums tables s p q
+  stored_after : (k i : ℕ) → s + k ≤ i → at (stored tables s block k) i ≡ at tables i
+  unfolding stored
+  stored_after zero i h = refl
+  stored_after (suc k) i h = get_or-set_other (stored tables s block k) (s + k) i _ 0 (λ e. omega arith) ∙ stored_after k i (omega arith)
+
+  -- one write of the whole block
+  put_stored : (k : ℕ) → k ≡ 40 → s + 40 ≤ length tables → length block ≡ 40 → put_mid s k tables block ≡ stored tables s block 40
+  put_stored k e fits long = rw e (ext_get_or 0 (put_mid s 40 tables block) (stored tables s block 40) size (λ i l. go i (dec_lt i s) (dec_lt i (s + 40))))
+    where
+      front : length (take s tables) ≡ s
+      front = length-take-le s tables (omega arith)
+
+      size : length (put_mid s 40 tables block) ≡ length (stored tables s block 40)
+      size =
+          omega (
+            arith,
+            length-append (take s tables) (block ++ post_of s 40 tables),
+            length-append block (post_of s 40 tables),
+            front,
+            length-drop 40 (drop s tables),
+            length-drop s tables,
+            stored_long 40,
+            long,
+          )
+
+      go : (i : ℕ) → Dec (i < s) → Dec (i < s + 40) → at (put_mid s 40 tables block) i ≡ at (stored tables s block 40) i
+      go i (yes a) _ =
+          get_or-append (take s tables) (block ++ post_of s 40 tables) 0 i (omega (arith, front)) ∙ get_or-take s tables i 0 a ∙ sym (stored_before 40 i a)
+      go i (no a) (yes b) =
+          let e : s + (i - s) ≡ i = omega arith in
+          get_or-append_right (take s tables) (block ++ post_of s 40 tables) s i 0 front (omega arith) ∙ get_or-append block (post_of s 40 tables) 0 (i - s) (omega (arith, long))
+          ∙ sym (rw e at (stored_at 40 (i - s) fits (omega arith)))
+      go i (no a) (no b) =
+          let e : s + (40 + (i - s - 40)) ≡ i = omega arith in
+          get_or-append_right (take s tables) (block ++ post_of s 40 tables) s i 0 front (omega arith)
+          ∙ get_or-append_right block (post_of s 40 tables) 40 (i - s) 0 long (omega arith) ∙ get_or-drop 40 (drop s tables) (i - s - 40) 0
+          ∙ get_or-drop s tables (40 + (i - s - 40)) 0 ∙ ap (at tables) e ∙ sym (stored_after 40 i (omega arith))
+
+pub sums_stored : (tables sums after : List ℕ) (s k p q : ℕ) → sums ≡ tabulate 40 (block_sum tables (s - p) (s - q)) → after ≡ sums → k ≡ 40 → s + 40 ≤ length tables →
+    put_mid s k tables after ≡ with_sums tables s p q
 unfolding with_sums
-sums_stored tables sums after s p q es ea = rw (← es) ea
+sums_stored tables sums after s k p q es ea ek fits = rw (ea, es) (put_stored tables s _ k ek fits (tabulate_length 40 _))
 
 -- the first m entries of table d are there, and whole blocks are left
 pub record TableBlocks (before : List ℕ) (d m : ℕ) (tables : List ℕ) : Type 0 where
@@ -221,8 +248,20 @@ module _ (before : List ℕ) (d m : ℕ) (tables : List ℕ) (so_far : TableBloc
   pub blocks_end : 2087 ≤ m → TableFilled powers_b before d 2087 tables
   blocks_end h = let q : m ≡ 2087 = omega (arith, so_far.within) in rw q at so_far.filled
 
-pub blocks_none : {before : List ℕ} {d : ℕ} → TableFilled powers_b before d 167 before → TableBlocks before d 167 before
+pub blocks_none : {before : List ℕ} {d : ℕ} → TableFilled powers_b before d 167 before → TableBlocks before d (167 + 40 * 0) before
 blocks_none F = record { least = lit≤ tt; within = lit≤ tt; whole = refl; filled = F }
+
+-- k blocks are stored
+module _ (before : List ℕ) (d k : ℕ) (tables : List ℕ) (so_far : TableBlocks before d (167 + 40 * k) tables) where
+  pub block_next : (p q : ℕ) (after : List ℕ) → length before ≡ 18784 → 0 < d → d ≤ 8 → k < 48 → p ≡ at near d → q ≡ at far d →
+      after ≡ with_sums tables (2087 * d + 167 + 40 * k) p q → TableBlocks before d (167 + 40 * (k + 1)) after
+  block_next p q after size pos most h ep eq ea =
+      let e : 2087 * d + 167 + 40 * k ≡ 2087 * d + (167 + 40 * k) = omega arith in
+      let f : 167 + 40 * (k + 1) ≡ 167 + 40 * k + 40 = omega arith in
+      rw f (blocks_next before d (167 + 40 * k) tables so_far p q after size pos most (omega arith) ep eq (ea ∙ ap (λ (s : ℕ). with_sums tables s p q) e))
+
+  pub block_end : 48 ≤ k → TableFilled powers_b before d 2087 tables
+  block_end h = blocks_end before d (167 + 40 * k) tables so_far (omega arith)
 
 -- ---- a table that is filled
 
@@ -258,13 +297,6 @@ module _ (es before started tables : List ℕ) (d : ℕ) (exp : es ≡ powers_b)
 
 -- ---- where the terms' values stand
 
-pub reciprocal_lt : (d : ℕ) → at reciprocals d < 2047
-unfolding reciprocals all_below every
-reciprocal_lt d = below_at 2047 reciprocals (lit< tt) refl d
-
-pub multiplied_most : (e r : ℕ) → e ≤ 2047 → r < 2047 → e * r ≤ 4190209
-multiplied_most e r he hr = mul-le-mul he (let h : r ≤ 2047 = omega arith in h)
-
 -- 2,048 q + r is 2,047 q + (q + r): modulo 2,047 the two parts of a number add up to it
 module _ (x : ℕ) (small : x < 4194303) where
   pub folded_fits : Fits w64 (x / 2 ^ 11 + bit_and x 2047)
@@ -291,12 +323,9 @@ module _ (c d : ℕ) where
     unfolding table_start
     start_zero z = rw (eq-eqb c 0 z)
 
-    pub start_table : (c ≡ 0 → ⊥) → (l e r p : ℕ) → l ≡ at ls c → e ≡ 2047 - l → r ≡ at reciprocals d → p ≡ e * r → (p + (2047 + 1 - n)) % 2047 ≡ table_start ls c d n
+    pub start_folded : (c ≡ 0 → ⊥) → (l e s : ℕ) → l ≡ at ls c → e ≡ 2047 - l → s ≡ (e * at reciprocals d + (2047 + 1 - n)) % 2047 → s ≡ table_start ls c d n
     unfolding table_start
-    start_table z l e r p el ee er ep = rw (ne_eqb c 0 z, ep, ee, er, el)
-
-    pub start_folded : (c ≡ 0 → ⊥) → (l e r p : ℕ) → l ≡ at ls c → e ≡ 2047 - l → r ≡ at reciprocals d → p ≡ e * r → (s : ℕ) → s ≡ (p + (2047 + 1 - n)) % 2047 → s ≡ table_start ls c d n
-    start_folded z l e r p el ee er ep s es = es ∙ start_table z l e r p el ee er ep
+    start_folded z l e s el ee es = rw (ne_eqb c 0 z, ← el, ← ee) es
 
 -- the base and the start of the term of degree d + 1
 unfoldable pub term_base : List ℕ → ℕ → ℕ
@@ -305,41 +334,57 @@ term_base v d = table_base (at v (7 - d)) (d + 1)
 unfoldable pub term_start : List ℕ → List ℕ → ℕ → ℕ → ℕ
 term_start ls v n d = table_start ls (at v (7 - d)) (d + 1) n
 
-module _ (v : List ℕ) (d : ℕ) where
-  pub bases_next : (bases : List ℕ) (r : ℕ) → Filled 8 (term_base v) d bases → d < 8 → r ≡ table_base (get_or v (8 - 1 - d) 0) (d + 1) → Filled 8 (term_base v) (d + 1) (set bases d r)
+module _ (v : List ℕ) (d : ℕ) (terms : List TermTable) where
+  pub bases_next : (r s : ℕ) → Filled 8 (term_base v) d (bases_of terms) → d < 8 → r ≡ table_base (get_or v (8 - 1 - d) 0) (d + 1) →
+      Filled 8 (term_base v) (d + 1) (bases_of (set terms d (record { base = r; start = s })))
   unfolding term_base
-  bases_next bases r so_far h e = filled_next so_far h e
+  bases_next r s so_far h e = rw (map-set (λ (t : TermTable). t.base) terms d (record { base = r; start = s })) (filled_next so_far h e)
 
-  pub bases_end : (bases : List ℕ) → Filled 8 (term_base v) d bases → 8 ≤ d → bases ≡ table_bases v
+  pub bases_end : Filled 8 (term_base v) d (bases_of terms) → 8 ≤ d → bases_of terms ≡ table_bases v
   unfolding term_base table_bases
-  bases_end bases so_far h = filled_end so_far h
+  bases_end so_far h = filled_end so_far h
 
   module _ (ls : List ℕ) (n : ℕ) where
-    pub starts_next : (starts : List ℕ) (r : ℕ) → Filled 8 (term_start ls v n) d starts → d < 8 → r ≡ table_start ls (get_or v (8 - 1 - d) 0) (d + 1) n →
-        Filled 8 (term_start ls v n) (d + 1) (set starts d r)
+    pub starts_next : (r s : ℕ) → Filled 8 (term_start ls v n) d (starts_of terms) → d < 8 → s ≡ table_start ls (get_or v (8 - 1 - d) 0) (d + 1) n →
+        Filled 8 (term_start ls v n) (d + 1) (starts_of (set terms d (record { base = r; start = s })))
     unfolding term_start
-    starts_next starts r so_far h e = filled_next so_far h e
+    starts_next r s so_far h e = rw (map-set (λ (t : TermTable). t.start) terms d (record { base = r; start = s })) (filled_next so_far h e)
 
-    pub starts_end : (starts : List ℕ) → Filled 8 (term_start ls v n) d starts → 8 ≤ d → starts ≡ table_starts ls v n
+    pub starts_end : Filled 8 (term_start ls v n) d (starts_of terms) → 8 ≤ d → starts_of terms ≡ table_starts ls v n
     unfolding term_start table_starts
-    starts_end starts so_far h = filled_end so_far h
+    starts_end so_far h = filled_end so_far h
 
-pub start_inside : (starts : List ℕ) (d : ℕ) → ((k : ℕ) → at starts k < 2047) → get_or starts d 0 < 2047
-start_inside starts d h = h d
+abbrev no_term : TermTable
+no_term = record { base = 0; start = 0 }
 
-module _ (bases starts : List ℕ) (i d r : ℕ) (most : (k : ℕ) → at bases k ≤ 16696) (er : r ≡ (get_or starts d 0 + i) % 2047) where
-  small : r < 2047
-  small = rw er (mod-lt (get_or starts d 0 + i) (lit< tt))
+-- the base and the start of one of the terms
+module _ (terms : List TermTable) (d : ℕ) where
+  base_is : at (bases_of terms) d ≡ (get_or terms d no_term).base
+  base_is = get_or-map (λ (t : TermTable). t.base) terms d no_term
 
-  pub position_small : get_or bases d 0 + r < 18446744073709551616
-  position_small = omega (arith, most d, small)
+  start_is : at (starts_of terms) d ≡ (get_or terms d no_term).start
+  start_is = get_or-map (λ (t : TermTable). t.start) terms d no_term
 
-  pub position_is : get_or bases d 0 + r ≡ table_position bases starts i d
+  pub term_small : (i : ℕ) → i < 2047 → ((k : ℕ) → at (bases_of terms) k ≤ 16696) → ((k : ℕ) → at (starts_of terms) k < 2047) →
+      (i < 2047) × ((get_or terms d no_term).base ≤ 16696) × ((get_or terms d no_term).start < 2047)
+  term_small i h b s = (h, rw base_is at (b d), rw start_is at (s d))
+
+  pub term_position : (i r : ℕ) → r ≡ (get_or terms d no_term).base + ((get_or terms d no_term).start + i) % 2047 → r ≡ table_position (bases_of terms) (starts_of terms) i d
   unfolding table_position
+  term_position i r e = rw (base_is, start_is) e
+
+module _ (base start i r : ℕ) (most : base ≤ 16696) (er : r ≡ (start + i) % 2047) where
+  small : r < 2047
+  small = rw er (mod-lt (start + i) (lit< tt))
+
+  pub position_small : base + r < 18446744073709551616
+  position_small = omega (arith, most, small)
+
+  pub position_is : base + r ≡ base + (start + i) % 2047
   position_is = rw er
 
-  pub position_fits : get_or bases d 0 + r + 40 ≤ 18784
-  position_fits = omega (arith, most d, small)
+  pub position_fits : base + r + 40 ≤ 18784
+  position_fits = omega (arith, most, small)
 
 -- ---- the sums
 
@@ -352,23 +397,28 @@ pub eight_is : (tables : List ℕ) (a b c d e f g h l u w r : ℕ) → u ≡ fou
 unfolding eight_at
 eight_is tables a b c d e f g h l u w r eu ew er = er ∙ ap₂ xor eu ew
 
--- if z is 0, none of f 0, .. f (l - 1) is x
-pub record Unequal (f : ℕ → ℕ) (x l z : ℕ) : Type 0 where
+-- unless one was found, none of f 0, .. f (l - 1) is x
+pub record Unequal (f : ℕ → ℕ) (x l : ℕ) (found : Bool) : Type 0 where
   pub within : l ≤ 40
-  pub none : z ≡ 0 → (k : ℕ) → k < l → f k ≡ x → ⊥
+  pub none : found ≡ false → (k : ℕ) → k < l → f k ≡ x → ⊥
 
-pub unequal_none : {f : ℕ → ℕ} {x : ℕ} → Unequal f x 0 0
+pub unequal_none : {f : ℕ → ℕ} {x : ℕ} → Unequal f x 0 false
 unequal_none = record { within = zero-le; none = λ z k h. absurd (not-suc-le-zero h) }
 
-module _ {f : ℕ → ℕ} {x l z : ℕ} (so_far : Unequal f x l z) where
-  pub unequal_next : {v r : ℕ} → l < 40 → v ≡ f l → (r ≡ 0 → (z ≡ 0) × (v ≡ x → ⊥)) → Unequal f x (l + 1) r
-  unequal_next {v} {r} h e n = record { within = omega arith; none = λ q k b. go q k b (ℕ_discrete k l) }
-    where
-      go : r ≡ 0 → (k : ℕ) → k < l + 1 → Dec (k ≡ l) → f k ≡ x → ⊥
-      go q k b (yes s) t = (n q).1 (e ∙ ap f (sym s) ∙ t)
-      go q k b (no s) t = so_far.none (n q).0 k (omega arith) t
+or_false : (a b : Bool) → (a || b) ≡ false → (a ≡ false) × (b ≡ false)
+or_false false false h = (refl, refl)
+or_false false true h = absurd (omega (arith, ap {B = ℕ} (λ (b : Bool). cond b 1 0) h))
+or_false true b h = absurd (omega (arith, ap {B = ℕ} (λ (b : Bool). cond b 1 0) h))
 
-  pub unequal_end : 40 ≤ l → z ≡ 0 → (k : ℕ) → k < 40 → f k ≡ x → ⊥
+module _ {f : ℕ → ℕ} {x l : ℕ} {found : Bool} (so_far : Unequal f x l found) where
+  pub unequal_next : {v : ℕ} → l < 40 → v ≡ f l → Unequal f x (l + 1) (found || eqb v x)
+  unequal_next {v} h e = record { within = omega arith; none = λ q k b. go (or_false found (eqb v x) q) k b (ℕ_discrete k l) }
+    where
+      go : (found ≡ false) × (eqb v x ≡ false) → (k : ℕ) → k < l + 1 → Dec (k ≡ l) → f k ≡ x → ⊥
+      go q k b (yes s) t = absurd (omega (arith, ap {B = ℕ} (λ (b : Bool). cond b 1 0) (sym (eq-eqb v x (e ∙ ap f (sym s) ∙ t)) ∙ q.1)))
+      go q k b (no s) t = so_far.none q.0 k (omega arith) t
+
+  pub unequal_end : 40 ≤ l → found ≡ false → (k : ℕ) → k < 40 → f k ≡ x → ⊥
   unequal_end h q k b = so_far.none q k (omega arith)
 
 -- ---- the places that are kept
@@ -381,15 +431,8 @@ kept_few i p h = go (ltb p.count 8) refl
     go true e = omega (arith, ltb-true p.count 8 e)
     go false e = h
 
-module _ (p : Places) (v x i : ℕ) where
-  pub keep_here : (r : Places) → v ≡ x → r ≡ kept i p → r ≡ cond (eqb v x) (kept i p) p
-  keep_here r e er = rw (eq-eqb v x e) er
-
-  pub keep_few : (r : Places) → r ≡ kept i p → p.count ≤ 8 → r.count ≤ 8
-  keep_few r er few = rw er (kept_few i p few)
-
-  pub keep_not : (v ≡ x → ⊥) → p ≡ cond (eqb v x) (kept i p) p
-  keep_not n = rw (ne_eqb v x n)
+pub keep_few : (i : ℕ) (p r : Places) → r ≡ kept i p → p.count ≤ 8 → r.count ≤ 8
+keep_few i p r er few = rw er (kept_few i p few)
 
 module _ (f : ℕ → ℕ) (x i : ℕ) (p₀ : Places) where
   pub kept_none : p₀ ≡ kept_to f x i p₀ 0
@@ -403,26 +446,51 @@ module _ (f : ℕ → ℕ) (x i : ℕ) (p₀ : Places) where
   kept_same (suc l) n = rw (ne_eqb (f l) x (n l (le_refl (suc l)))) (kept_same l (λ k h. n k (omega arith)))
 
   module _ (l : ℕ) (p : Places) (so_far : p ≡ kept_to f x i p₀ l) where
-    pub kept_next : (v : ℕ) (r : Places) → v ≡ f l → r ≡ cond (eqb v x) (kept (i + l) p) p → r ≡ kept_to f x i p₀ (l + 1)
+    pub kept_here : (v : ℕ) (r : Places) → v ≡ f l → v ≡ x → r ≡ kept (i + l) p → r ≡ kept_to f x i p₀ (l + 1)
     unfolding kept_to
-    kept_next v r ev er = rw (add-one, ← so_far, ← ev) er
+    kept_here v r ev e er = rw (add-one, ← so_far, ← ev, eq-eqb v x e) er
+
+    pub kept_not : (v : ℕ) → v ≡ f l → (v ≡ x → ⊥) → p ≡ kept_to f x i p₀ (l + 1)
+    unfolding kept_to
+    kept_not v ev n = rw (add-one, ← so_far, ← ev, ne_eqb v x n)
 
     pub kept_end : l ≤ 40 → 40 ≤ l → p ≡ kept_to f x i p₀ 40
     kept_end lo hi = let q : l ≡ 40 = omega arith in rw q at so_far
 
 -- a block, by the positions of its tables
-module _ (tables bases starts : List ℕ) (x i a b c d e f g h : ℕ) (p : Places) (ea : a ≡ table_position bases starts i 0) (eb : b ≡ table_position bases starts i 1)
-    (ec : c ≡ table_position bases starts i 2) (ed : d ≡ table_position bases starts i 3) (ee : e ≡ table_position bases starts i 4) (ef : f ≡ table_position bases starts i 5)
-    (eg : g ≡ table_position bases starts i 6) (eh : h ≡ table_position bases starts i 7) where
-  by_tables : eight_at tables a b c d e f g h ≡ tables_sum tables bases starts i
+module _ (tables bases starts : List ℕ) (x i : ℕ) (p : List ℕ) (places : Places) (is : Filled 8 (table_position bases starts i) 8 p) where
+  by_tables : sum_from tables p ≡ tables_sum tables bases starts i
   unfolding tables_sum
-  by_tables = rw (ea, eb, ec, ed, ee, ef, eg, eh)
+  by_tables =
+      rw (is.done 0 (lit< tt), is.done 1 (lit< tt), is.done 2 (lit< tt), is.done 3 (lit< tt), is.done 4 (lit< tt), is.done 5 (lit< tt), is.done 6 (lit< tt), is.done 7 (lit< tt)) refl
 
-  pub block_some : (r : Places) → r ≡ kept_to (eight_at tables a b c d e f g h) x i p 40 → r ≡ kept_to (tables_sum tables bases starts i) x i p 40
-  block_some r er = er ∙ ap (λ (s : ℕ → ℕ). kept_to s x i p 40) by_tables
+  pub block_some : (r : Places) → r ≡ kept_to (sum_from tables p) x i places 40 → r ≡ kept_to (tables_sum tables bases starts i) x i places 40
+  block_some r er = er ∙ ap (λ (s : ℕ → ℕ). kept_to s x i places 40) by_tables
 
-  pub block_none : (z : ℕ) → z ≡ 0 → (z ≡ 0 → (l : ℕ) → l < 40 → eight_at tables a b c d e f g h l ≡ x → ⊥) → p ≡ kept_to (tables_sum tables bases starts i) x i p 40
-  block_none z q n = block_some p (kept_same (eight_at tables a b c d e f g h) x i p 40 (n q))
+  pub block_none : (z : Bool) → z ≡ false → (z ≡ false → (l : ℕ) → l < 40 → sum_from tables p l ≡ x → ⊥) → places ≡ kept_to (tables_sum tables bases starts i) x i places 40
+  block_none z q n = block_some places (kept_same (sum_from tables p) x i places 40 (n q))
+
+-- so far the positions of some of the eight terms are there, and blocks from them on lie within the tables
+pub record Positions (bases starts : List ℕ) (i d : ℕ) (p : List ℕ) : Type 0 where
+  pub filled : Filled 8 (table_position bases starts i) d p
+  pub inside : (k : ℕ) → k < d → at p k + 40 ≤ 18784
+
+pub positions_none : {bases starts p : List ℕ} {i : ℕ} → length p ≡ 8 → Positions bases starts i 0 p
+positions_none e = record { filled = filled_start e; inside = λ k h. absurd (not-suc-le-zero h) }
+
+module _ {bases starts p : List ℕ} {i d : ℕ} (so_far : Positions bases starts i d p) where
+  pub positions_next : {r : ℕ} → d < 8 → r ≡ table_position bases starts i d → r + 40 ≤ 18784 → Positions bases starts i (d + 1) (set p d r)
+  positions_next {r} h e fits = record { filled = filled_next so_far.filled h e; inside = λ k l. go k l (ℕ_discrete k d) }
+    where
+      go : (k : ℕ) → k < d + 1 → Dec (k ≡ d) → at (set p d r) k + 40 ≤ 18784
+      go k l (yes e) = rw (e, get_or-set_same p d r 0 (omega (arith, so_far.filled.long))) fits
+      go k l (no n) = rw (get_or-set_other p d k r 0 n) (so_far.inside k (omega arith))
+
+  pub positions_all : 8 ≤ d → Filled 8 (table_position bases starts i) 8 p
+  positions_all h = let q : d ≡ 8 = omega (arith, so_far.filled.within) in rw q at so_far.filled
+
+  pub positions_inside : (tables : List ℕ) → 8 ≤ d → length tables ≡ 18784 → AllInside tables p
+  positions_inside tables h size k l = rw size (so_far.inside k (omega arith))
 
 -- the tables of the terms lie within the buffer
 pub bases_most : (v bases : List ℕ) → bases ≡ table_bases v → (k : ℕ) → at bases k ≤ 16696

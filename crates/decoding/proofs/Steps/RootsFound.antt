@@ -11,11 +11,13 @@ use borrow.Author.Tests.{eq-eqb, ne_eqb, lt-ltb, le-ltb}
 use lib.Dec.{ltb}
 use lib.ListN.{length, get_or, set, length-set}
 use lib.Seq.{get_or-set_same, get_or-set_other}
+use Rattle.std.specs.Prelude.{Option, unwrap_or, MatchOption, IfSome}
+use Rattle.std.specs.declared.option.Option.TheVariants.{None, Some}
 use Rattle.fields.specs.Elements.{xor}
 use Rattle.fields.specs.Steps.ByTables.{table_product}
 use Rattle.fields.specs.Places.{at, horner}
 use Rattle.fields.proofs.Lists.{tabulate_length}
-use Rattle.fields.proofs.Places.Filling.{Filled, filled_end}
+use Rattle.fields.proofs.Places.Filling.{FilledOver, filled_end}
 use Rattle.decoding.specs.declared.root_search.Places.{Places}
 use Rattle.decoding.specs.Steps.ByTables.{table_value}
 use Rattle.decoding.specs.Steps.Decoder.{Tables, locator}
@@ -37,13 +39,18 @@ module _ (es ls v : List ℕ) (r : ℕ) where
   unfolding value_of_first horner
   first_next k u p w eu ep ew = rw (add-one, ← eu, ← ep) ew
 
+  -- where the coefficients are stored over those of v
+  pub first_over : (k u p w : ℕ) (c : List ℕ) → FilledOver 9 (value_of_first es ls v r) v k c → u ≡ value_of_first es ls v r k → p ≡ table_product es ls u r →
+      w ≡ xor p (get_or c k 0) → w ≡ value_of_first es ls v r (k + 1)
+  first_over k u p w c F eu ep ew = first_next k u p w eu ep (ew ∙ ap (xor p) (F.ahead k (le_refl k)))
+
   quotient_long : length (quotient_of es ls v r) ≡ 9
   unfolding quotient_of
   quotient_long = tabulate_length 9 _
 
-  pub quotient_end : (k : ℕ) (c : List ℕ) → Filled 9 (value_of_first es ls v r) k c → 9 ≤ k → c ≡ quotient_of es ls v r
+  pub quotient_end : (k : ℕ) (c : List ℕ) → FilledOver 9 (value_of_first es ls v r) v k c → 9 ≤ k → c ≡ quotient_of es ls v r
   unfolding value_of_first quotient_of
-  quotient_end k c F h = filled_end F h
+  quotient_end k c F h = filled_end F.filled h
 
 -- ---- the roots
 
@@ -202,3 +209,57 @@ module _ (es ls v : List ℕ) (n i : ℕ) (p : Places) (w : List ℕ) (S : Searc
 
   pub search_end : n ≤ i → Roots es ls v n n p.at p.count
   search_end h = let e : i ≡ n = omega (arith, S.most) in rw e at S.found
+
+-- ---- the next root, if there is one
+
+-- its place, or n
+abbrev pub place_of : ℕ → Option ℕ → ℕ
+place_of n next = unwrap_or next n
+
+-- how many places are left to search
+abbrev pub places_left : ℕ → Option ℕ → ℕ
+places_left n None = 0
+places_left n (Some i) = suc n - i
+
+-- what the search for the next root gives
+abbrev pub NextRoot : List ℕ → List ℕ → List ℕ → ℕ → ℕ → Option ℕ → Type 0
+NextRoot es ls v n i next = MatchOption next (FirstRoot es ls v n i n) (λ r. (r < n) × FirstRoot es ls v n i r)
+
+next_first : (es ls v : List ℕ) (n i : ℕ) (next : Option ℕ) → NextRoot es ls v n i next → FirstRoot es ls v n i (place_of n next)
+next_first es ls v n i None F = F
+next_first es ls v n i (Some r) F = F.1
+
+next_below : (es ls v : List ℕ) (n i : ℕ) (next : Option ℕ) → NextRoot es ls v n i next → IfSome next (λ r. r < n)
+next_below es ls v n i None F = tt
+next_below es ls v n i (Some r) F = F.0
+
+-- where the search stands
+pub record Standing (es ls v : List ℕ) (n : ℕ) (next : Option ℕ) (p : Places) (w : List ℕ) : Type 0 where
+  pub searching : Searching es ls v n (place_of n next) p w
+  pub below : IfSome next (λ r. r < n)
+
+pub standing_none : (es ls v : List ℕ) (n : ℕ) (next : Option ℕ) (places : List ℕ) → length places ≡ 8 → length v ≡ 9 → ((k : ℕ) → at v k < length ls) → NextRoot es ls v n 0 next →
+    Standing es ls v n next (record { at = places; count = 0 }) v
+standing_none es ls v n next places eight nine elements F =
+    record {
+      searching = search_none es ls v n (place_of n next) places eight nine elements (next_first es ls v n 0 next F);
+      below = next_below es ls v n 0 next F;
+    }
+
+module _ (es ls v : List ℕ) (n i : ℕ) (last : Option ℕ) (is : last ≡ Some i) (p : Places) (w : List ℕ) (so_far : Standing es ls v n last p w) where
+  S : Standing es ls v n (Some i) p w
+  S = rw is at so_far
+
+  pub standing_elements : Tables es ls → (x : ℕ) (u : List ℕ) → u ≡ quotient_of es ls w x → (k : ℕ) → at u k < length ls
+  standing_elements = search_elements es ls v n i p w S.searching
+
+  pub standing_next : Tables es ls → n ≤ length es → (q : Places) (x : ℕ) (u : List ℕ) (next : Option ℕ) → q ≡ kept i p → x ≡ locator es n i → u ≡ quotient_of es ls w x →
+      NextRoot es ls u n (i + 1) next → Standing es ls v n next q u
+  standing_next T fits q x u next eq ex eu F =
+      record {
+        searching = search_next es ls v n i p w S.searching T fits S.below q x u (place_of n next) eq ex eu (next_first es ls u n (i + 1) next F);
+        below = next_below es ls u n (i + 1) next F;
+      }
+
+pub standing_end : (es ls v : List ℕ) (n : ℕ) (p : Places) (w : List ℕ) → Standing es ls v n None p w → Roots es ls v n n p.at p.count
+standing_end es ls v n p w S = search_end es ls v n n p w S.searching (le_refl n)

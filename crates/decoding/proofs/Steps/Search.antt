@@ -1,5 +1,5 @@
 -- The search for the next root: a law for each way through a function and for each step of a loop. Assumes nothing.
-use mathlib.Core.Path.{◌≡◌, refl, sym, ◌∙◌}
+use mathlib.Core.Path.{◌≡◌, refl, sym, ap, ◌∙◌}
 use mathlib.Core.Bool.{Bool, true, false, cond}
 use mathlib.Core.List.{List}
 use Prim.Native.Nat.{ℕ, ◌+◌, ◌-◌, ◌≤◌, ◌<◌, zero-le}
@@ -13,10 +13,12 @@ use lib.ListN.{length, get_or, set, replicate, length-set}
 use Rattle.fields.specs.Elements.{xor}
 use Rattle.fields.specs.Steps.ByTables.{table_product, table_power}
 use Rattle.fields.specs.Places.{at}
+use Rattle.decoding.specs.declared.root_search.Term.{Term}
 use Rattle.decoding.specs.declared.root_search.Terms.{Terms}
+use Rattle.std.proofs.lemmas.List.{map-set, set-get_or}
 use Rattle.decoding.specs.Steps.Decoder.{Tables, locator, xor_to, times_power}
-use Rattle.decoding.specs.Steps.RootSearch.{add_term, with_term, terms_to, Exponents, powers_to, less_modulo, lowered, RootAt, FirstRoot}
-use Rattle.decoding.proofs.Decoding.Search.{lowered_long, lowered_other, lowered_in, Walk, walk_value, walk_single, walk_next, terms_long, exponents_in, steps_in, walk_start}
+use Rattle.decoding.specs.Steps.RootSearch.{add_term, with_term, terms_to, exponents_of, steps_of, Exponents, powers_to, less_modulo, lowered, RootAt, FirstRoot}
+use Rattle.decoding.proofs.Decoding.Search.{no_term, exponent_at, step_at, lowered_long, lowered_other, lowered_in, Walk, walk_value, walk_single, walk_next, terms_long, exponents_in, steps_in, walk_start}
 use Rattle.decoding.proofs.Steps.Errors.{power_next}
 
 -- ---- the terms
@@ -46,7 +48,7 @@ pub record TermsBelow (es ls v : List ℕ) (x d : ℕ) (t : Terms) (power : ℕ)
   pub power_is : power ≡ times_power (table_product es ls) x 1 d
 
 module _ (es ls v : List ℕ) (x : ℕ) where
-  pub terms_none : TermsBelow es ls v x 0 (record { exponents = replicate 9 0; steps = replicate 9 0; count = 0 }) 1
+  pub terms_none : TermsBelow es ls v x 0 (record { terms = replicate 9 no_term; count = 0 }) 1
   unfolding terms_to times_power
   terms_none = record { within = zero-le; terms = refl; few = zero-le; power_is = refl }
 
@@ -75,9 +77,6 @@ module _ (n e d : ℕ) where
   pub less_high : d ≤ e → e - d ≡ less_modulo n e d
   unfolding less_modulo
   less_high h = rw (le-ltb e d h)
-
-pub exponent_inside : {es e : List ℕ} {count l : ℕ} → Exponents es count e → l < count → get_or e l 0 < length es
-exponent_inside {es} {e} {count} {l} E h = E.inside l h
 
 -- the first l exponents are lowered, and v is the sum of the powers that they had
 pub record Moved (es e₀ s : List ℕ) (count l : ℕ) (e : List ℕ) (v : ℕ) : Type 0 where
@@ -114,6 +113,26 @@ module _ {es e₀ s : List ℕ} {count l : ℕ} {e : List ℕ} {v : ℕ} (so_far
   pub moved_sum : count ≤ l → v ≡ powers_to es e₀ count
   moved_sum h = let q : l ≡ count = omega (arith, so_far.within) in rw q at so_far.sum
 
+-- the same of terms
+module _ {es e₀ s : List ℕ} {count l : ℕ} (terms : List Term) {v : ℕ} (so_far : Moved es e₀ s count l (exponents_of terms) v) where
+  pub term_inside : Exponents es count e₀ → l < count → (get_or terms l no_term).exponent < length es
+  term_inside E h = rw (exponent_at terms l) at (moved_inside so_far E h)
+
+  pub term_step_inside : Exponents es count s → l < count → steps_of terms ≡ s → (get_or terms l no_term).step < length es
+  term_step_inside E h same = rw (← same, step_at terms l) at (E.inside l h)
+
+  pub term_moved : (w r : ℕ) → l < count → steps_of terms ≡ s → w ≡ xor v (get_or es (get_or terms l no_term).exponent 0) →
+      r ≡ less_modulo (length es) (get_or terms l no_term).exponent (get_or terms l no_term).step →
+      Moved es e₀ s count (l + 1) (exponents_of (set terms l (record { exponent = r; step = (get_or terms l no_term).step }))) w
+  term_moved w r h same ew er =
+      rw (map-set (λ (t : Term). t.exponent) terms l (record { exponent = r; step = (get_or terms l no_term).step }))
+      (moved_next so_far w r h (rw (exponent_at terms l) ew) (rw (exponent_at terms l, ← same, step_at terms l) er))
+
+pub term_steps : (terms : List Term) (s : List ℕ) (l r : ℕ) → steps_of terms ≡ s → steps_of (set terms l (record { exponent = r; step = (get_or terms l no_term).step })) ≡ s
+term_steps terms s l r same =
+    map-set (λ (t : Term). t.step) terms l (record { exponent = r; step = (get_or terms l no_term).step }) ∙ ap (set (steps_of terms) l) (sym (step_at terms l))
+    ∙ set-get_or (steps_of terms) l 0 ∙ same
+
 -- ---- the next root
 
 -- from place i, where the terms had the exponents e₀, the search has come to place j; whatever polynomial v they are the terms of, it passed no root
@@ -143,15 +162,21 @@ passed_next es ls n i e₀ s count j e e' r T so_far h er nz q =
     go v W k lo hi (yes b) z = nz (walk_value es ls T n v j e s count (so_far.walk v W) r h er ∙ rw b at z)
     go v W k lo hi (no b) z = so_far.free v W k lo (omega arith) z
 
+-- where the steps are those that they were
+pub passed_on : (es ls : List ℕ) (n i : ℕ) (e₀ s : List ℕ) (count j : ℕ) (e s' e' s'' : List ℕ) (r : ℕ) → Tables es ls → (Passed es ls n i e₀ s count j e) × (s' ≡ s) → j < n →
+    r ≡ powers_to es e count → (r ≡ 0 → ⊥) → e' ≡ lowered (length es) e s' count → s'' ≡ s' → Passed es ls n i e₀ s count (j + 1) e' × (s'' ≡ s)
+passed_on es ls n i e₀ s count j e s' e' s'' r T (so_far, same) h er nz q k =
+    (passed_next es ls n i e₀ s count j e e' r T so_far h er nz (q ∙ ap (λ (u : List ℕ). lowered (length es) e u count) same), k ∙ same)
+
 module _ (es ls v : List ℕ) (n i x : ℕ) (t : Terms) (T : Tables es ls) (elements : (k : ℕ) → at v k < length ls) (nine : length v ≡ 9) (ex : x ≡ locator es n i)
     (et : t ≡ terms_to es ls v x 9) where
   all : t ≡ terms_to es ls v (locator es n i) 9
   all = rw ex at et
 
-  start : Walk es ls v n i t.exponents t.steps t.count
+  start : Walk es ls v n i (exponents_of t.terms) (steps_of t.terms) t.count
   start = walk_start es ls T n v elements nine i t all
 
-  pub passed_none : i ≤ n → Passed es ls n i t.exponents t.steps t.count i t.exponents
+  pub passed_none : i ≤ n → Passed es ls n i (exponents_of t.terms) (steps_of t.terms) t.count i (exponents_of t.terms)
   passed_none h =
       record {
         from = le_refl i;
@@ -168,18 +193,18 @@ module _ (es ls v : List ℕ) (n i x : ℕ) (t : Terms) (T : Tables es ls) (elem
       record {
         from = h;
         most = le_refl n;
-        before = walk_single es ls T n v i t.exponents t.steps t.count start one (exponents_in es ls T n v elements nine i t all) (steps_in es ls T n v elements nine i t all);
+        before = walk_single es ls T n v i (exponents_of t.terms) (steps_of t.terms) t.count start one (exponents_in es ls T n v elements nine i t all) (steps_in es ls T n v elements nine i t all);
         here = λ b. absurd (omega arith);
       }
 
-  module _ (j : ℕ) (e : List ℕ) (so_far : Passed es ls n i t.exponents t.steps t.count j e) where
+  module _ (j : ℕ) (e : List ℕ) (so_far : Passed es ls n i (exponents_of t.terms) (steps_of t.terms) t.count j e) where
     pub passed_found : (r : ℕ) → j < n → r ≡ powers_to es e t.count → r ≡ 0 → FirstRoot es ls v n i j
     passed_found r h er z =
         record {
           from = so_far.from;
           most = so_far.most;
           before = so_far.free v start;
-          here = λ b. sym (walk_value es ls T n v j e t.steps t.count (so_far.walk v start) r h er) ∙ z;
+          here = λ b. sym (walk_value es ls T n v j e (steps_of t.terms) t.count (so_far.walk v start) r h er) ∙ z;
         }
 
     pub passed_end : n ≤ j → FirstRoot es ls v n i n

@@ -2,7 +2,7 @@
 use mathlib.Core.Path.{◌≡◌, sym, ap, ◌∙◌}
 use mathlib.Core.Bool.{Bool, true, false, cond}
 use mathlib.Core.List.{List}
-use Prim.Native.Nat.{ℕ, zero, suc, ◌+◌, ◌-◌, ◌%◌, ◌≤◌, ◌<◌, zero-le}
+use Prim.Native.Nat.{ℕ, zero, suc, ◌+◌, ◌-◌, ◌*◌, ◌/◌, ◌%◌, ◌≤◌, ◌<◌, zero-le}
 use native.Mathlib.Decide.{ℕ_discrete}
 use native.Mathlib.Nat.{le_refl}
 use native.Mathlib.Omega.{arith}
@@ -104,6 +104,18 @@ module _ (es ls : List ℕ) (n : ℕ) (tables bases starts : List ℕ) (x i : �
   scanning_end h v eb est ex nine R =
       let e : i ≡ n = omega (arith, so_far.most) in
       rw e at (so_far.roots v (record { bases_are = eb; starts_are = est; last = ex; long = nine; tables_for = R }))
+
+-- k blocks are passed
+module _ (es ls : List ℕ) (n : ℕ) (tables bases starts : List ℕ) (x k : ℕ) (p : Places) (so_far : Scanning es ls n tables bases starts x (40 * k) p) where
+  pub block_passed : Tables es ls → k < n / 40 → n % 40 ≡ 0 → (r : Places) → r ≡ kept_to (tables_sum tables bases starts (40 * k)) x (40 * k) p 40 →
+      Scanning es ls n tables bases starts x (40 * (k + 1)) r
+  block_passed T h w r er =
+      let e : 40 * (k + 1) ≡ 40 * k + 40 = omega arith in
+      rw e (scanning_next es ls n tables bases starts x (40 * k) p so_far T (omega arith) w r er)
+
+  pub blocks_passed : n / 40 ≤ k → (v : List ℕ) → bases ≡ table_bases v → starts ≡ table_starts ls v n → x ≡ get_or v 8 0 → length v ≡ 9 → TablesFor es ls v n tables →
+      Roots es ls v n n p.at p.count
+  blocks_passed h v eb est ex nine R = scanning_end es ls n tables bases starts x (40 * k) p so_far (omega (arith, R.whole)) v eb est ex nine R
 
 module _ {es ls v : List ℕ} {n : ℕ} {tables : List ℕ} (R : TablesFor es ls v n tables) where
   pub tables_long : length tables ≡ 18784

@@ -1,5 +1,5 @@
 use borrow.Author.Rules.{rules}
-use Rattle.decoding.proofs.Steps.Errors.{weight_none, weight_next, weight_end}
+use Rattle.decoding.proofs.Steps.Errors.{weight_none, weight_next}
 use Rattle.decoding.proofs.weight.Goals as goal
 
 pub loop-k-init : goal.loop-k-init
@@ -7,6 +7,3 @@ loop-k-init c = search (rules, weight_none)
 
 pub loop-k-preserved : goal.loop-k-preserved
 loop-k-preserved c = search (rules, weight_next)
-
-pub returns : goal.returns
-returns c = search (rules, weight_end)

@@ -5,7 +5,6 @@ use Rattle.fields.specs.Elements.{xor}
 use Rattle.fields.specs.Steps.ByTables.{table_product, table_inverse}
 use Rattle.fields.specs.Places.{at}
 use Rattle.decoding.specs.declared.annihilator.Recurrence.{Recurrence}
-use Rattle.decoding.specs.declared.annihilator.Row.{Row}
 use Rattle.decoding.specs.Steps.Decoder.{xor_to}
 
 -- the polynomial with the coefficients b 0, .. b (n - 1), highest power first, applied to the sequence s: x^k stands for s k
@@ -47,14 +46,11 @@ unfoldable pub cell_cleared : List ℕ → List ℕ → List ℕ → List ℕ �
 cell_cleared es ls u v j = plus_scaled es ls u (table_product es ls (at u j) (table_inverse es ls (at v j))) v
 
 -- the cells of row j of a list of rows
-abbrev pub no_row : Row
-no_row = record { cells = [] }
-
-unfoldable pub cells_of : List Row → ℕ → List ℕ
-cells_of rows j = (get_or rows j no_row).cells
+unfoldable pub cells_of : List (List ℕ) → ℕ → List ℕ
+cells_of rows j = get_or rows j []
 
 -- u with its first n cells made zero by the pivots of these cells, one after the other
-unfoldable pub reduced : List ℕ → List ℕ → List ℕ → List Row → ℕ → List ℕ
+unfoldable pub reduced : List ℕ → List ℕ → List ℕ → List (List ℕ) → ℕ → List ℕ
 reduced es ls u pivots zero = u
 reduced es ls u pivots (suc j) = cell_cleared es ls (reduced es ls u pivots j) (cells_of pivots j) j
 

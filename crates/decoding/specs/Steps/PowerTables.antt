@@ -1,9 +1,10 @@
 -- What the search for the roots by tables of powers gives. It serves the field whose element a has the order 2,047, and reads blocks of 40 places.
-use Rattle.std.specs.Prelude.{◌≡◌, cond, List, [], ◌∷◌, ℕ, zero, suc, ◌+◌, ◌-◌, ◌*◌, ◌%◌, ◌≤◌, ◌<◌, eqb, length, set}
+use Rattle.std.specs.Prelude.{◌≡◌, cond, List, [], ◌∷◌, ℕ, zero, suc, ◌+◌, ◌-◌, ◌*◌, ◌%◌, ◌≤◌, ◌<◌, eqb, length, set, map}
 use Rattle.fields.specs.Lists.{tabulate}
 use Rattle.fields.specs.Elements.{xor}
 use Rattle.fields.specs.Steps.ByTables.{table_power}
 use Rattle.fields.specs.Places.{at}
+use Rattle.decoding.specs.declared.power_tables.TermTable.{TermTable}
 use Rattle.decoding.specs.declared.root_search.Places.{Places}
 use Rattle.decoding.specs.Steps.RootSearch.{kept}
 
@@ -57,6 +58,13 @@ table_bases v = tabulate 8 (λ d. table_base (at v (7 - d)) (d + 1))
 unfoldable pub table_starts : List ℕ → List ℕ → ℕ → List ℕ
 table_starts ls v n = tabulate 8 (λ d. table_start ls (at v (7 - d)) (d + 1) n)
 
+-- the same of a list of terms
+abbrev pub bases_of : List TermTable → List ℕ
+bases_of terms = map (λ t. t.base) terms
+
+abbrev pub starts_of : List TermTable → List ℕ
+starts_of terms = map (λ t. t.start) terms
+
 -- where the values from place i on stand
 unfoldable pub table_position : List ℕ → List ℕ → ℕ → ℕ → ℕ
 table_position bases starts i d = at bases d + (at starts d + i) % 2047
@@ -74,6 +82,13 @@ four_at tables a b c d l = xor (xor (at tables (a + l)) (at tables (b + l))) (xo
 
 unfoldable pub eight_at : List ℕ → ℕ → ℕ → ℕ → ℕ → ℕ → ℕ → ℕ → ℕ → ℕ → ℕ
 eight_at tables a b c d e f g h l = xor (four_at tables a b c d l) (four_at tables e f g h l)
+
+-- the same from a list of eight positions on, in which blocks lie within the tables
+abbrev pub AllInside : List ℕ → List ℕ → Type 0
+AllInside tables p = (k : ℕ) → k < 8 → at p k + 40 ≤ length tables
+
+abbrev pub sum_from : List ℕ → List ℕ → ℕ → ℕ
+sum_from tables p = eight_at tables (at p 0) (at p 1) (at p 2) (at p 3) (at p 4) (at p 5) (at p 6) (at p 7)
 
 unfoldable pub tables_sum : List ℕ → List ℕ → List ℕ → ℕ → ℕ → ℕ
 tables_sum tables bases starts i =

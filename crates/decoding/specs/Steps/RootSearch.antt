@@ -1,9 +1,10 @@
 -- The places whose locators are roots of a polynomial, from place to place.
-use Rattle.std.specs.Prelude.{◌≡◌, cond, List, [], ◌∷◌, ℕ, zero, suc, ◌+◌, ◌-◌, ◌≤◌, ◌<◌, eqb, ltb, length, set, replicate}
+use Rattle.std.specs.Prelude.{◌≡◌, cond, List, [], ◌∷◌, ℕ, zero, suc, ◌+◌, ◌-◌, ◌≤◌, ◌<◌, eqb, ltb, length, set, map, replicate}
 use Rattle.fields.specs.Lists.{tabulate}
 use Rattle.fields.specs.Steps.ByTables.{table_product, table_power}
 use Rattle.fields.specs.Places.{at, horner}
 use Rattle.decoding.specs.declared.root_search.Places.{Places}
+use Rattle.decoding.specs.declared.root_search.Term.{Term}
 use Rattle.decoding.specs.declared.root_search.Terms.{Terms}
 use Rattle.decoding.specs.Steps.ByTables.{table_value}
 use Rattle.decoding.specs.Steps.Decoder.{locator, xor_to, times_power}
@@ -28,7 +29,7 @@ pub record Roots (es ls v : List ℕ) (n i : ℕ) (places : List ℕ) (count : �
 
 -- the terms of a polynomial, with one more of exponent e, which falls by `step` from one place to the next
 abbrev pub add_term : ℕ → ℕ → Terms → Terms
-add_term e step t = record { exponents = set t.exponents t.count e; steps = set t.steps t.count step; count = t.count + 1 }
+add_term e step t = record { terms = set t.terms t.count (record { exponent = e; step = step }); count = t.count + 1 }
 
 -- the terms, with one more by its value, if that is not zero, and by the power of a that it loses from one place to the next
 unfoldable pub with_term : List ℕ → ℕ → ℕ → Terms → Terms
@@ -36,9 +37,16 @@ with_term ls value power t = cond (eqb value 0) t (add_term (at ls value) (at ls
 
 -- the terms of degree below k of the polynomial v at the locator x, but for those that are zero
 unfoldable pub terms_to : List ℕ → List ℕ → List ℕ → ℕ → ℕ → Terms
-terms_to es ls v x zero = record { exponents = replicate 9 0; steps = replicate 9 0; count = 0 }
+terms_to es ls v x zero = record { terms = replicate 9 (record { exponent = 0; step = 0 }); count = 0 }
 terms_to es ls v x (suc d) =
     with_term ls (table_product es ls (times_power (table_product es ls) x 1 d) (at v (8 - d))) (table_power es d) (terms_to es ls v x d)
+
+-- the exponents of terms, and their steps
+abbrev pub exponents_of : List Term → List ℕ
+exponents_of terms = map (λ t. t.exponent) terms
+
+abbrev pub steps_of : List Term → List ℕ
+steps_of terms = map (λ t. t.step) terms
 
 -- the first k entries of a list are exponents that the table of powers has
 pub record Exponents (es : List ℕ) (k : ℕ) (exponents : List ℕ) : Type 0 where

@@ -7,17 +7,26 @@ use mathlib.Core.List.{List, ◌∷◌}
 use Prim.Native.Nat.{ℕ, zero, suc, ◌+◌, ◌≤◌, ◌<◌}
 use native.Mathlib.Nat.{le_refl}
 use native.Mathlib.Omega.{arith}
-use borrow.Author.Tests.{eq-eqb, eqb-true, eqb-false, leb-true}
+use borrow.Author.Tests.{eq-eqb, eqb-true, eqb-false, leb-true, lt-ltb}
 use lib.Dec.{eqb, ltb, leb}
 use lib.ListN.{length, get_or, set, length-set}
 use lib.Seq.{get_or-set_same, get_or-set_other}
-use Rattle.logging.specs.WorstList.{Counts, count_of, is_before, is_open, earlier, first_open}
+use Rattle.logging.specs.WorstList.{Counts, count_in, count_of, is_before, is_open, earlier, first_open}
 use Rattle.logging.specs.WorstList as WorstList
-use Rattle.logging.proofs.Order.{count_inside, count_together, before_count}
+use Rattle.logging.proofs.Order.{before_count}
 use Rattle.logging.proofs.WorstOfAll.{top}
 use Rattle.document03.proofs.Counts.{together, together_at}
 use Rattle.document03.proofs.Fields.{pick, is_in}
 use Rattle.document03.proofs.Logging.Says.{worst_from, worst_of, WithoutTies}
+
+-- the library's count of an inner word is the sum of two entries
+count_inside : (list : List ℕ) (k x : ℕ) → k < 64 → x ≡ get_or list k 0 → x ≡ count_in list k
+unfolding count_in
+count_inside list k x h e = rw (lt-ltb k 64 h, e)
+
+count_together : (counts : Counts) (k x y : ℕ) → x ≡ count_in counts.0 k → y ≡ count_in counts.1 k → x + y ≡ count_of counts k
+unfolding count_of
+count_together counts k x y ex ey = rw (ex, ey)
 
 -- the marks where some words are taken
 abbrev Marks : List ℕ → List Bool → Type 0

@@ -17,11 +17,11 @@ use Rattle.words.specs.OuterCode as Outer
 use Rattle.words.specs.InnerCode.{inner_parity}
 use Rattle.words.specs.InnerCode as Inner
 use Rattle.words.specs.Nearest.{nearest, Decodes}
-use Rattle.words.specs.Answers.{unless, refusal, within, answered, outer_checked, outer_encoded, inner_checked, inner_encoded, refusal_of, changed_of, inner_refusal_of, data_changed_of, parity_changed_of, found, corrected, outer_corrected, inner_changes, inner_corrected}
-use Rattle.words.specs.declared.Correction.{Correction}
-use Rattle.words.specs.declared.Correction.TheVariants as outer
-use Rattle.words.specs.declared.InnerCorrection.{InnerCorrection}
-use Rattle.words.specs.declared.InnerCorrection.TheVariants as inner
+use Rattle.words.specs.Answers.{unless, refusal, within, answered, outer_checked, outer_encoded, inner_checked, inner_encoded, found, corrected, outer_corrected, inner_changes, inner_corrected}
+use Rattle.words.specs.Corrections.{Correction, refusal_of, changed_of}
+use Rattle.words.specs.Corrections as outer
+use Rattle.words.specs.InnerCorrections.{InnerCorrection, inner_refusal_of, data_changed_of, parity_changed_of}
+use Rattle.words.specs.InnerCorrections as inner
 use Rattle.words.specs.Answers as Answers
 use Rattle.words.proofs.Bits.Bytes.{bits_below, bits_length}
 use Rattle.words.proofs.Codes.InnerParity.{inner_length}

@@ -10,5 +10,5 @@ pub record Placed (i : ℕ) (xs before after : List ℕ) : Type 0 where
   pub above : (j : ℕ) → i + length xs ≤ j → at after j ≡ at before j
 
 -- a buffer as long as the word gets it; any other stays as it was
-unfoldable pub copied : List ℕ → List ℕ → List ℕ
+unfoldable pub copied : {A : Type 0} → List A → List A → List A
 copied w buffer = cond (eqb (length buffer) (length w)) w buffer

@@ -1,20 +1,18 @@
 -- What the corrector answers, one law for each way through it. Assumes nothing.
 use mathlib.Core.Path.{◌≡◌, refl, sym, ap, ◌∙◌}
-use mathlib.Core.Bool.{Bool, true, false, not}
+use mathlib.Core.Bool.{Bool, true, false}
 use mathlib.Core.List.{List, []}
 use mathlib.Core.Option.{Option, none, some, map}
 use Prim.Native.Nat.{ℕ, ◌+◌, ◌-◌, ◌*◌, ◌<◌}
 use native.Mathlib.Omega.{arith}
-use borrow.Author.Tests.{eq-eqb, ne_eqb, not-true, not-false}
+use borrow.Author.Tests.{eq-eqb, ne_eqb}
 use lib.Dec.{eqb}
 use lib.ListN.{length, get_or, replicate}
 use mir.Syntax.{w8}
 use mir.Val.{Fits}
-use Rattle.fields.specs.Steps.Buffers.{copied}
 use Rattle.fields.specs.Lists.{tabulate}
 use Rattle.fields.specs.Places.{at}
 use Rattle.fields.proofs.Lists.{tabulate_at, tabulate_same}
-use Rattle.decoding.proofs.Steps.Symbols.{copied_same}
 use Rattle.words.specs.Bits.{bit_at, bytes_of}
 use Rattle.words.specs.Nearest.{nearest, every_of}
 use Rattle.words.specs.InnerWords.{with_parity, inner_pass}
@@ -76,15 +74,15 @@ unfolding provided
 pass_kept passed s t long bytes inner hs et h = sym (frame_kept passed (is_block_lem passed long bytes) (sym et ∙ h) (inner hs))
 
 module _ (passed next : List ℕ) (t : Bool) (restored : provided t (words_in next) ≡ every_of (outer_pass (bit_at passed))) where
-  pub pass_none : not t ≡ true → provided false passed ≡ outer_frame (bit_at passed)
+  pub pass_none : t ≡ false → provided false passed ≡ outer_frame (bit_at passed)
   unfolding outer_frame provided
-  pass_none h = rw (← restored, not-true t h)
+  pass_none h = rw (← restored, h)
 
-  pub pass_written : not t ≡ false → (mid out : List ℕ) → length next ≡ 12496 → Sent next mid → out ≡ bytes_of 16320 (with_parity (bit_at mid)) →
+  pub pass_written : t ≡ true → (mid out : List ℕ) → length next ≡ 12496 → Sent next mid → out ≡ bytes_of 16320 (with_parity (bit_at mid)) →
       provided true out ≡ outer_frame (bit_at passed)
   unfolding outer_frame provided
   pass_written h mid out long sent made =
-      rw (← restored, not-false t h, made ∙ frame_written (words_in next) next mid (symbols_words next long) sent)
+      rw (← restored, h, made ∙ frame_written (words_in next) next mid (symbols_words next long) sent)
 
 -- ---- the entry
 
@@ -93,11 +91,10 @@ unfolding no_counts tabulate
 none_counted = refl
 
 -- the frame that is written, with its report
-pub frame_reported : (b o frame out d p : List ℕ) (m n : ℕ) → length frame ≡ 16320 → length o ≡ 16320 → out ≡ copied frame o →
-    d ≡ counts_between 0 1952 b frame → p ≡ counts_between 1952 2040 b frame → m ≡ total d → n ≡ total p →
+pub frame_reported : (b o frame out d p : List ℕ) (m n : ℕ) → out ≡ frame → d ≡ counts_between 0 1952 b frame → p ≡ counts_between 1952 2040 b frame → m ≡ total d → n ≡ total p →
     ◌≡◌ {A = CorrectorAnswer} (0, d, p, m + n, out) (reported b o (some frame))
 unfolding reported data_counts parity_counts all_counted
-frame_reported b o frame out d p m n long room eo ed ep em en = rw (em, en, ed, ep, eo ∙ copied_same frame o (room ∙ sym long))
+frame_reported b o frame out d p m n eo ed ep em en = rw (em, en, ed, ep, eo)
 
 module _ (b o : List ℕ) where
   pub correct_length : (length b ≡ 16320 → ⊥) → (n sum : ℕ) (d p : List ℕ) → n ≡ 2 → d ≡ no_counts → p ≡ no_counts → sum ≡ 0 →
@@ -111,22 +108,17 @@ module _ (b o : List ℕ) where
     unfolding frame_corrected concluded refused
     correct_space f n sum d p en ed ep es = rw (eq-eqb (length b) 16320 e, ne_eqb (length o) 16320 f, en, ed, ep, es)
 
-    module _ (f : length o ≡ 16320) (t : Bool) (blank copy frame : List ℕ) (room : length blank ≡ 16320) (ec : copy ≡ copied b blank)
-        (told : provided t frame ≡ restored_frame copy) where
-      -- what the copy has become is the restored frame, or there is none
-      restored_is : restored_frame b ≡ provided t frame
-      restored_is = ap restored_frame (sym (ec ∙ copied_same b blank (room ∙ sym e))) ∙ sym told
-
-      pub correct_none : not t ≡ true → (n sum : ℕ) (d p : List ℕ) → n ≡ 5 → d ≡ no_counts → p ≡ no_counts → sum ≡ 0 →
+    module _ (f : length o ≡ 16320) (t : Bool) (frame : List ℕ) (told : provided t frame ≡ restored_frame b) where
+      pub correct_none : t ≡ false → (n sum : ℕ) (d p : List ℕ) → n ≡ 5 → d ≡ no_counts → p ≡ no_counts → sum ≡ 0 →
           ◌≡◌ {A = CorrectorAnswer} (n, d, p, sum, o) (frame_corrected b o)
       unfolding reported refused provided
       correct_none h n sum d p en ed ep es =
           let refusal : ◌≡◌ {A = CorrectorAnswer} (n, d, p, sum, o) (reported b o none) = rw (en, ed, ep, es) in
-          refusal ∙ sym (answer_is b o e f none (restored_is ∙ rw (not-true t h)))
+          refusal ∙ sym (answer_is b o e f none (sym told ∙ ap (λ (x : Bool). provided x frame) h))
 
-      pub correct_written : not t ≡ false → (r : CorrectorAnswer) → r ≡ reported b o (some frame) → r ≡ frame_corrected b o
+      pub correct_written : t ≡ true → (r : CorrectorAnswer) → r ≡ reported b o (some frame) → r ≡ frame_corrected b o
       unfolding provided
-      correct_written h r er = er ∙ sym (answer_is b o e f (some frame) (restored_is ∙ rw (not-false t h)))
+      correct_written h r er = er ∙ sym (answer_is b o e f (some frame) (sym told ∙ ap (λ (x : Bool). provided x frame) h))
 
 -- what the C host is told of an answer
 pub report_left_out : (a : CorrectorAnswer) (n sum : ℕ) (d p out : List ℕ) → ◌≡◌ {A = CorrectorAnswer} (n, d, p, sum, out) a → ◌≡◌ {A = ℕ × List ℕ} (n, out) (without_report a)

@@ -1,10 +1,10 @@
 -- What the entries answer, one law for each way through an entry. Assumes nothing.
 use mathlib.Core.Path.{◌≡◌, sym, ap, ◌∙◌}
-use mathlib.Core.Bool.{Bool, true, false, not, ◌&&◌}
+use mathlib.Core.Bool.{Bool, true, false, ◌&&◌}
 use mathlib.Core.List.{List}
 use Prim.Native.Nat.{ℕ, ◌-◌, ◌/◌, ◌%◌, ◌<◌}
 use native.Mathlib.Omega.{arith}
-use borrow.Author.Tests.{eq-eqb, ne_eqb, not-true, not-false}
+use borrow.Author.Tests.{eq-eqb, ne_eqb}
 use lib.ListN.{length, get_or}
 use mir.Syntax.{w8}
 use mir.Val.{Fits}
@@ -55,14 +55,6 @@ module _ (p o : List ℕ) where
 
 -- ---- blocks
 
--- the outer words, then the inner words
-module _ (b : List ℕ) (outer : Bool) (test : outer ≡ outer_codes (bit_at b)) where
-  pub words_tested : (inner : Bool) → outer ≡ true → inner ≡ inner_codes (bit_at b) → inner ≡ (outer_codes (bit_at b) && inner_codes (bit_at b))
-  words_tested inner t i = rw (← test, t) i
-
-  pub words_refused : outer ≡ false → false ≡ (outer_codes (bit_at b) && inner_codes (bit_at b))
-  words_refused t = rw (← test, t)
-
 pub is_block_lem : (b : List ℕ) → length b ≡ 16320 → ((i : ℕ) → Fits w8 (get_or b i 0)) → is_block b ≡ true
 unfolding is_block
 is_block_lem b e bytes = rw (eq-eqb (length b) 16320 e, below_all 256 b (λ i l. omega (arith, bytes i)))
@@ -96,11 +88,11 @@ module _ (b o : List ℕ) where
     extract_space n = rw (eq-eqb (length b) 16320 e, ne_eqb (length o) 15296 n)
 
     module _ (f : length o ≡ 15296) (bytes : (i : ℕ) → Fits w8 (get_or b i 0)) (t : Bool) (test : t ≡ (outer_codes (bit_at b) && inner_codes (bit_at b))) where
-      pub extract_no_frame : not t ≡ true → ◌≡◌ {A = ℕ × List ℕ} (4, o) (payload_extracted b o)
+      pub extract_no_frame : t ≡ false → ◌≡◌ {A = ℕ × List ℕ} (4, o) (payload_extracted b o)
       unfolding payload_extracted answered
-      extract_no_frame h = rw (eq-eqb (length b) 16320 e, eq-eqb (length o) 15296 f, block_tested b e bytes t test, not-true t h)
+      extract_no_frame h = rw (eq-eqb (length b) 16320 e, eq-eqb (length o) 15296 f, block_tested b e bytes t test, h)
 
-      pub extract_written : (outer out : List ℕ) → not t ≡ false → outer ≡ received_symbols (bit_at b) → out ≡ payload_in outer → ◌≡◌ {A = ℕ × List ℕ} (0, out) (payload_extracted b o)
+      pub extract_written : (outer out : List ℕ) → t ≡ true → outer ≡ received_symbols (bit_at b) → out ≡ payload_in outer → ◌≡◌ {A = ℕ × List ℕ} (0, out) (payload_extracted b o)
       unfolding payload_extracted answered
       extract_written outer out h r w =
-          rw (eq-eqb (length b) 16320 e, eq-eqb (length o) 15296 f, block_tested b e bytes t test, not-false t h, w, r, received_payload b)
+          rw (eq-eqb (length b) 16320 e, eq-eqb (length o) 15296 f, block_tested b e bytes t test, h, w, r, received_payload b)

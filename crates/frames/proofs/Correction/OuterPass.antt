@@ -1,17 +1,22 @@
 -- The outer pass: the outer words of a block, one after the other, are written into the outer symbols and become the permitted code words near them. Assumes nothing.
-use mathlib.Core.Path.{◌≡◌, refl, sym, ap, ◌∙◌}
-use mathlib.Core.Bool.{Bool, true, false, not, cond}
+use mathlib.Core.Path.{◌≡◌, refl, sym, ap, ◌∙◌, subst}
+use mathlib.Core.Bool.{Bool, true, false, cond}
 use mathlib.Core.List.{List}
 use mathlib.Core.Option.{Option, none, some}
-use Prim.Native.Nat.{ℕ, ◌+◌, ◌-◌, ◌*◌, ◌≤◌, ◌<◌, zero-le}
-use native.Mathlib.Decide.{ℕ_discrete, dec_lt}
+use Prim.Native.Nat.{ℕ, ◌+◌, ◌*◌, ◌≤◌, ◌<◌, zero-le}
+use native.Mathlib.Decide.{ℕ_discrete}
 use native.Mathlib.Nat.{not-suc-le-zero}
 use native.Mathlib.Omega.{arith}
-use borrow.Author.Tests.{eq-eqb, le-leb, le-ltb, lt-ltb, not-true, not-false}
+use borrow.Author.Tests.{eq-eqb, le-leb, le-ltb, lt-ltb}
+use borrow.Rule.Slice.PartMut.{put_mid}
 use lib.Bits.{bit_and, bit_or, and_mask}
 use lib.Dec.{eqb}
-use lib.ListN.{length, take, drop}
+use lib.ListN.{length, take, drop, replicate, length-replicate}
 use lib.Seq.{length-take-le}
+use Rattle.std.specs.Bool.{then_some}
+use Rattle.std.specs.Option.{is_some}
+use Rattle.std.specs.Prelude.{Result, Ok, Err, Some, None}
+use Rattle.std.specs.Result.{result_ok}
 use Rattle.fields.specs.Places.{at, all_below, apart}
 use Rattle.fields.specs.Steps.Buffers.{Placed}
 use Rattle.fields.proofs.Lists.{tabulate_is, tabulate_same}
@@ -22,17 +27,20 @@ use Rattle.words.specs.Steps.Division.{outer_remainder}
 use Rattle.words.specs.Steps.SixSymbols.{Packs}
 use Rattle.words.specs.Nearest.{nearest, every_of}
 use Rattle.words.specs.Answers.{refusal, within, found, corrected, outer_corrected}
-use Rattle.words.specs.declared.Correction.{Correction}
-use Rattle.words.specs.declared.Correction.TheVariants.{Corrected, Refused}
+use Rattle.words.specs.declared.Refusal.{Refusal}
+use Rattle.words.specs.Corrections.{Correction, Corrected, Refused, correction_of, refusal_of}
 use Rattle.words.proofs.Codes.Proved.{codes}
 use Rattle.frames.specs.Frames.{data_in}
-use Rattle.frames.specs.Correction.{received_symbol, is_padded, is_permitted, outer_restored, outer_pass}
+use Rattle.frames.specs.Correction.{received_symbol, received_word, is_padded, is_permitted, outer_restored, outer_pass}
 use Rattle.frames.specs.Steps.Symbols.{part_from, word_in}
-use Rattle.frames.specs.Steps.Passes.{provided, OuterWordRestored, words_in}
+use Rattle.frames.specs.Steps.Passes.{provided, words_in}
 use Rattle.frames.proofs.Frames.FrameBits.{data_in_le, data_in_is}
 use Rattle.words.proofs.Codes.Options.{every_some, every_missing}
 use Rattle.frames.proofs.OuterSymbols.Permitted.{permitted_none, permitted_some, permitted_not}
-use Rattle.frames.proofs.OuterSymbols.Words.{word_length, symbols_word_part, part_is, word_tested, received_word_lem, word_before, received_below}
+use Rattle.frames.proofs.Numbers.Slices.{placed_slice}
+use Rattle.frames.proofs.Numbers.Parts.{part_length}
+use Rattle.frames.proofs.OuterSymbols.Received.{received_length}
+use Rattle.frames.proofs.OuterSymbols.Words.{symbols_word_part, code_tested, received_word_lem, received_below}
 
 -- ---- padding bits
 
@@ -46,22 +54,8 @@ padded_last w c s g e = rw (le-ltb w 15 g, and_mask s 2, e)
 
 -- ---- one word
 
--- the space for word w; and a list as long as that has room in the word's place
-pub space_long : (w n : ℕ) (space : List ℕ) → n ≡ data_in w → length space ≡ 781 → length (take (781 * w + n + 16 - 781 * w - 0) space) ≡ data_in w + 16
-space_long w n space e long =
-    let m : 781 * w + n + 16 - 781 * w - 0 ≡ data_in w + 16 = omega arith in
-    rw m (length-take-le (data_in w + 16) space (omega (arith, data_in_le w)))
-
-pub word_room : (outer : List ℕ) (w : ℕ) (word after : List ℕ) → w < 16 → length outer ≡ 12496 → length word ≡ data_in w + 16 → length after ≡ length word →
-    781 * w + length after ≤ length outer
-word_room outer w word after h long e same = omega (arith, data_in_le w)
-
--- word w stays as it is
-word_kept : (w : ℕ) (outer : List ℕ) (r : Bool) → provided r (word_in outer w) ≡ nearest (is_permitted w) 1024 8 (word_in outer w) → OuterWordRestored w outer outer r
-word_kept w outer r e = record { long = refl; word = e; others = λ v l n. refl }
-
-word_short : (outer : List ℕ) (w : ℕ) → length (word_in outer w) ≤ 1023
-word_short outer w = omega (arith, word_length outer w, data_in_le w)
+word_short : (w n : ℕ) → n ≡ data_in w + 16 → n ≤ 1023
+word_short w n e = omega (arith, data_in_le w)
 
 -- the permitted code word near a code word is that word, if it is padded
 code_nearest : (w : ℕ) (u : List ℕ) (r : Bool) → length u ≤ 1023 → is_outer u ≡ true → r ≡ is_padded w u → provided r u ≡ nearest (is_permitted w) 1024 8 u
@@ -75,103 +69,84 @@ code_nearest w u r short h e = go r e
     go true p = sym (permitted_some w u short u self (sym p))
     go false p = sym (permitted_not w u short u self (sym p))
 
-module _ (outer : List ℕ) (long : length outer ≡ 12496) (w n : ℕ) (h : w < 16) (e : n ≡ data_in w) (below : all_below 1024 (word_in outer w) ≡ true) (x y z : ℕ)
-    (p : Packs x y z (outer_remainder (take (781 * w + n + 16 - 781 * w) (drop (781 * w) outer)))) (t : Bool) (test : t ≡ eqb (bit_or (bit_or x y) z) 0) where
-  pub code_kept : t ≡ true → (r : Bool) → r ≡ is_padded w (take (781 * w + n + 16 - 781 * w) (drop (781 * w) outer)) → OuterWordRestored w outer outer r
-  code_kept is_code r q =
-      let code : is_outer (word_in outer w) ≡ true = sym (word_tested outer long w n h e below x y z p t test) ∙ is_code in
-      word_kept w outer r (code_nearest w (word_in outer w) r (word_short outer w) code (q ∙ ap (is_padded w) (part_is outer long w n h e)))
+-- the space for a word
+abbrev zeros : ℕ → List ℕ
+zeros n = replicate n 0
+
+pub space_long : (w : ℕ) (u : List ℕ) → length u ≡ data_in w + 16 → length (take (length u) (zeros 781)) ≡ length u
+space_long w u e = length-take-le (length u) (zeros 781) (omega (arith, data_in_le w, length-replicate {A = ℕ} 781 0))
 
 -- which case an answer is
 abbrev case_of : Correction → ℕ
 case_of (Corrected changed) = 0
 case_of (Refused number) = 1
 
--- the part of the outer symbols that is lent for correction is word w, and is not refused
-module _ (outer : List ℕ) (long : length outer ≡ 12496) (w : ℕ) (h : w < 16) (word : List ℕ) (fits : length word ≡ data_in w + 16)
-    (below : all_below 1024 (word_in outer w) ≡ true) where
-  abbrev slice : List ℕ
-  slice = take (781 * w + length word - 781 * w) (drop (781 * w) outer)
+-- an answer, where it does not count how many symbols were changed, and why not
+pub corrected_is : (r : Result ℕ Refusal) (k : ℕ) → result_ok r ≡ Some k → correction_of r ≡ Corrected k
+corrected_is (Ok a) k e = cc
+corrected_is (Err f) k e = cc
 
-  abbrev u : List ℕ
-  u = word_in outer w
+pub refused_is : (r : Result ℕ Refusal) → result_ok r ≡ None → correction_of r ≡ Refused (refusal_of (correction_of r))
+refused_is (Ok a) e = cc
+refused_is (Err f) e = refl
 
-  slice_is : slice ≡ u
-  slice_is = symbols_word_part outer w (781 * w + length word - 781 * w) long h (omega arith)
+-- a test as an answer
+pub kept_is : {A : Type 0} (b : Bool) (x : A) → is_some (then_some b x) ≡ b
+kept_is true x = refl
+kept_is false x = refl
 
-  slice_long : length slice ≡ data_in w + 16
-  slice_long = ap length slice_is ∙ word_length outer w
+-- a word of a block, in its place
+module _ (w : ℕ) (h : w < 16) (u : List ℕ) (long : length u ≡ data_in w + 16) (below : all_below 1024 u ≡ true) where
+  short : length u ≤ 1023
+  short = word_short w (length u) long
 
-  pub slice_least : 17 ≤ length slice
-  slice_least = omega (arith, slice_long, data_in_is w h)
+  pub code_kept : (x y z : ℕ) → Packs x y z (outer_remainder u) → (t : Bool) → t ≡ eqb (bit_or (bit_or x y) z) 0 → t ≡ true → (r : Bool) → r ≡ is_padded w u →
+      provided r u ≡ nearest (is_permitted w) 1024 8 u
+  code_kept x y z p t test is_code r q = code_nearest w u r short (sym (code_tested w u long below x y z p t test) ∙ is_code) q
 
-  pub slice_most : length slice ≤ 1023
-  slice_most = omega (arith, slice_long, data_in_le w)
+  module _ (space : List ℕ) where
+    -- the answer, if o is the nearest code word or none
+    abbrev outer_found : Option (List ℕ) → Correction × List ℕ
+    outer_found o = found Refused (λ c. Corrected (apart u c)) (λ c. c) space o
 
-  pub slice_below : all_below 1024 slice ≡ true
-  slice_below = rw slice_is below
+    answer : length space ≡ length u → outer_corrected u space ≡ outer_found (nearest is_outer 1024 8 u)
+    unfolding outer_corrected corrected refusal within
+    answer fits =
+        let least : 17 ≤ length u = omega (arith, data_in_is w h) in
+        rw (le-leb 17 (length u) least, le-leb (length u) 1023 short, eq-eqb (length space) (length u) fits, below)
 
-  pub slice_fits : length word ≡ length slice
-  slice_fits = fits ∙ sym slice_long
+    module _ (r : Correction) (after : List ℕ) (told : ◌≡◌ {A = Correction × List ℕ} (r, after) (outer_corrected u space)) (fits : length space ≡ length u) (k : ℕ) where
+      abbrev Told : Correction → Option (List ℕ) → Type 0
+      Told s o = ◌≡◌ {A = Correction × List ℕ} (s, after) (outer_found o)
 
-  pub slice_remainder : (x y z : ℕ) → Packs x y z (outer_remainder (word_in outer w)) → Packs x y z (outer_remainder slice)
-  slice_remainder x y z p = rw slice_is p
-
-  -- the answer, if o is the nearest code word or none
-  abbrev outer_found : Option (List ℕ) → Correction × List ℕ
-  outer_found o = found Refused (λ c. Corrected (apart u c)) (λ c. c) word o
-
-  answer : outer_corrected slice word ≡ outer_found (nearest is_outer 1024 8 u)
-  unfolding outer_corrected corrected refusal within
-  answer =
-      let least : 17 ≤ length u = omega (arith, word_length outer w, data_in_is w h) in
-      rw (slice_is, le-leb 17 (length u) least, le-leb (length u) 1023 (word_short outer w), eq-eqb (length word) (length u) (fits ∙ sym (word_length outer w)), below)
-
-  module _ (r : Correction) (after : List ℕ) (told : ◌≡◌ {A = Correction × List ℕ} (r, after) (outer_corrected slice word)) (k : ℕ) where
-    abbrev Told : Correction → Option (List ℕ) → Type 0
-    Told s o = ◌≡◌ {A = Correction × List ℕ} (s, after) (outer_found o)
-
-    outer_lost : r ≡ Refused k → nearest is_outer 1024 8 u ≡ none
-    unfolding found
-    outer_lost e = go (nearest is_outer 1024 8 u) (rw e at told ∙ answer)
-      where
-        go : (o : Option (List ℕ)) → Told (Refused k) o → o ≡ none
-        go none t = refl
-        go (some c) t = let z : ◌≡◌ {A = ℕ} 1 0 = ap (λ (a : Correction × List ℕ). case_of a.0) t in absurd (omega arith)
-
-    pub restored_none : r ≡ Refused k → OuterWordRestored w outer outer false
-    unfolding provided
-    restored_none e = word_kept w outer false (sym (permitted_none w u (word_short outer w) (outer_lost e)))
-
-    module _ (e : r ≡ Corrected k) (t : Bool) (test : t ≡ is_padded w after) where
-      outer_found_lem : nearest is_outer 1024 8 u ≡ some after
+      outer_lost : r ≡ Refused k → nearest is_outer 1024 8 u ≡ none
       unfolding found
-      outer_found_lem = go (nearest is_outer 1024 8 u) (rw e at told ∙ answer)
+      outer_lost e = go (nearest is_outer 1024 8 u) (rw e at told ∙ answer fits)
         where
-          go : (o : Option (List ℕ)) → Told (Corrected k) o → o ≡ some after
-          go none t = let z : ◌≡◌ {A = ℕ} 0 1 = ap (λ (a : Correction × List ℕ). case_of a.0) t in absurd (omega arith)
-          go (some c) t = ap some (sym (ap (λ (a : Correction × List ℕ). a.1) t))
+          go : (o : Option (List ℕ)) → Told (Refused k) o → o ≡ none
+          go none t = refl
+          go (some c) t = let z : ◌≡◌ {A = ℕ} 1 0 = ap (λ (a : Correction × List ℕ). case_of a.0) t in absurd (omega arith)
 
-      pub restored_not : not t ≡ true → OuterWordRestored w outer outer false
+      pub restored_none : r ≡ Refused k → provided false u ≡ nearest (is_permitted w) 1024 8 u
       unfolding provided
-      restored_not f = word_kept w outer false (sym (permitted_not w u (word_short outer w) after outer_found_lem (sym test ∙ not-true t f)))
+      restored_none e = sym (permitted_none w u short (outer_lost e))
 
-      after_long : length after ≡ data_in w + 16
-      after_long = ((codes.outer_nearest (length u) (word_short outer w)).sound u after refl outer_found_lem).0 ∙ word_length outer w
+      module _ (e : r ≡ Corrected k) (t : Bool) (test : t ≡ is_padded w after) where
+        outer_found_lem : nearest is_outer 1024 8 u ≡ some after
+        unfolding found
+        outer_found_lem = go (nearest is_outer 1024 8 u) (rw e at told ∙ answer fits)
+          where
+            go : (o : Option (List ℕ)) → Told (Corrected k) o → o ≡ some after
+            go none t = let z : ◌≡◌ {A = ℕ} 0 1 = ap (λ (a : Correction × List ℕ). case_of a.0) t in absurd (omega arith)
+            go (some c) t = ap some (sym (ap (λ (a : Correction × List ℕ). a.1) t))
 
-      pub restored_word : not t ≡ false → (next : List ℕ) → Placed (781 * w) after outer next → OuterWordRestored w outer next true
-      unfolding provided word_in
-      restored_word f next p =
-          record {
-            long = p.long;
-            word = ap some (sym (tabulate_is (data_in w + 16) _ after 0 after_long (λ s l. sym (p.inside s (omega (arith, after_long))))))
-                ∙ sym (permitted_some w u (word_short outer w) after outer_found_lem (sym test ∙ not-false t f));
-            others = λ v l n. tabulate_same (data_in v + 16) _ _ (λ s m. go v s n m (dec_lt v w));
-          }
-        where
-          go : (v s : ℕ) → (v ≡ w → ⊥) → s < data_in v + 16 → Dec (v < w) → at next (781 * v + s) ≡ at outer (781 * v + s)
-          go v s n m (yes l) = p.below (781 * v + s) (omega (arith, data_in_le v))
-          go v s n m (no g) = p.above (781 * v + s) (omega (arith, data_in_le w, after_long))
+        pub restored_not : t ≡ false → provided false u ≡ nearest (is_permitted w) 1024 8 u
+        unfolding provided
+        restored_not f = sym (permitted_not w u short after outer_found_lem (sym test ∙ f))
+
+        pub restored_word : t ≡ true → (next : List ℕ) → next ≡ after → provided true next ≡ nearest (is_permitted w) 1024 8 u
+        unfolding provided
+        restored_word f next same = ap some same ∙ sym (permitted_some w u short after outer_found_lem (sym test ∙ f))
 
 -- ---- all words
 
@@ -185,33 +160,65 @@ pub restoring_start : {b : ℕ → ℕ} {outer : List ℕ} → length outer ≡ 
 restoring_start e = record { long = e; within = zero-le; done = λ v h. absurd (not-suc-le-zero h) }
 
 -- the next word is written, and then restored
-module _ (bytes : List ℕ) {w : ℕ} {outer mid : List ℕ} (so_far : Restoring (bit_at bytes) w outer) (h : w < 16)
-    (p : Placed (781 * w) (part_from (received_symbol (bit_at bytes)) (781 * w) 781) outer mid) where
-  pub restoring_long : length mid ≡ 12496
-  restoring_long = p.long ∙ so_far.long
+module _ (bytes : List ℕ) (w k n : ℕ) {outer word : List ℕ} (so_far : Restoring (bit_at bytes) w outer) (h : w < 16) (ek : k ≡ 781)
+    (e : word ≡ part_from (received_symbol (bit_at bytes)) (781 * w) 781) (en : n ≡ data_in w + 16) where
+  abbrev mid : List ℕ
+  mid = put_mid (781 * w) k outer word
 
-  pub restoring_below : all_below 1024 (word_in mid w) ≡ true
-  restoring_below = rw (received_word_lem (bit_at bytes) w p) (received_below bytes w)
+  received : Placed (781 * w) (part_from (received_symbol (bit_at bytes)) (781 * w) 781) outer mid
+  received =
+      let long : length word ≡ k = ap length e ∙ part_length (received_symbol (bit_at bytes)) (781 * w) 781 ∙ sym ek in
+      subst (λ (xs : List ℕ). Placed (781 * w) xs outer mid) e (placed_slice (781 * w) k word outer long (omega (arith, so_far.long)))
 
-  module _ {after : List ℕ} {t : Bool} (r : OuterWordRestored w mid after t) where
-    pub restoring_kept : length after ≡ 12496
-    restoring_kept = r.long ∙ restoring_long
+  mid_long : length mid ≡ 12496
+  mid_long = received.long ∙ so_far.long
 
-    near : outer_restored (bit_at bytes) w ≡ provided t (word_in after w)
-    unfolding outer_restored
-    near = ap (nearest (is_permitted w) 1024 8) (sym (received_word_lem (bit_at bytes) w p)) ∙ sym r.word
+  word_is : take n (drop (781 * w) mid) ≡ received_word (bit_at bytes) w
+  word_is = symbols_word_part mid w n mid_long h en ∙ received_word_lem (bit_at bytes) w received
 
-    pub restoring_next : not t ≡ false → Restoring (bit_at bytes) (w + 1) after
-    unfolding provided
-    restoring_next f = record { long = restoring_kept; within = omega arith; done = λ v l. go v l (ℕ_discrete v w) }
-      where
-        go : (v : ℕ) → v < w + 1 → Dec (v ≡ w) → outer_restored (bit_at bytes) v ≡ some (word_in after v)
-        go v l (yes q) = rw (q, near, not-false t f)
-        go v l (no q) = so_far.done v (omega arith) ∙ ap some (sym (r.others v (omega arith) q ∙ word_before (bit_at bytes) w p v (omega arith)))
+  pub restoring_long : length (take n (drop (781 * w) mid)) ≡ data_in w + 16
+  restoring_long = ap length word_is ∙ received_length (bit_at bytes) w
 
-    pub restoring_not : not t ≡ true → provided false (words_in after) ≡ every_of (outer_pass (bit_at bytes))
-    unfolding provided outer_pass
-    restoring_not f = sym (every_missing 16 _ w h (near ∙ ap (λ (b : Bool). provided b (word_in after w)) (not-true t f)))
+  pub restoring_below : all_below 1024 (take n (drop (781 * w) mid)) ≡ true
+  restoring_below = rw word_is (received_below bytes w)
+
+  module _ (s : ℕ) (v : List ℕ) where
+    abbrev after : List ℕ
+    after = put_mid (781 * w) s mid v
+
+    module _ (es : s ≡ n) (kept : length v ≡ length (take n (drop (781 * w) mid))) where
+      lv : length v ≡ n
+      lv = kept ∙ restoring_long ∙ sym en
+
+      restored : Placed (781 * w) v mid after
+      restored = placed_slice (781 * w) s v mid (lv ∙ sym es) (omega (arith, mid_long, data_in_le w))
+
+      there : word_in after w ≡ v
+      unfolding word_in
+      there = sym (tabulate_is (data_in w + 16) _ v 0 (lv ∙ en) (λ i l. sym (restored.inside i (omega (arith, lv)))))
+
+      earlier : (i : ℕ) → i < w → word_in after i ≡ word_in outer i
+      unfolding word_in
+      earlier i l =
+          tabulate_same (data_in i + 16) _ _ (λ j b. restored.below (781 * i + j) (omega (arith, data_in_le i)) ∙ received.below (781 * i + j) (omega (arith, data_in_le i)))
+
+      module _ (t : Bool) (r : provided t v ≡ nearest (is_permitted w) 1024 8 (take n (drop (781 * w) mid))) where
+        near : outer_restored (bit_at bytes) w ≡ provided t v
+        unfolding outer_restored
+        near = ap (nearest (is_permitted w) 1024 8) (sym word_is) ∙ sym r
+
+        pub restoring_next : t ≡ true → Restoring (bit_at bytes) (w + 1) after
+        unfolding provided
+        restoring_next f = record { long = restored.long ∙ mid_long; within = omega arith; done = λ i l. go i l (ℕ_discrete i w) }
+          where
+            go : (i : ℕ) → i < w + 1 → Dec (i ≡ w) → outer_restored (bit_at bytes) i ≡ some (word_in after i)
+            go i l (yes q) =
+                ap (outer_restored (bit_at bytes)) q ∙ near ∙ ap (λ (b : Bool). provided b v) f ∙ ap some (sym there ∙ ap (word_in after) (sym q))
+            go i l (no q) = so_far.done i (omega arith) ∙ ap some (sym (earlier i (omega arith)))
+
+        pub restoring_not : t ≡ false → provided false (words_in after) ≡ every_of (outer_pass (bit_at bytes))
+        unfolding provided outer_pass
+        restoring_not f = sym (every_missing 16 _ w h (near ∙ ap (λ (b : Bool). provided b v) f))
 
 pub restoring_end : {b : ℕ → ℕ} {w : ℕ} {outer : List ℕ} → Restoring b w outer → 16 ≤ w → provided true (words_in outer) ≡ every_of (outer_pass b)
 unfolding provided outer_pass words_in

@@ -1,13 +1,13 @@
 -- The report: in how many places of each inner word two blocks differ, counted eight places at a time, and the sum. Assumes nothing.
 use mathlib.Core.Path.{◌≡◌, refl, sym, ap, ap₂, ◌∙◌}
 use mathlib.Core.List.{List}
-use Prim.Native.Nat.{ℕ, ◌+◌, ◌-◌, ◌*◌, ◌/◌, ◌%◌, ◌≤◌, ◌<◌, zero-le}
+use Prim.Native.Nat.{ℕ, zero, suc, ◌+◌, ◌-◌, ◌*◌, ◌/◌, ◌%◌, ◌≤◌, ◌<◌, zero-le}
 use native.Mathlib.Nat.{le_refl, zero-add}
-use native.Mathlib.Numerals.{add-one}
 use native.Mathlib.Omega.{arith}
-use lib.ListN.{length, get_or, set}
-use mir.Syntax.{w16, w32}
-use mir.Val.{Fits}
+use lib.ListN.{length, get_or, set, take}
+use lib.Seq.{take-length}
+use Rattle.std.specs.List.{sum}
+use Rattle.std.proofs.lemmas.List.Sums.{sum_by_more}
 use Rattle.fields.specs.Elements.{xor}
 use Rattle.fields.specs.Places.{at, sum_to, differs, apart_between, apart}
 use Rattle.fields.specs.Lists.{tabulate}
@@ -109,28 +109,23 @@ module _ (block frame : List ℕ) (from : ℕ) where
 
 -- ---- the sum
 
--- the invariant: the first k counts are added
-pub record Summing (counts : List ℕ) (k n : ℕ) : Type 0 where
-  pub within : k ≤ length counts
-  pub value : n ≡ sum_to k (at counts)
-  pub small : n ≤ 65535 * k
+module _ (counts : List ℕ) where
+  summed : (k : ℕ) → k ≤ length counts → sum (take k counts) ≡ sum_to k (at counts)
+  unfolding sum_to
+  summed zero h = refl
+  summed (suc k) h =
+      let e : suc k ≡ k + 1 = omega arith in
+      ap (λ (n : ℕ). sum (take n counts)) e ∙ sum_by_more (λ x. x) counts k 0 (omega arith) ∙ ap (λ (n : ℕ). n + at counts k) (summed k (omega arith))
 
-pub summing_start : {counts : List ℕ} → Summing counts 0 0
-unfolding sum_to
-summing_start = record { within = zero-le; value = refl; small = zero-le }
-
-module _ (counts : List ℕ) (k n : ℕ) (so_far : Summing counts k n) where
-  module _ (known : (i : ℕ) → Fits w16 (get_or counts i 0)) where
-    pub summing_fits : k < length counts → length counts ≤ 64 → Fits w32 (n + get_or counts k 0)
-    summing_fits h few = record { fits = omega (arith, so_far.small, known k) }
-
-    pub summing_next : k < length counts → Summing counts (k + 1) (n + get_or counts k 0)
-    unfolding sum_to
-    summing_next h = record { within = omega arith; value = rw (add-one, so_far.value); small = omega (arith, so_far.small, known k) }
-
-  pub summing_end : length counts ≤ k → n ≡ total counts
+  pub total_sum : sum counts ≡ total counts
   unfolding total
-  summing_end h = let e : k ≡ length counts = omega (arith, so_far.within) in rw e at so_far.value
+  total_sum = ap sum (sym (take-length counts)) ∙ summed (length counts) (le_refl (length counts))
 
-  pub summing_most : length counts ≤ 64 → n ≤ 4194240
-  summing_most few = omega (arith, so_far.small, so_far.within)
+  pub sum_most : ((i : ℕ) → get_or counts i 0 < 65536) → length counts ≤ 64 → sum counts ≤ 4194240
+  sum_most small few = omega (arith, ap sum (take-length counts), bounded (length counts) (le_refl (length counts)))
+    where
+      bounded : (k : ℕ) → k ≤ length counts → sum (take k counts) ≤ 65535 * k
+      bounded zero h = zero-le
+      bounded (suc k) h =
+          let e : suc k ≡ k + 1 = omega arith in
+          rw e (omega (arith, sum_by_more (λ x. x) counts k 0 (omega arith), bounded k (omega arith), small k))

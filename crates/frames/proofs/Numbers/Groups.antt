@@ -1,25 +1,28 @@
--- Groups of 40 bits, four symbols or five bytes: made into a number, and stored part by part. Assumes nothing.
+-- Groups of bits: eight symbols of ten bytes, and five bytes of four symbols, joined to numbers and taken apart. Assumes nothing.
 use mathlib.Core.Path.{◌≡◌, refl, sym, ap, ap₂, ◌∙◌}
-use mathlib.Core.List.{List, [], ◌∷◌}
+use mathlib.Core.List.{List, [], ◌∷◌, ◌++◌}
 use Prim.Native.Nat.{ℕ, ◌+◌, ◌-◌, ◌*◌, ◌/◌, ◌%◌, ◌^◌, ◌≤◌, ◌<◌}
-use native.Mathlib.Nat.{add-mul, add-zero, mul-add, mul_assoc, mul-le-mul_left, mul-zero}
+use native.Mathlib.Nat.{add-mul, add_assoc, mul-add, mul_assoc, mul-le-mul_left, mul-zero}
 use native.Mathlib.Omega.{arith}
+use borrow.Rule.Slice.PartMut.{put_mid}
 use lib.Bits.{bit_and, bit_or, and_mask, mask_lt, or_shifted}
 use lib.Dec.{lit<, lit≤}
-use lib.ListN.{length, get_or, set}
+use lib.ListN.{length, get_or, set, take, drop}
 use lib.Pow.{pow-add, shl_exact, shl_lt}
-use mir.Syntax.{w8, w64}
+use mir.Syntax.{w8, w16, w64}
 use mir.Val.{Fits}
+use Rattle.std.specs.Int.{from_be_bytes, to_be_bytes}
 use Rattle.fields.specs.Lists.{tabulate}
 use Rattle.fields.specs.Places.{at}
-use Rattle.fields.specs.Steps.Buffers.{Placed}
-use Rattle.fields.proofs.Lists.{tabulate_at, tabulate_append, tabulate_length, tabulate_same}
-use Rattle.fields.proofs.Places.Placing.{Placing, placing_start, placing_next, placing_end, placing_more, placed_append}
+use Rattle.fields.proofs.Lists.{tabulate_append, tabulate_length, tabulate_same}
+use Rattle.fields.proofs.Places.Filling.{Filled, filled_next, filled_end}
 use Rattle.words.specs.Bits.{bit_of, number_of, bit_at}
 use Rattle.words.proofs.Bits.Numbers.{bit_of_lt, bit_of_number, number_of_same, number_parts}
 use Rattle.words.proofs.Bits.Bytes.{bit_at_lt, places_read, number_of_bits}
 use Rattle.frames.specs.Frames.{symbol_at}
-use Rattle.frames.specs.Steps.Symbols.{symbol_bit, number_at, parts_of}
+use Rattle.frames.specs.Steps.Symbols.{symbol_bit, number_at, parts_of, part_from}
+use Rattle.frames.proofs.Numbers.Parts.{part_written}
+use Rattle.frames.proofs.Numbers.Slices.{two_slices}
 
 -- ---- a number of w bits made of digits of n bits each, the first the highest
 
@@ -52,6 +55,10 @@ module _ (w n : ℕ) (bits digit : ℕ → ℕ) (small : (m : ℕ) → digit m <
 
 -- ---- two bytes and a symbol in them, and eight bytes
 
+no_bits : (b : ℕ → ℕ) → number_of 0 b ≡ 0
+unfolding number_of
+no_bits b = refl
+
 module _ (bytes : List ℕ) (p : ℕ) (fits : (i : ℕ) → Fits w8 (get_or bytes i 0)) where
   abbrev byte : ℕ → ℕ
   byte m = get_or bytes (p + m) 0
@@ -66,49 +73,59 @@ module _ (bytes : List ℕ) (p : ℕ) (fits : (i : ℕ) → Fits w8 (get_or byte
       let r : 8 - (i % 8 + 8) ≡ 0 = omega arith in
       number_of_same 8 _ _ (λ j h. ap (bit_at bytes) (omega arith)) ∙ places_read bytes i 8 (omega arith) ∙ rw (q, r) (omega (arith, byte_lt m))
 
-  pub two_made : bit_or (get_or bytes p 0 * 2 ^ 8 % 2 ^ 16) (byte 1) ≡ number_at 16 (bit_at bytes) (8 * p)
-  unfolding number_at
-  two_made =
-      let e : get_or bytes p 0 ≡ byte 0 = ap (λ (i : ℕ). get_or bytes i 0) (omega arith) in
-      last_digit 16 8 (λ j. bit_at bytes (8 * p + j)) byte byte_lt byte_bits 1
-      (ap (λ (x : ℕ). x * 2 ^ 8 % 2 ^ 16) e ∙ first_digit 16 8 (λ j. bit_at bytes (8 * p + j)) byte byte_lt byte_bits 8 (lit≤ tt))
-
-  next_byte : (m k : ℕ) {x : ℕ} → k + 8 ≤ 64 → x ≡ number_of (8 * m) (λ j. bit_at bytes (8 * p + j)) * 2 ^ (k + 8) →
-      bit_or x (byte m * 2 ^ k % 2 ^ 64) ≡ number_of (8 * m + 8) (λ j. bit_at bytes (8 * p + j)) * 2 ^ k
-  next_byte = next_digit 64 8 (λ j. bit_at bytes (8 * p + j)) byte byte_lt byte_bits
-
-  pub eight_made : bit_or (bit_or (bit_or (bit_or (bit_or (bit_or (bit_or (get_or bytes p 0 * 2 ^ 56 % 2 ^ 64) (byte 1 * 2 ^ 48 % 2 ^ 64))
-      (byte 2 * 2 ^ 40 % 2 ^ 64)) (byte 3 * 2 ^ 32 % 2 ^ 64)) (byte 4 * 2 ^ 24 % 2 ^ 64)) (byte 5 * 2 ^ 16 % 2 ^ 64)) (byte 6 * 2 ^ 8 % 2 ^ 64)) (byte 7)
-      ≡ number_at 64 (bit_at bytes) (8 * p)
-  unfolding number_at
-  eight_made =
-      let e : get_or bytes p 0 ≡ byte 0 = ap (λ (i : ℕ). get_or bytes i 0) (omega arith) in
-      let one = ap (λ (x : ℕ). x * 2 ^ 56 % 2 ^ 64) e ∙ first_digit 64 8 (λ j. bit_at bytes (8 * p + j)) byte byte_lt byte_bits 56 (lit≤ tt) in
-      let four = next_byte 3 32 (lit≤ tt) (next_byte 2 40 (lit≤ tt) (next_byte 1 48 (lit≤ tt) one)) in
-      last_digit 64 8 (λ j. bit_at bytes (8 * p + j)) byte byte_lt byte_bits 7 (next_byte 6 8 (lit≤ tt) (next_byte 5 16 (lit≤ tt) (next_byte 4 24 (lit≤ tt) four)))
-
   -- one byte more
+  byte_more : (m : ℕ) → number_of (8 * m) (λ j. bit_at bytes (8 * p + j)) * 256 + byte m ≡ number_of (8 * m + 8) (λ j. bit_at bytes (8 * p + j))
+  byte_more = digits_and 64 8 (λ j. bit_at bytes (8 * p + j)) byte byte_lt byte_bits
+
+  two_joined : (x y : ℕ) → x ≡ byte 0 → y ≡ byte 1 → from_be_bytes w16 (x ∷ y ∷ []) ≡ number_at 16 (bit_at bytes) (8 * p)
+  unfolding number_at
+  two_joined x y ex ey = omega (arith, no_bits (λ j. bit_at bytes (8 * p + j)), byte_more 0, byte_more 1)
+
+  pub eight_joined : (xs : List ℕ) → ((i : ℕ) → i < 8 → at xs i ≡ byte i) → from_be_bytes w64 xs ≡ number_at 64 (bit_at bytes) (8 * p)
+  unfolding number_at
+  eight_joined xs e =
+      omega (
+        arith,
+        no_bits (λ j. bit_at bytes (8 * p + j)),
+        byte_more 0,
+        byte_more 1,
+        byte_more 2,
+        byte_more 3,
+        byte_more 4,
+        byte_more 5,
+        byte_more 6,
+        byte_more 7,
+        e 0 (lit< tt),
+        e 1 (lit< tt),
+        e 2 (lit< tt),
+        e 3 (lit< tt),
+        e 4 (lit< tt),
+        e 5 (lit< tt),
+        e 6 (lit< tt),
+        e 7 (lit< tt),
+      )
+
   pub nine_are : number_at 64 (bit_at bytes) (8 * p) * 256 + byte 8 ≡ number_at 72 (bit_at bytes) (8 * p)
   unfolding number_at
-  nine_are = digits_and 64 8 (λ j. bit_at bytes (8 * p + j)) byte byte_lt byte_bits 8
+  nine_are = byte_more 8
 
 pub number_bit : (n : ℕ) (b : ℕ → ℕ) → ((i : ℕ) → b i < 2) → (i j : ℕ) → j < n → bit_of n (number_at n b i) j ≡ b (i + j)
 unfolding number_at
 number_bit n b bits i j l = bit_of_number (λ j. b (i + j)) (λ j. bits (i + j)) n j l
 
-pub symbol_inside : (bytes : List ℕ) (k j x : ℕ) → j ≤ 6 → x ≡ number_at 16 (bit_at bytes) (8 * k) →
-    bit_and (x / 2 ^ (6 - j)) 1023 ≡ number_at 10 (bit_at bytes) (8 * k + j)
+pub symbol_inside : (bytes : List ℕ) (i x : ℕ) → ((k : ℕ) → Fits w8 (get_or bytes k 0)) → i % 8 ≤ 6 →
+    x ≡ from_be_bytes w16 (get_or bytes (i / 8) 0 ∷ get_or bytes (i / 8 + 1) 0 ∷ []) → bit_and (x / 2 ^ (6 - i % 8)) 1023 ≡ number_at 10 (bit_at bytes) i
 unfolding number_at
-symbol_inside bytes k j x l e =
+symbol_inside bytes i x fits l e =
+    let k = i / 8 in
+    let j = i % 8 in
     let s : 6 - j ≡ 16 - (j + 10) = omega arith in
+    let two : x ≡ number_at 16 (bit_at bytes) (8 * k) = e ∙ two_joined bytes k fits _ _ (ap (λ (m : ℕ). get_or bytes m 0) (omega arith)) refl in
     and_mask (x / 2 ^ (6 - j)) 10 ∙ ap (λ (z : ℕ). x / 2 ^ z % 2 ^ 10) s ∙ sym (number_of_bits 16 x j 10 (omega arith))
-    ∙ number_of_same 10 _ _ (λ m h. ap (λ (y : ℕ). bit_of 16 y (j + m)) e
+    ∙ number_of_same 10 _ _ (λ m h. ap (λ (y : ℕ). bit_of 16 y (j + m)) two
     ∙ number_bit 16 (bit_at bytes) (bit_at_lt bytes) (8 * k) (j + m) (omega arith) ∙ ap (bit_at bytes) (omega arith))
 
 -- ---- four symbols
-
-pub ten_wide : (x : ℕ) → Fits w64 (bit_and x 1023)
-ten_wide x = record { fits = omega (arith, and_mask x 10) }
 
 module _ (outer : List ℕ) (t : ℕ) where
   abbrev symbol : ℕ → ℕ
@@ -135,155 +152,133 @@ module _ (outer : List ℕ) (t : ℕ) where
       bit_or x (symbol m * 2 ^ k % 2 ^ 64) ≡ number_of (10 * m + 10) symbol_bits_lem * 2 ^ k
   next_symbol = next_digit 64 10 symbol_bits_lem symbol symbol_lt symbol_is
 
-  pub four_made : bit_or (bit_or (bit_or (bit_and (get_or outer t 0) 1023 * 2 ^ 30 % 2 ^ 64) (symbol 1 * 2 ^ 20 % 2 ^ 64)) (symbol 2 * 2 ^ 10 % 2 ^ 64)) (symbol 3)
+  four_made : bit_or (bit_or (bit_or (symbol 0 * 2 ^ 30 % 2 ^ 64) (symbol 1 * 2 ^ 20 % 2 ^ 64)) (symbol 2 * 2 ^ 10 % 2 ^ 64)) (symbol 3)
       ≡ number_at 40 (symbol_bit (at outer)) (10 * t)
   unfolding number_at
   four_made =
-      let e : get_or outer t 0 ≡ get_or outer (t + 0) 0 = ap (λ (i : ℕ). get_or outer i 0) (omega arith) in
-      let one = ap (λ (x : ℕ). bit_and x 1023 * 2 ^ 30 % 2 ^ 64) e ∙ first_digit 64 10 symbol_bits_lem symbol symbol_lt symbol_is 30 (lit≤ tt) in
+      let one = first_digit 64 10 symbol_bits_lem symbol symbol_lt symbol_is 30 (lit≤ tt) in
       last_digit 64 10 symbol_bits_lem symbol symbol_lt symbol_is 3 (next_symbol 2 10 (lit≤ tt) (next_symbol 1 20 (lit≤ tt) one))
 
--- ---- five bytes
+pub four_joined : (symbols : List ℕ) {x₀ x₁ x₂ x₃ : ℕ} → x₀ ≡ bit_and (get_or symbols 0 0) 1023 → x₁ ≡ bit_and (get_or symbols 1 0) 1023 →
+    x₂ ≡ bit_and (get_or symbols 2 0) 1023 → x₃ ≡ bit_and (get_or symbols 3 0) 1023 →
+    bit_or (bit_or (bit_or (x₀ * 2 ^ 30 % 2 ^ 64) (x₁ * 2 ^ 20 % 2 ^ 64)) (x₂ * 2 ^ 10 % 2 ^ 64)) x₃ ≡ number_at 40 (symbol_bit (at symbols)) 0
+four_joined symbols e₀ e₁ e₂ e₃ = rw (e₀, e₁, e₂, e₃) (four_made symbols 0)
 
--- part s of 40 bits, by a shift and a mask
-part_read : (n s k x : ℕ) → n * s + n + k ≡ 40 → bit_and (x / 2 ^ k) (2 ^ n - 1) ≡ number_at n (bit_of 40 x) (0 + n * s)
-unfolding number_at
-part_read n s k x h =
-    let e : k ≡ 40 - (n * s + n) = omega arith in
-    and_mask (x / 2 ^ k) n ∙ ap (λ (z : ℕ). x / 2 ^ z % 2 ^ n) e ∙ sym (number_of_bits 40 x (n * s) n (omega arith))
-    ∙ number_of_same n _ _ (λ j l. ap (bit_of 40 x) (omega arith))
-
--- ---- parts of a group, stored
+-- ---- numbers one after the other
 
 pub parts_length : (n m : ℕ) (b : ℕ → ℕ) (i : ℕ) → length (parts_of n m b i) ≡ m
 unfolding parts_of
 parts_length n m b i = tabulate_length m _
 
-pub parts_at : (n m : ℕ) (b : ℕ → ℕ) (i s : ℕ) → s < m → at (parts_of n m b i) s ≡ number_at n b (i + n * s)
+pub parts_same : (n m : ℕ) (b c : ℕ → ℕ) (i k : ℕ) → ((j : ℕ) → j < n * m → b (i + j) ≡ c (k + j)) → parts_of n m b i ≡ parts_of n m c k
+unfolding parts_of number_at
+parts_same n m b c i k e =
+    tabulate_same m _ _ (λ s l. number_of_same n _ _ (λ j h.
+    ap b (add_assoc i (n * s) j) ∙ e (n * s + j) (within n m s j l h) ∙ ap c (sym (add_assoc k (n * s) j))))
+  where
+    within : (n m s j : ℕ) → s < m → j < n → n * s + j < n * m
+    within n m s j l h = omega (arith, mul-add n s 1, mul-le-mul_left n l)
+
+-- numbers after numbers
+parts_append : (n m k : ℕ) (b : ℕ → ℕ) (i : ℕ) → parts_of n m b i ++ parts_of n k b (i + n * m) ≡ parts_of n (m + k) b i
 unfolding parts_of
-parts_at n m b i s l = tabulate_at m _ s 0 l
+parts_append n m k b i =
+    tabulate_append m k (λ s. number_at n b (i + n * s)) (λ s. number_at n b (i + n * m + n * s)) (λ s. ap (number_at n b) (omega (arith, mul-add n m s)))
 
-pub parts_end : (n m : ℕ) (b : ℕ → ℕ) (i : ℕ) {t s : ℕ} {before outer : List ℕ} → Placing t (parts_of n m b i) s before outer → m ≤ s →
-    Placed t (parts_of n m b i) before outer
-parts_end n m b i p l = placing_end p (omega (arith, parts_length n m b i))
+-- the numbers that a loop stores, from bit i on
+abbrev pub number_from : ℕ → (ℕ → ℕ) → ℕ → ℕ → ℕ
+number_from n b i s = number_at n b (i + n * s)
 
--- one part more
-module _ (n m : ℕ) (x t : ℕ) (before : List ℕ) (room : t + m ≤ length before) where
-  part_next : (s k : ℕ) {outer : List ℕ} → n * s + n + k ≡ 40 → s < m → Placing t (parts_of n m (bit_of 40 x) 0) s before outer →
-      Placing t (parts_of n m (bit_of 40 x) 0) (s + 1) before (set outer (t + s) (bit_and (x / 2 ^ k) (2 ^ n - 1)))
-  part_next s k h l p =
-      placing_next p (omega (arith, parts_length n m (bit_of 40 x) 0)) (omega (arith, parts_length n m (bit_of 40 x) 0))
-      (part_read n s k x h ∙ sym (parts_at n m (bit_of 40 x) 0 s l))
+pub numbers_end : (n : ℕ) (b : ℕ → ℕ) (i : ℕ) {m s : ℕ} {out : List ℕ} → Filled m (number_from n b i) s out → m ≤ s → out ≡ parts_of n m b i
+unfolding parts_of
+numbers_end n b i f l = filled_end f l
 
-pub bytes_stored : (x k : ℕ) (out : List ℕ) → k + 5 ≤ length out → Placed k (parts_of 8 5 (bit_of 40 x) 0) out
-    (set (set (set (set (set out k (bit_and (x / 2 ^ 32) 255)) (k + 1) (bit_and (x / 2 ^ 24) 255)) (k + 2) (bit_and (x / 2 ^ 16) 255))
-    (k + 3) (bit_and (x / 2 ^ 8) 255)) (k + 4) (bit_and x 255))
-bytes_stored x k out room =
-    let e : x / 2 ^ 0 ≡ x = omega arith in
-    let one = rw (add-zero k) at (part_next 8 5 x k out room 0 32 refl (lit< tt) placing_start) in
-    let three = part_next 8 5 x k out room 2 16 refl (lit< tt) (part_next 8 5 x k out room 1 24 refl (lit< tt) one) in
-    let four = part_next 8 5 x k out room 3 8 refl (lit< tt) three in
-    placing_end (rw e at (part_next 8 5 x k out room 4 0 refl (lit< tt) four)) (omega (arith, parts_length 8 5 (bit_of 40 x) 0))
+-- g of them at once
+group_from : (n g w : ℕ) → n * g ≡ w → (b : ℕ → ℕ) (i q : ℕ) → parts_of n g b (i + w * q) ≡ part_from (number_from n b i) (g * q) g
+unfolding parts_of part_from
+group_from n g w whole b i q =
+    tabulate_same g _ _ (λ s h. ap (number_at n b) (omega (arith, mul-add n (g * q) s, mul_assoc n g q, ap (λ (y : ℕ). y * q) whole)))
 
--- ---- numbers of n bits, g to a group: groups one after the other
+group_next : (n g w : ℕ) → n * g ≡ w → (b : ℕ → ℕ) (i : ℕ) {size : ℕ} (q k : ℕ) {out ys : List ℕ} → Filled size (number_from n b i) (g * q) out → g * (q + 1) ≤ size →
+    k ≡ g → ys ≡ parts_of n g b (i + w * q) → Filled size (number_from n b i) (g * (q + 1)) (put_mid (g * q) k out ys)
+group_next n g w whole b i {size} q k {out} {ys} f room ek e =
+    let step : g * q + g ≡ g * (q + 1) = sym (mul-add g q 1 ∙ omega arith) in
+    rw step at (part_written (number_from n b i) (g * q) g k f (omega arith) ek (e ∙ group_from n g w whole b i q))
+
+-- ---- five bytes of four symbols
+
+-- byte s of 40 bits
+byte_read : (s k x : ℕ) → 8 * s + 8 + k ≡ 40 → x / 2 ^ k % 2 ^ 8 ≡ number_at 8 (bit_of 40 x) (0 + 8 * s)
+unfolding number_at
+byte_read s k x h =
+    let e : k ≡ 40 - (8 * s + 8) = omega arith in
+    ap (λ (z : ℕ). x / 2 ^ z % 2 ^ 8) e ∙ sym (number_of_bits 40 x (8 * s) 8 (omega arith)) ∙ number_of_same 8 _ _ (λ j l. ap (bit_of 40 x) (omega arith))
+
+cons : {x y : ℕ} {xs ys : List ℕ} → x ≡ y → xs ≡ ys → x ∷ xs ≡ y ∷ ys
+cons = ap₂ {C = List ℕ} (λ x xs. x ∷ xs)
+
+five_bytes : (x : ℕ) → take 5 (drop 3 (to_be_bytes w64 x)) ≡ parts_of 8 5 (bit_of 40 x) 0
+unfolding parts_of tabulate
+five_bytes x =
+    let e : x % 256 ≡ x / 2 ^ 0 % 2 ^ 8 = omega arith in
+    cons (byte_read 0 32 x refl) (cons (byte_read 1 24 x refl) (cons (byte_read 2 16 x refl) (cons (byte_read 3 8 x refl) (cons (e ∙ byte_read 4 0 x refl) refl))))
 
 symbol_bit_lt : (f : ℕ → ℕ) (i : ℕ) → symbol_bit f i < 2
 unfolding symbol_bit
 symbol_bit_lt f i = bit_of_lt 10 (f (i / 10)) (i % 10)
 
-module _ (n g w : ℕ) (whole : n * g ≡ w) (b : ℕ → ℕ) where
-  pub group_next : (i : ℕ) {t m q : ℕ} {before outer after : List ℕ} → Placing t (parts_of n (g * m) b i) (g * q) before outer → q < m →
-      Placed (t + g * q) (parts_of n g b (i + w * q)) outer after → Placing t (parts_of n (g * m) b i) (g * (q + 1)) before after
-  group_next i {t} {m} {q} {before} {outer} {after} p l placed =
-      let step : g * (q + 1) ≡ g * q + g = mul-add g q 1 ∙ omega arith in
-      let room : g * q + g ≤ g * m = omega (arith, mul-le-mul_left g l) in
-      rw step (placing_more p placed (parts_length n g b (i + w * q)) (omega (arith, parts_length n (g * m) b i)) (λ s h.
-      parts_at n g b (i + w * q) s h
-      ∙ ap (number_at n b) (omega (arith, mul-add n (g * q) s, mul_assoc n g q, ap (λ (y : ℕ). y * q) whole))
-      ∙ sym (parts_at n (g * m) b i (g * q + s) (omega arith))))
+-- a bit of the symbols from symbol k on
+pub symbols_from : (symbols part : List ℕ) (k i : ℕ) → at part (i / 10) ≡ at symbols (k + i / 10) → symbol_bit (at part) i ≡ symbol_bit (at symbols) (10 * k + i)
+unfolding symbol_bit
+symbols_from symbols part k i e =
+    let q : (10 * k + i) / 10 ≡ k + i / 10 = omega arith in
+    let r : (10 * k + i) % 10 ≡ i % 10 = omega arith in
+    ap (λ (x : ℕ). bit_of 10 x (i % 10)) e ∙ rw (q, r)
 
-  -- the parts of a group are those of its bits
-  module _ (bits : (i : ℕ) → b i < 2) where
-    part_inside : (s j : ℕ) → s < g → j < n → n * s + j < w
-    part_inside s j l m = omega (arith, mul-add n s 1, mul-le-mul_left n l)
-
-    group_part : (i s : ℕ) → s < g → number_at n (bit_of w (number_at w b i)) (0 + n * s) ≡ number_at n b (i + n * s)
-    unfolding number_at
-    group_part i s l =
-        number_of_same n _ _ (λ j m. ap (bit_of w (number_at w b i)) (omega arith) ∙ number_bit w b bits i (n * s + j) (part_inside s j l m) ∙ ap b (omega arith))
-
-    group_parts : (i x : ℕ) → x ≡ number_at w b i → parts_of n g (bit_of w x) 0 ≡ parts_of n g b i
-    unfolding parts_of
-    group_parts i x e = ap (λ (y : ℕ). parts_of n g (bit_of w y) 0) e ∙ tabulate_same g _ _ (group_part i)
-
-pub groups_end : (n g : ℕ) (b : ℕ → ℕ) (i : ℕ) {t m q : ℕ} {before outer : List ℕ} → Placing t (parts_of n (g * m) b i) (g * q) before outer → m ≤ q →
-    Placed t (parts_of n (g * m) b i) before outer
-groups_end n g b i {t} {m} {q} p l = parts_end n (g * m) b i p (mul-le-mul_left g l)
-
-pub bytes_next : (symbols : List ℕ) (t : ℕ) {k m q x : ℕ} {before out after : List ℕ} →
-    Placing k (parts_of 8 (5 * m) (symbol_bit (at symbols)) (10 * t)) (5 * q) before out → q < m → x ≡ number_at 40 (symbol_bit (at symbols)) (10 * (t + 4 * q)) →
-    Placed (k + 5 * q) (parts_of 8 5 (bit_of 40 x) 0) out after → Placing k (parts_of 8 (5 * m) (symbol_bit (at symbols)) (10 * t)) (5 * (q + 1)) before after
-bytes_next symbols t {k} {m} {q} {x} p l e placed =
+pub bytes_next : (symbols rest : List ℕ) {size : ℕ} (q k x : ℕ) {eight out five : List ℕ} → Filled size (number_from 8 (symbol_bit (at symbols)) 0) (5 * q) out →
+    5 * (q + 1) ≤ size → k ≡ 5 → ((i : ℕ) → at rest i ≡ at symbols (4 * q + i)) → x ≡ number_at 40 (symbol_bit (at rest)) 0 → eight ≡ to_be_bytes w64 x →
+    five ≡ take 5 (drop 3 eight) → Filled size (number_from 8 (symbol_bit (at symbols)) 0) (5 * (q + 1)) (put_mid (5 * q) k out five)
+unfolding number_at
+bytes_next symbols rest {size} q k x {eight} {out} {five} f room ek same ex ee ef =
     let b = symbol_bit (at symbols) in
-    let i : 10 * (t + 4 * q) ≡ 10 * t + 40 * q = omega arith in
-    group_next 8 5 40 refl b (10 * t) p l (rw (group_parts 8 5 40 refl b (symbol_bit_lt (at symbols)) (10 * t + 40 * q) x (e ∙ ap (number_at 40 b) i)) at placed)
+    let made : five ≡ parts_of 8 5 (bit_of 40 x) 0 = ef ∙ ap (λ (xs : List ℕ). take 5 (drop 3 xs)) ee ∙ five_bytes x in
+    let group : parts_of 8 5 (bit_of 40 x) 0 ≡ parts_of 8 5 b (0 + 40 * q) = parts_same 8 5 (bit_of 40 x) b 0 (0 + 40 * q) (λ j h.
+    let z : 0 + j ≡ j = omega arith in
+    ap (bit_of 40 x) z ∙ ap (λ (y : ℕ). bit_of 40 y j) ex ∙ bit_of_number (λ j. symbol_bit (at rest) (0 + j)) (λ j. symbol_bit_lt (at rest) (0 + j)) 40 j h
+    ∙ ap (symbol_bit (at rest)) z ∙ symbols_from symbols rest (4 * q) j (same (j / 10)) ∙ ap b (omega arith)) in
+    group_next 8 5 40 refl b 0 q k f room ek (made ∙ group)
 
 -- ---- eight symbols of ten bytes
 
-cons : {x y : ℕ} {xs ys : List ℕ} → x ≡ y → xs ≡ ys → x ∷ xs ≡ y ∷ ys
-cons = ap₂ {C = List ℕ} (λ x xs. x ∷ xs)
-
-pub eight_are : (b : ℕ → ℕ) (k : ℕ) {s₀ s₁ s₂ s₃ s₄ s₅ s₆ s₇ : ℕ} →
-    s₀ ≡ number_at 10 b (8 * k + 0) → s₁ ≡ number_at 10 b (8 * (k + 1) + 2) → s₂ ≡ number_at 10 b (8 * (k + 2) + 4) → s₃ ≡ number_at 10 b (8 * (k + 3) + 6) →
-    s₄ ≡ number_at 10 b (8 * (k + 5) + 0) → s₅ ≡ number_at 10 b (8 * (k + 6) + 2) → s₆ ≡ number_at 10 b (8 * (k + 7) + 4) → s₇ ≡ number_at 10 b (8 * (k + 8) + 6) →
-    (s₀ ∷ s₁ ∷ s₂ ∷ s₃ ∷ s₄ ∷ s₅ ∷ s₆ ∷ s₇ ∷ []) ≡ parts_of 10 8 b (8 * k)
+pub eight_are : (b : ℕ → ℕ) {s₀ s₁ s₂ s₃ s₄ s₅ s₆ s₇ : ℕ} → s₀ ≡ number_at 10 b 0 → s₁ ≡ number_at 10 b 10 → s₂ ≡ number_at 10 b 20 → s₃ ≡ number_at 10 b 30 →
+    s₄ ≡ number_at 10 b 40 → s₅ ≡ number_at 10 b 50 → s₆ ≡ number_at 10 b 60 → s₇ ≡ number_at 10 b 70 →
+    (s₀ ∷ s₁ ∷ s₂ ∷ s₃ ∷ s₄ ∷ s₅ ∷ s₆ ∷ s₇ ∷ []) ≡ parts_of 10 8 b 0
 unfolding parts_of tabulate
-eight_are b k e₀ e₁ e₂ e₃ e₄ e₅ e₆ e₇ =
-    cons (e₀ ∙ ap (number_at 10 b) (omega arith)) (cons (e₁ ∙ ap (number_at 10 b) (omega arith)) (cons (e₂ ∙ ap (number_at 10 b) (omega arith))
-    (cons (e₃ ∙ ap (number_at 10 b) (omega arith)) (cons (e₄ ∙ ap (number_at 10 b) (omega arith)) (cons (e₅ ∙ ap (number_at 10 b) (omega arith))
-    (cons (e₆ ∙ ap (number_at 10 b) (omega arith)) (cons (e₇ ∙ ap (number_at 10 b) (omega arith)) refl)))))))
+eight_are b e₀ e₁ e₂ e₃ e₄ e₅ e₆ e₇ = cons e₀ (cons e₁ (cons e₂ (cons e₃ (cons e₄ (cons e₅ (cons e₆ (cons e₇ refl)))))))
 
-pub symbols_stored : (s : List ℕ) (t : ℕ) (outer : List ℕ) → length s ≡ 8 → t + 8 ≤ length outer → Placed t s outer
-    (set (set (set (set (set (set (set (set outer t (at s 0)) (t + 1) (at s 1)) (t + 2) (at s 2)) (t + 3) (at s 3)) (t + 4) (at s 4)) (t + 5) (at s 5))
-    (t + 6) (at s 6)) (t + 7) (at s 7))
-symbols_stored s t outer long room =
-    let one = rw (add-zero t) at (next 0 (lit< tt) placing_start) in
-    let four = next 3 (lit< tt) (next 2 (lit< tt) (next 1 (lit< tt) one)) in
-    placing_end (next 7 (lit< tt) (next 6 (lit< tt) (next 5 (lit< tt) (next 4 (lit< tt) four)))) (omega arith)
-  where
-    next : (j : ℕ) {now : List ℕ} → j < 8 → Placing t s j outer now → Placing t s (j + 1) outer (set now (t + j) (at s j))
-    next j l p = placing_next p (omega arith) (omega arith) refl
-
-pub eights_next : (bytes : List ℕ) (k : ℕ) {t m q : ℕ} {s before outer after : List ℕ} → Placing t (parts_of 10 (8 * m) (bit_at bytes) (8 * k)) (8 * q) before outer →
-    q < m → s ≡ parts_of 10 8 (bit_at bytes) (8 * (k + 10 * q)) → Placed (t + 8 * q) s outer after →
-    Placing t (parts_of 10 (8 * m) (bit_at bytes) (8 * k)) (8 * (q + 1)) before after
-eights_next bytes k {t} {m} {q} p l e placed =
-    let i : 8 * (k + 10 * q) ≡ 8 * k + 80 * q = omega arith in
-    group_next 10 8 80 refl (bit_at bytes) (8 * k) p l (rw (e ∙ ap (parts_of 10 8 (bit_at bytes)) i) at placed)
+pub eights_next : (bytes rest : List ℕ) {size : ℕ} (q k : ℕ) {eight out part : List ℕ} → Filled size (number_from 10 (bit_at bytes) 0) (8 * q) out →
+    8 * (q + 1) ≤ size → k ≡ 8 → ((i : ℕ) → bit_at rest i ≡ bit_at bytes (8 * (10 * q) + i)) → eight ≡ parts_of 10 8 (bit_at rest) 0 → part ≡ eight →
+    Filled size (number_from 10 (bit_at bytes) 0) (8 * (q + 1)) (put_mid (8 * q) k out part)
+eights_next bytes rest {size} q k {eight} {out} {part} f room ek same e ep =
+    let group : parts_of 10 8 (bit_at rest) 0 ≡ parts_of 10 8 (bit_at bytes) (0 + 80 * q) = parts_same 10 8 (bit_at rest) (bit_at bytes) 0 (0 + 80 * q) (λ j h.
+    ap (bit_at rest) (omega arith) ∙ same j ∙ ap (bit_at bytes) (omega arith)) in
+    group_next 10 8 80 refl (bit_at bytes) 0 q k f room ek (ep ∙ e ∙ group)
 
 -- ---- symbols one by one; and before and after eights
 
-pub each_next : (bytes : List ℕ) (i : ℕ) {t n s v : ℕ} {before outer : List ℕ} → Placing t (parts_of 10 n (bit_at bytes) i) s before outer → s < n →
-    t + n ≤ length before → v ≡ symbol_at (bit_at bytes) (i + 10 * s) → Placing t (parts_of 10 n (bit_at bytes) i) (s + 1) before (set outer (t + s) v)
+pub each_next : (bytes : List ℕ) (i : ℕ) {n s v : ℕ} {out : List ℕ} → Filled n (number_from 10 (bit_at bytes) i) s out → s < n → v ≡ symbol_at (bit_at bytes) (i + 10 * s) →
+    Filled n (number_from 10 (bit_at bytes) i) (s + 1) (set out s v)
 unfolding symbol_at number_at
-each_next bytes i {t} {n} {s} p l room e =
-    placing_next p (omega (arith, parts_length 10 n (bit_at bytes) i)) (omega (arith, parts_length 10 n (bit_at bytes) i))
-    (e ∙ sym (parts_at 10 n (bit_at bytes) i s l))
+each_next bytes i f l e = filled_next f l e
 
--- numbers after numbers
-parts_append : (n m k : ℕ) (b : ℕ → ℕ) (i : ℕ) {t : ℕ} {before mid after : List ℕ} → Placed t (parts_of n m b i) before mid →
-    Placed (t + m) (parts_of n k b (i + n * m)) mid after → Placed t (parts_of n (m + k) b i) before after
-unfolding parts_of
-parts_append n m k b i p q =
-    rw (tabulate_append m k (λ s. number_at n b (i + n * s)) (λ s. number_at n b (i + n * m + n * s)) (λ s. ap (number_at n b) (omega (arith, mul-add n m s))))
-    at (placed_append (parts_length n m b i) p q)
-
-pub eights_and_each : (bytes : List ℕ) (k n : ℕ) {t : ℕ} {before mid after : List ℕ} → Placed t (parts_of 10 (8 * (n / 8)) (bit_at bytes) (8 * k)) before mid →
-    Placed (t + 8 * (n / 8)) (parts_of 10 (n % 8) (bit_at bytes) (8 * (k + 10 * (n / 8)))) mid after → Placed t (parts_of 10 n (bit_at bytes) (8 * k)) before after
-eights_and_each bytes k n p q =
-    let i : 8 * (k + 10 * (n / 8)) ≡ 8 * k + 10 * (8 * (n / 8)) = omega arith in
-    let e : 8 * (n / 8) + n % 8 ≡ n = omega arith in
-    rw e at (parts_append 10 (8 * (n / 8)) (n % 8) (bit_at bytes) (8 * k) p (rw i at q))
+pub eights_and_each : (bytes : List ℕ) (n q k r : ℕ) {out part : List ℕ} → Filled n (number_from 10 (bit_at bytes) 0) (8 * q) out → 8 * q ≤ n → k ≡ n - 8 * q →
+    r ≡ n - 8 * q → part ≡ parts_of 10 r (bit_at bytes) (80 * q) → put_mid (8 * q) k out part ≡ parts_of 10 n (bit_at bytes) 0
+unfolding parts_of part_from
+eights_and_each bytes n q k r {out} {part} f room ek er e =
+    let b = bit_at bytes in
+    let m = n - 8 * q in
+    let same : part ≡ part_from (number_from 10 b 0) (8 * q) m = e ∙ ap (λ (x : ℕ). parts_of 10 x b (80 * q)) er ∙ tabulate_same m _ _ (λ s h. ap (number_at 10 b) (omega arith)) in
+    filled_end (part_written (number_from 10 b 0) (8 * q) m k f (omega arith) ek same) (omega arith)
 
 -- three symbols more for each two bits that the first begins after a byte
 whole_bytes : (i : ℕ) → i % 2 ≡ 0 → 8 * ((i + 10 * (3 * (i % 8 / 2) % 4)) / 8) ≡ i + 10 * (3 * (i % 8 / 2) % 4)
@@ -296,15 +291,17 @@ whole_bytes i even =
     let e : i + 10 * f ≡ 8 * k = omega arith in
     rw e (omega arith)
 
-pub each_and_bytes : (bytes : List ℕ) (i n : ℕ) {t : ℕ} {before mid after : List ℕ} → i % 2 ≡ 0 → 3 ≤ n →
-    Placed t (parts_of 10 (3 * (i % 8 / 2) % 4) (bit_at bytes) i) before mid →
-    Placed (t + 3 * (i % 8 / 2) % 4) (parts_of 10 (n - 3 * (i % 8 / 2) % 4) (bit_at bytes) (8 * ((i + 10 * (3 * (i % 8 / 2) % 4)) / 8))) mid after →
-    Placed t (parts_of 10 n (bit_at bytes) i) before after
-each_and_bytes bytes i n even least p q =
-    let f = 3 * (i % 8 / 2) % 4 in
-    let e : f + (n - f) ≡ n = omega arith in
-    rw e at (parts_append 10 f (n - f) (bit_at bytes) i p (rw (whole_bytes i even) at q))
-
-pub byte_room : (bytes : List ℕ) (i n : ℕ) → i % 2 ≡ 0 → 3 ≤ n → i + 10 * n ≤ 8 * length bytes + 2 →
-    8 * ((i + 10 * (3 * (i % 8 / 2) % 4)) / 8) + 10 * (n - 3 * (i % 8 / 2) % 4) ≤ 8 * length bytes + 2
-byte_room bytes i n even least h = rw (whole_bytes i even) (omega arith)
+pub each_and_bytes : (bytes rest before : List ℕ) (i n f k m r : ℕ) {first part : List ℕ} → i % 2 ≡ 0 → f ≡ 3 * (i % 8 / 2) % 4 → f ≤ n → length before ≡ n →
+    k ≡ (i + 10 * f) / 8 → ((j : ℕ) → bit_at rest j ≡ bit_at bytes (8 * k + j)) → first ≡ parts_of 10 r (bit_at bytes) i → r ≡ f →
+    part ≡ parts_of 10 m (bit_at rest) 0 → m ≡ n - f → (s : ℕ) → s ≡ m → put_mid f s (first ++ drop f before) part ≡ parts_of 10 n (bit_at bytes) i
+each_and_bytes bytes rest before i n f k m r {first} {part} even ef room long ek same e1 er e2 em s es =
+    let b = bit_at bytes in
+    let e : f + m ≡ n = omega arith in
+    let whole : 8 * k ≡ i + 10 * f = rw (ek, ef) (whole_bytes i even) in
+    let moved : part ≡ parts_of 10 m b (i + 10 * f) = e2 ∙ parts_same 10 m (bit_at rest) b 0 (i + 10 * f) (λ j h.
+    ap (bit_at rest) (omega arith) ∙ same j ∙ ap b (omega (arith, whole))) in
+    let one : first ≡ parts_of 10 f b i = e1 ∙ ap (λ (x : ℕ). parts_of 10 x b i) er in
+    let both : first ++ part ≡ parts_of 10 n b i = rw (one, moved) (parts_append 10 f m b i ∙ ap (λ (x : ℕ). parts_of 10 x b i) e) in
+    let l1 : length first ≡ f = ap length one ∙ parts_length 10 f b i in
+    let l2 : length part ≡ s = ap length moved ∙ parts_length 10 m b (i + 10 * f) ∙ sym es in
+    two_slices before first part f s l1 l2 (omega arith) ∙ both

@@ -1,14 +1,16 @@
 -- Bits of a number that is made of parts: ten bits of three bytes, and eight bits of two symbols. Assumes nothing.
 use mathlib.Core.Path.{◌≡◌, sym, ap, ◌∙◌}
-use mathlib.Core.List.{List}
+use mathlib.Core.List.{List, [], ◌∷◌}
 use Prim.Native.Nat.{ℕ, suc, ◌+◌, ◌-◌, ◌*◌, ◌/◌, ◌%◌, ◌^◌, ◌<◌}
 use native.Mathlib.Decide.{dec_lt}
 use native.Mathlib.Nat.{mod-lt}
 use native.Mathlib.Omega.{arith}
-use mir.Syntax.{w16, w32}
+use mir.Syntax.{w8, w32}
 use mir.Val.{Fits}
 use lib.Bits.{bit_and, and_mask}
+use lib.ListN.{get_or}
 use lib.Pow.{pow_pos, high, low, field, mod-mod-pow, shr-shr}
+use Rattle.std.specs.Int.{from_be_bytes}
 use Rattle.fields.specs.Places.{at}
 use Rattle.words.specs.Bits.{bit_of, bit_at}
 use Rattle.words.proofs.Bits.Numbers.{number_of_same}
@@ -43,12 +45,6 @@ module _ (m n x y i : ℕ) where
       ap (λ (s : ℕ). z / 2 ^ s % 2) e ∙ sym (bit_rest n z i l)
       ∙ ap (λ (s : ℕ). bit_of n s i) (low x n (mod-lt y (pow_pos n))) ∙ bit_rest n y i l
 
-pub ten_fit : (x : ℕ) → Fits w16 (bit_and x 1023)
-ten_fit x = record { fits = omega (arith, and_mask x 10) }
-
-pub twenty_fit : (x y : ℕ) → x < 65536 → Fits w32 (x * 2 ^ 10 % 2 ^ 32 + bit_and y 1023)
-twenty_fit x y h = record { fits = omega (arith, and_mask y 10) }
-
 -- ---- ten bits of three bytes
 
 module _ (bytes : List ℕ) (i a b c : ℕ) (ea : a ≡ at bytes (i / 8)) (eb : b ≡ at bytes (i / 8 + 1)) (ec : c ≡ at bytes (i / 8 + 2)) where
@@ -75,11 +71,12 @@ module _ (bytes : List ℕ) (i a b c : ℕ) (ea : a ≡ at bytes (i / 8)) (eb : 
           let r : (i + j) % 8 ≡ s = omega arith in
           rw (e, q, r, ← ec) (bit_second 16 8 (a * 2 ^ 8 + b % 2 ^ 8) c s (omega arith))
 
-  pub symbol_read : a < 256 → b < 256 → c < 256 → bit_and ((a * 2 ^ 16 % 2 ^ 32 + b * 2 ^ 8 % 2 ^ 32 + c) / 2 ^ (14 - i % 8)) 1023 ≡ symbol_at (bit_at bytes) i
+  pub symbol_read : ((k : ℕ) → Fits w8 (get_or bytes k 0)) → (three : ℕ) → three ≡ from_be_bytes w32 (0 ∷ a ∷ b ∷ c ∷ []) →
+      bit_and (three / 2 ^ (14 - i % 8)) 1023 ≡ symbol_at (bit_at bytes) i
   unfolding symbol_at
-  symbol_read ha hb hc =
+  symbol_read fits three et =
       let x = (a * 2 ^ 8 + b % 2 ^ 8) * 2 ^ 8 + c % 2 ^ 8 in
-      let e : a * 2 ^ 16 % 2 ^ 32 + b * 2 ^ 8 % 2 ^ 32 + c ≡ x = omega arith in
+      let e : three ≡ x = omega (arith, fits (i / 8), fits (i / 8 + 1), fits (i / 8 + 2)) in
       let k : 14 - i % 8 ≡ 24 - (i % 8 + 10) = omega arith in
       rw (e, k) (and_mask (x / 2 ^ (24 - (i % 8 + 10))) 10 ∙ sym (number_of_bits 24 x (i % 8) 10 (omega arith)) ∙ number_of_same 10 _ _ three_bytes)
 

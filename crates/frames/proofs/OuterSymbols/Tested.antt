@@ -1,12 +1,11 @@
 -- The outer words of a block, read from its bytes six symbols at a time and tested. Assumes nothing.
 use mathlib.Core.Path.{◌≡◌, refl, sym, ap, ap₂, ◌∙◌}
-use mathlib.Core.Bool.{◌&&◌, and-eq-true_iff, Bool, true, false, not}
+use mathlib.Core.Bool.{◌&&◌, and-eq-true_iff, Bool, true, false}
 use mathlib.Core.List.{List}
 use Prim.Native.Nat.{ℕ, zero, suc, ◌+◌, ◌-◌, ◌*◌, ◌/◌, ◌%◌, ◌^◌, ◌≤◌, ◌<◌}
 use native.Mathlib.Nat.{le_refl, mod-lt}
 use native.Mathlib.Decide.{dec_lt}
 use native.Mathlib.Omega.{arith}
-use borrow.Author.Tests.{not-true, not-false}
 use lib.Bits.{bit_or, bit_xor, or_shifted}
 use lib.Dec.{eqb, lit<}
 use lib.ListN.{length, get_or, take}
@@ -205,9 +204,6 @@ module _ (bytes : List ℕ) (w h m l : ℕ) where
     unfolding divided_to divided_up_to
     division_next x a b c ex ea eb ec = packs_next d h m l i named (word_small bytes w) x a b c ex ea eb ec
 
-  pub division_end : (n i : ℕ) → n ≡ data_in w → i ≤ n → n ≤ i → Packs h m l (divided_to (bit_at bytes) w i) → Packs h m l (divided_to (bit_at bytes) w (data_in w))
-  division_end n i en lo hi p = let e : i ≡ data_in w = omega arith in rw e at p
-
   division_all : (i : ℕ) → i ≡ data_in w → Packs h m l (divided_to (bit_at bytes) w i) → Packs h m l (outer_parity (take (data_in w) (received_word (bit_at bytes) w)))
   unfolding divided_to parity_of
   division_all i e p =
@@ -246,35 +242,35 @@ outer_none b = refl
 
 module _ (b : ℕ → ℕ) (w : ℕ) (before : outer_up_to b w ≡ true) where
   -- two words at a time
-  pub two_not : (t : Bool) → t ≡ (is_outer (received_word b w) && is_outer (received_word b (w + 1))) → w + 1 < 16 → not t ≡ true → false ≡ outer_codes b
+  pub two_not : (t : Bool) → t ≡ (is_outer (received_word b w) && is_outer (received_word b (w + 1))) → w + 1 < 16 → t ≡ false → false ≡ outer_codes b
   unfolding outer_codes
-  two_not t test h f = go (is_outer (received_word b w)) refl (sym test ∙ not-true t f)
+  two_not t test h f = go (is_outer (received_word b w)) refl (sym test ∙ f)
     where
       go : (s : Bool) → is_outer (received_word b w) ≡ s → (s && is_outer (received_word b (w + 1))) ≡ false → false ≡ every 16 (λ v. is_outer (received_word b v))
       go true e q = sym (every_false 16 (λ v. is_outer (received_word b v)) (w + 1) h q)
       go false e q = sym (every_false 16 (λ v. is_outer (received_word b v)) w (omega arith) e)
 
-  pub two_next : (t : Bool) → t ≡ (is_outer (received_word b w) && is_outer (received_word b (w + 1))) → not t ≡ false → outer_up_to b (w + 2) ≡ true
+  pub two_next : (t : Bool) → t ≡ (is_outer (received_word b w) && is_outer (received_word b (w + 1))) → t ≡ true → (v : ℕ) → v ≡ w + 2 → outer_up_to b v ≡ true
   unfolding outer_up_to every
-  two_next t test f =
-      let both = (and-eq-true_iff (is_outer (received_word b w)) (is_outer (received_word b (w + 1)))).0 (sym test ∙ not-false t f) in
-      let e : w + 2 ≡ suc (w + 1) = omega arith in
+  two_next t test f v ev =
+      let both = (and-eq-true_iff (is_outer (received_word b w)) (is_outer (received_word b (w + 1)))).0 (sym test ∙ f) in
+      let e : v ≡ suc (w + 1) = omega arith in
       let d : w + 1 ≡ suc w = omega arith in
       rw (e, d) (rw (before, both.0) (rw d at both.1))
 
   -- the last two
-  pub last_not : (t : Bool) → t ≡ is_outer (received_word b 14) → not t ≡ true → false ≡ outer_codes b
+  pub last_not : (t : Bool) → t ≡ is_outer (received_word b 14) → t ≡ false → false ≡ outer_codes b
   unfolding outer_codes
-  last_not t test f = sym (every_false 16 (λ v. is_outer (received_word b v)) 14 (lit< tt) (sym test ∙ not-true t f))
+  last_not t test f = sym (every_false 16 (λ v. is_outer (received_word b v)) 14 (lit< tt) (sym test ∙ f))
 
-  pub last_all : (s t : Bool) → s ≡ is_outer (received_word b 14) → not s ≡ false → t ≡ is_outer (received_word b 15) → w ≤ 14 → 14 ≤ w → t ≡ outer_codes b
+  pub last_all : (s t : Bool) → s ≡ is_outer (received_word b 14) → s ≡ true → t ≡ is_outer (received_word b 15) → w ≤ 14 → 14 ≤ w → t ≡ outer_codes b
   unfolding outer_up_to outer_codes every
   last_all s t es f et l g =
       let e : w ≡ 14 = omega arith in
       let first : every 14 (λ v. is_outer (received_word b v)) ≡ true = rw e at before in
-      rw (first, ← es, not-false s f) et
+      rw (first, ← es, f) et
 
--- outer words have more than six data symbols each; those before the last as many as each other
+-- outer words have more than six data symbols each
 pub data_more : (w n : ℕ) → w < 16 → n < 6 → 0 + n ≤ data_in w
 data_more w n h l = go (dec_lt w 15)
   where
@@ -282,23 +278,8 @@ data_more w n h l = go (dec_lt w 15)
     go (yes b) = omega (arith, data_in_first w b)
     go (no b) = omega (arith, data_in_last w (omega arith))
 
-module _ (w : ℕ) (h : w + 1 < 15) where
-  pub data_first : (i : ℕ) → i < 765 → (765 - i) % 6 ≡ 0 → i + 6 ≤ data_in w
-  data_first i l e = omega (arith, data_in_first w (omega arith))
-
-  pub data_second : (i : ℕ) → i < 765 → (765 - i) % 6 ≡ 0 → i + 6 ≤ data_in (w + 1)
-  data_second i l e = omega (arith, data_in_first (w + 1) h)
-
 pub data_packs : (b : ℕ → ℕ) (w x y z : ℕ) → w < 15 → Packs x y z (divided_to b w 765) → Packs x y z (divided_to b w (data_in w))
 data_packs b w x y z h p = let e = data_in_first w h in rw (← e) at p
 
-pub division_stop : (b : ℕ → ℕ) (w i x y z : ℕ) → i ≤ 765 → 765 ≤ i → Packs x y z (divided_to b w i) → Packs x y z (divided_to b w 765)
-division_stop b w i x y z l g p = let e : i ≡ 765 = omega arith in rw e at p
-
--- the test of two words, one after the other
-module _ (s t : Bool) (x : Bool) (es : x ≡ s) where
-  pub two_first : not x ≡ true → false ≡ (s && t)
-  two_first h = rw (← es, not-true x h)
-
-  pub two_second : not x ≡ false → (y : Bool) → y ≡ t → y ≡ (s && t)
-  two_second h y e = rw (← es, not-false x h) e
+pub division_at : (b : ℕ → ℕ) (w i j : ℕ) {x y z : ℕ} → i ≡ j → Packs x y z (divided_to b w i) → Packs x y z (divided_to b w j)
+division_at b w i j e p = rw e at p

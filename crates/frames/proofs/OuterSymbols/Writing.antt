@@ -1,34 +1,33 @@
 -- A law for each way through the functions on the outer symbols. Assumes nothing.
-use mathlib.Core.Path.{◌≡◌, sym, ap, ◌∙◌, subst}
-use mathlib.Core.List.{List}
+use mathlib.Core.Path.{◌≡◌, refl, sym, ap, ◌∙◌, subst}
+use mathlib.Core.List.{List, ◌++◌}
 use Prim.Native.Nat.{ℕ, ◌+◌, ◌-◌, ◌*◌, ◌/◌, ◌%◌, ◌≤◌, ◌<◌}
 use native.Mathlib.Decide.{dec_lt}
 use native.Mathlib.Omega.{arith}
 use lib.Bits.{bit_and, and_high}
-use lib.ListN.{length, set}
+use borrow.Rule.Slice.PartMut.{put_mid}
+use lib.ListN.{length, set, drop}
+use Rattle.fields.specs.Lists.{tabulate}
 use Rattle.fields.specs.Places.{at}
 use Rattle.fields.specs.Steps.Buffers.{Placed}
 use Rattle.fields.proofs.Lists.{tabulate_same}
 use Rattle.fields.proofs.Places.Filling.{Filled, filled_start, filled_next, filled_end}
-use Rattle.fields.proofs.Places.Placing.{Placing, placed_append}
+use Rattle.fields.proofs.Places.Placing.{placed_append}
 use Rattle.words.specs.Bits.{bit_of, number_of, bit_at}
 use Rattle.words.proofs.Bits.Bytes.{bit_at_lt}
 use Rattle.words.proofs.Bits.Numbers.{bit_of_lt, bit_of_number, number_of_lt, number_of_same}
-use Rattle.frames.specs.Frames.{symbol_at, data_in, outer_data, outer_place}
+use Rattle.frames.specs.Frames.{symbol_at, data_in, outer_place}
 use Rattle.frames.specs.Correction.{received_symbol}
 use Rattle.frames.specs.Steps.Received.{received_symbols}
 use Rattle.frames.specs.Steps.Symbols.{Sent, byte_at, number_at, parts_of, symbol_bit, symbol_byte, data_place, data_symbol, payload_byte, part_from, payload_in, start_of, end_of}
 use Rattle.frames.proofs.Frames.FrameBits.{data_in_is, place_first, place_last}
-use Rattle.frames.proofs.Numbers.Parts.{part_length, part_next, part_filled, part_append}
+use Rattle.frames.proofs.Numbers.Slices.{placed_slice, two_slices}
+use Rattle.frames.proofs.Numbers.Parts.{part_length, part_filled, part_written, part_append}
 use Rattle.frames.proofs.OuterSymbols.Received.{received_first, received_padding, received_last}
 use Rattle.frames.proofs.Numbers.Windows.{byte_of_symbols}
-use Rattle.frames.proofs.Numbers.Groups.{parts_length, parts_at}
+use Rattle.frames.proofs.Numbers.Groups.{parts_same, symbols_from}
 
 -- ---- the outer symbols of a payload
-
--- the symbols of word w end within the payload and its padding bits
-pub payload_room : (payload : List ℕ) (w n : ℕ) → length payload ≡ 15296 → w < 16 → n ≡ data_in w → 7650 * w + 10 * n ≤ 8 * length payload + 2
-payload_room payload w n long h e = omega (arith, data_in_is w h)
 
 pub data_least : (w n : ℕ) → w < 16 → n ≡ data_in w → 3 ≤ n
 data_least w n h e = omega (arith, data_in_is w h)
@@ -36,28 +35,22 @@ data_least w n h e = omega (arith, data_in_is w h)
 pub data_fours : (w n : ℕ) → w < 16 → n ≡ data_in w → 3 * w % 4 ≤ n
 data_fours w n h e = omega (arith, data_least w n h e)
 
-pub data_placed : (payload : List ℕ) (w n : ℕ) {before outer : List ℕ} → n ≡ data_in w → Placed (781 * w) (parts_of 10 n (bit_at payload) (7650 * w)) before outer →
-    Placed (781 * w) (outer_data payload w) before outer
-unfolding outer_data symbol_at parts_of number_at
-data_placed payload w n e p = rw e at p
-
 -- ---- the bytes that are sent of outer symbols
 
 unfoldable pub sent_byte : List ℕ → ℕ → ℕ
 sent_byte outer k = symbol_byte (at outer) (outer_place (8 * k))
 
 -- the groups before the padding bits stand in the frame as in the outer symbols
-pub sent_start : (outer : List ℕ) {before out : List ℕ} → Placed 0 (parts_of 8 (5 * 3119) (symbol_bit (at outer)) (10 * 0)) before out → length before ≡ 16320 →
-    Filled 16320 (sent_byte outer) (5 * 3119) out
-unfolding sent_byte symbol_byte number_at
-sent_start outer {before} {out} p long = record { long = p.long ∙ long; within = omega arith; done = byte }
-  where
-    byte : (k : ℕ) → k < 5 * 3119 → at out k ≡ sent_byte outer k
-    byte k l =
-        let e : k ≡ 0 + k = omega arith in
-        let n = parts_length 8 (5 * 3119) (symbol_bit (at outer)) (10 * 0) in
-        ap (at out) e ∙ p.inside k (omega (arith, n)) ∙ parts_at 8 (5 * 3119) (symbol_bit (at outer)) (10 * 0) k l
-        ∙ number_of_same 8 _ _ (λ j h. ap (λ (i : ℕ). symbol_bit (at outer) (i + j)) (omega (arith, place_first (8 * k) (omega arith))))
+pub sent_start : (outer before part : List ℕ) (m : ℕ) {five : List ℕ} → length before ≡ 16320 → m ≡ 15595 → ((i : ℕ) → i < 12476 → at part i ≡ at outer i) →
+    five ≡ parts_of 8 m (symbol_bit (at part)) 0 → Filled 16320 (sent_byte outer) 15595 (five ++ drop 15595 before)
+unfolding sent_byte symbol_byte part_from parts_of number_at
+sent_start outer before part m {five} long em same e =
+    part_written (sent_byte outer) 0 15595 15595 (filled_start long) (omega arith) refl (e
+    ∙ ap (λ (x : ℕ). tabulate x (λ s. number_of 8 (λ j. symbol_bit (at part) (0 + 8 * s + j)))) em
+    ∙ tabulate_same 15595 _ _ (λ k l. number_of_same 8 _ _ (λ j h.
+    let i = 0 + 8 * k + j in
+    symbols_from outer part 0 i (same (i / 10) (omega arith) ∙ ap (at outer) (omega arith))
+    ∙ ap (symbol_bit (at outer)) (omega (arith, place_first (8 * (0 + k)) (omega arith))))))
 
 pub sent_next : (outer : List ℕ) {out : List ℕ} {k p v : ℕ} → Filled 16320 (sent_byte outer) k out → k < 15616 → p ≡ outer_place (8 * k) → v ≡ symbol_byte (at outer) p →
     Filled 16320 (sent_byte outer) (k + 1) (set out k v)
@@ -118,37 +111,33 @@ symbol_padded bytes t s et e =
       received_padding b (10 * t + 9) (omega arith) (omega arith),
     )
 
-pub last_next : (b : ℕ → ℕ) {s v : ℕ} {before outer : List ℕ} → Placing 12476 (part_from (received_symbol b) 12476 20) s before outer → s < 20 →
-    length before ≡ 12496 → v ≡ received_symbol b (12476 + s) → Placing 12476 (part_from (received_symbol b) 12476 20) (s + 1) before (set outer (12476 + s) v)
-last_next b p l long e = part_next (received_symbol b) 12476 20 p l (omega arith) long e
-
 -- an outer word before the last, and the last one
-pub word_first : (b : ℕ → ℕ) (w : ℕ) {before outer : List ℕ} → w < 15 → Placed (781 * w) (parts_of 10 781 b (10 * (781 * w))) before outer →
-    Placed (781 * w) (part_from (received_symbol b) (781 * w) 781) before outer
-word_first b w h p = rw (parts_received b (781 * w) 781 (omega arith)) at p
+pub word_first : (b : ℕ → ℕ) (w r : ℕ) {word : List ℕ} → w < 15 → word ≡ parts_of 10 r b (7810 * w) → r ≡ 781 → word ≡ part_from (received_symbol b) (781 * w) 781
+word_first b w r h e er =
+    let i : 7810 * w ≡ 10 * (781 * w) = omega arith in
+    e ∙ ap (λ (x : ℕ). parts_of 10 x b (7810 * w)) er ∙ ap (parts_of 10 781 b) i ∙ parts_received b (781 * w) 781 (omega arith)
 
-pub word_last : (b : ℕ → ℕ) (w : ℕ) {before mid outer : List ℕ} → w < 16 → 15 ≤ w →
-    Placed (781 * w) (parts_of 10 (12476 - 781 * w) b (10 * (781 * w))) before mid → Placed 12476 (part_from (received_symbol b) 12476 20) mid outer →
-    Placed (781 * w) (part_from (received_symbol b) (781 * w) 781) before outer
-word_last b w {before} {mid} {outer} h g p q =
+pub word_last : (b : ℕ → ℕ) (w r s : ℕ) (before : List ℕ) {first last : List ℕ} → w < 16 → 15 ≤ w → length before ≡ 781 → first ≡ parts_of 10 r b (7810 * w) → r ≡ 761 →
+    last ≡ part_from (received_symbol b) 12476 20 → s ≡ 20 → put_mid 761 s (first ++ drop 761 before) last ≡ part_from (received_symbol b) (781 * w) 781
+word_last b w r s before {first} {last} h g long e er el es =
     let f = received_symbol b in
     let t = 781 * w in
-    let n = 12476 - t in
-    let place : 12476 ≡ t + n = omega arith in
-    let all : n + 20 ≡ 781 = omega arith in
-    let first : Placed t (part_from f t n) before mid = rw (parts_received b t n (omega arith)) at p in
-    let second : Placed (t + n) (part_from f (t + n) 20) mid outer = subst (λ (i : ℕ). Placed i (part_from f i 20) mid outer) place q in
-    subst (λ (xs : List ℕ). Placed t xs before outer) (part_append f t n 20 ∙ ap (part_from f t) all) (placed_append (part_length f t n) first second)
+    let i : 7810 * w ≡ 10 * t = omega arith in
+    let place : 12476 ≡ t + 761 = omega arith in
+    let one : first ≡ part_from f t 761 = e ∙ ap (λ (x : ℕ). parts_of 10 x b (7810 * w)) er ∙ ap (parts_of 10 761 b) i ∙ parts_received b t 761 (omega arith) in
+    let two : last ≡ part_from f (t + 761) 20 = el ∙ ap (λ (x : ℕ). part_from f x 20) place in
+    two_slices before first last 761 s (ap length one ∙ part_length f t 761) (ap length el ∙ part_length f 12476 20 ∙ sym es) (omega arith)
+    ∙ rw (one, two) (part_append f t 761 20)
 
 -- one word after the other
 pub symbols_start : (b : ℕ → ℕ) {outer : List ℕ} → length outer ≡ 12496 → Filled 12496 (received_symbol b) (781 * 0) outer
 symbols_start b e = filled_start e
 
-pub symbols_next : (b : ℕ → ℕ) {w : ℕ} {outer after : List ℕ} → Filled 12496 (received_symbol b) (781 * w) outer → w < 16 →
-    Placed (781 * w) (part_from (received_symbol b) (781 * w) 781) outer after → Filled 12496 (received_symbol b) (781 * (w + 1)) after
-symbols_next b {w} {outer} {after} f h p =
-    let e : 781 * w + 781 ≡ 781 * (w + 1) = omega arith in
-    rw e at (part_filled (received_symbol b) (781 * w) 781 f (omega arith) p)
+pub symbols_next : (b : ℕ → ℕ) {w : ℕ} (n : ℕ) {outer word : List ℕ} → Filled 12496 (received_symbol b) (781 * w) outer → w < 16 → n ≡ 781 →
+    word ≡ part_from (received_symbol b) (781 * w) 781 → Filled 12496 (received_symbol b) (781 * (w + 1)) (put_mid (781 * w) n outer word)
+symbols_next b {w} n {outer} {word} f h en e =
+    let next : 781 * w + 781 ≡ 781 * (w + 1) = omega arith in
+    rw next at (part_written (received_symbol b) (781 * w) 781 n f (omega arith) en e)
 
 pub symbols_end : (b : ℕ → ℕ) {w : ℕ} {outer : List ℕ} → Filled 12496 (received_symbol b) (781 * w) outer → 16 ≤ w → outer ≡ received_symbols b
 unfolding received_symbols
@@ -189,9 +178,8 @@ module _ (outer : List ℕ) (w g n : ℕ) (h : w < 16) (en : n ≡ data_in w) (e
   unfolding data_place
   groups_room p ep long = omega (arith, data_in_is w h)
 
-pub bytes_room : (w g n : ℕ) {s : ℕ} {xs before out : List ℕ} → w < 16 → n ≡ data_in w → g ≡ (n - 3 * w % 4) / 4 → Placed s xs before out →
-    length before ≡ 15296 → 5 * ((765 * w + 3 * w % 4) / 4) + 5 * g ≤ length out
-bytes_room w g n h en eg p long = omega (arith, p.long, data_in_is w h)
+pub bytes_room : (w g n : ℕ) → w < 16 → n ≡ data_in w → g ≡ (n - 3 * w % 4) / 4 → 5 * ((765 * w + 3 * w % 4) / 4) + 5 * g ≤ 15296
+bytes_room w g n h en eg = omega (arith, data_in_is w h)
 
 -- fours up to place f after u and from there on, of n places
 fours : (u f n g a : ℕ) → u + f ≡ 4 * a → f ≤ n → g ≡ (n - f) / 4 → 5 * a - 5 * (u / 4) + 5 * g ≡ 5 * ((u + n) / 4) - 5 * (u / 4)
@@ -204,23 +192,42 @@ fours u f n g a e l eg =
     after a g s l = omega arith
 
 -- the bytes that begin before an outer word, and its groups
-pub word_extracted : (outer : List ℕ) (w g n p : ℕ) {before mid after : List ℕ} → w < 16 → n ≡ data_in w → g ≡ (n - 3 * w % 4) / 4 → p ≡ data_place (765 * w + 3 * w % 4) →
-    Placed (5 * (765 * w / 4)) (part_from (payload_byte outer) (5 * (765 * w / 4)) (5 * ((765 * w + 3 * w % 4) / 4) - 5 * (765 * w / 4))) before mid →
-    Placed (5 * ((765 * w + 3 * w % 4) / 4)) (parts_of 8 (5 * g) (symbol_bit (at outer)) (10 * p)) mid after →
-    Placed (start_of w) (part_from (payload_byte outer) (start_of w) (end_of w - start_of w)) before after
+pub word_extracted : (outer part : List ℕ) (w g n p c d r m : ℕ) {before first groups : List ℕ} → w < 16 → n ≡ data_in w → g ≡ (n - 3 * w % 4) / 4 →
+    p ≡ data_place (765 * w + 3 * w % 4) → length before ≡ 15296 → ((i : ℕ) → i < 4 * g → at part i ≡ at outer (p + i)) →
+    first ≡ part_from (payload_byte outer) (5 * (765 * w / 4)) r → r ≡ 5 * ((765 * w + 3 * w % 4) / 4) - 5 * (765 * w / 4) → c ≡ r →
+    groups ≡ parts_of 8 m (symbol_bit (at part)) 0 → m ≡ 5 * g → d ≡ m →
+    Placed (start_of w) (part_from (payload_byte outer) (start_of w) (end_of w - start_of w)) before
+    (put_mid (5 * ((765 * w + 3 * w % 4) / 4)) d (put_mid (5 * (765 * w / 4)) c before first) groups)
 unfolding start_of end_of data_place
-word_extracted outer w g n p h en eg ep first groups =
+word_extracted outer part w g n p c d r m {before} {first} {groups} h en eg ep long same e1 er ec e2 em ed =
     let f = 3 * w % 4 in
     let s = 5 * (765 * w / 4) in
     let k = 5 * ((765 * w + f) / 4) in
+    let b = payload_byte outer in
+    let mid = put_mid s c before first in
     let place : p ≡ 781 * w + f = omega arith in
     let four : 765 * w + f ≡ 4 * ((765 * w + f) / 4) = omega (arith, group_byte outer w g n h en eg) in
     let end : k - s + 5 * g ≡ 5 * ((765 * w + data_in w) / 4) - s =
-    fours (765 * w) f (data_in w) g ((765 * w + f) / 4) four (omega (arith, data_in_is w h)) (eg ∙ ap (λ (m : ℕ). (m - f) / 4) en) in
+    fours (765 * w) f (data_in w) g ((765 * w + f) / 4) four (omega (arith, data_in_is w h)) (eg ∙ ap (λ (x : ℕ). (x - f) / 4) en) in
     let next : k ≡ s + (k - s) = omega arith in
-    let moved = rw (place, groups_payload outer w g n h en eg) at groups in
-    let whole = part_append (payload_byte outer) s (k - s) (5 * g) in
-    rw (whole ∙ ap (part_from (payload_byte outer) s) end) at (placed_append (part_length (payload_byte outer) s (k - s)) first (rw next at moved))
+    let one : first ≡ part_from b s (k - s) = e1 ∙ ap (part_from b s) er in
+    let two : groups ≡ part_from b k (5 * g) =
+    e2 ∙ ap (λ (x : ℕ). parts_of 8 x (symbol_bit (at part)) 0) em
+    ∙ parts_same 8 (5 * g) (symbol_bit (at part)) (symbol_bit (at outer)) 0 (10 * (781 * w + f)) (λ j l.
+    let i = 0 + j in
+    symbols_from outer part (781 * w + f) i (same (i / 10) (omega arith) ∙ ap (at outer) (omega arith)) ∙ ap (symbol_bit (at outer)) (omega arith))
+    ∙ groups_payload outer w g n h en eg in
+    let l1 : length first ≡ c = ap length one ∙ part_length b s (k - s) ∙ sym er ∙ sym ec in
+    let l2 : length groups ≡ d = ap length two ∙ part_length b k (5 * g) ∙ sym em ∙ sym ed in
+    let room : k + 5 * g ≤ 15296 = omega (arith, data_in_is w h) in
+    let x : Placed s first before mid = placed_slice s c first before l1 (omega arith) in
+    let y : Placed k groups mid (put_mid k d mid groups) = placed_slice k d groups mid l2 (omega (arith, x.long)) in
+    let x' = subst (λ (xs : List ℕ). Placed s xs before mid) one x in
+    let y' = subst (λ (xs : List ℕ). Placed k xs mid (put_mid k d mid groups)) two y in
+    let y'' = subst (λ (i : ℕ). Placed i (part_from b i (5 * g)) mid (put_mid k d mid groups)) next y' in
+    let whole : part_from b s (k - s) ++ part_from b (s + (k - s)) (5 * g) ≡ part_from b s (5 * ((765 * w + data_in w) / 4) - s) =
+    part_append b s (k - s) (5 * g) ∙ ap (part_from b s) end in
+    subst (λ (xs : List ℕ). Placed s xs before (put_mid k d mid groups)) whole (placed_append (part_length b s (k - s)) x' y'')
 
 -- the bytes that are written before outer word w
 unfoldable pub done_to : ℕ → ℕ
@@ -239,9 +246,9 @@ payload_word outer {w} f h p =
     let e : s + (5 * ((765 * w + data_in w) / 4) - s) ≡ 5 * ((765 * (w + 1) - 3 * ((w + 1) / 16)) / 4) = omega (arith, data_in_is w h) in
     rw e at (part_filled (payload_byte outer) s (5 * ((765 * w + data_in w) / 4) - s) (rw start at f) (omega (arith, data_in_is w h)) p)
 
-pub payload_all : (outer : List ℕ) {w : ℕ} {out after : List ℕ} → Filled 15296 (payload_byte outer) (done_to w) out → w ≤ 16 → 16 ≤ w →
-    Placed 15295 (part_from (payload_byte outer) 15295 1) out after → after ≡ payload_in outer
+pub payload_all : (outer : List ℕ) {w : ℕ} (n r : ℕ) {out last : List ℕ} → Filled 15296 (payload_byte outer) (done_to w) out → w ≤ 16 → 16 ≤ w →
+    last ≡ part_from (payload_byte outer) 15295 r → r ≡ 1 → n ≡ 1 → put_mid 15295 n out last ≡ payload_in outer
 unfolding payload_in done_to
-payload_all outer {w} f l g p =
-    let e : 5 * ((765 * w - 3 * (w / 16)) / 4) ≡ 15295 = omega arith in
-    filled_end (part_filled (payload_byte outer) 15295 1 (rw e at f) (omega arith) p) (omega arith)
+payload_all outer {w} n r {out} {last} f l g e er en =
+    let all : 5 * ((765 * w - 3 * (w / 16)) / 4) ≡ 15295 = omega arith in
+    filled_end (part_written (payload_byte outer) 15295 1 n (rw all at f) (omega arith) en (e ∙ ap (part_from (payload_byte outer) 15295) er)) (omega arith)

@@ -1,5 +1,5 @@
 -- The locator polynomials of the sixteen words of a row, side by side, and the places of their roots.
-use Rattle.std.specs.Prelude.{◌≡◌, Bool, true, cond, List, ℕ, ◌/◌, ◌%◌, ◌<◌, eqb, length}
+use Rattle.std.specs.Prelude.{◌≡◌, cond, List, ℕ, ◌/◌, ◌%◌, ◌<◌, eqb, length}
 use Rattle.fields.specs.Lists.{tabulate}
 use Rattle.fields.specs.Elements.{powers_c, exponents_c}
 use Rattle.fields.specs.Places.{at}
@@ -35,10 +35,3 @@ pub record LocatorValues (s values : List ℕ) : Type 0 where
 -- the places, among the first i, where polynomial k has a root, whatever the polynomials are whose values these are
 pub record PlacesTo (values : List ℕ) (k i : ℕ) (places : List ℕ) (count : ℕ) : Type 0 where
   pub roots : (terms : List ℕ) → values ≡ column_values terms → Roots powers_c exponents_c (polynomial_of terms k) 255 i places count
-
--- where a row was looked at by columns, these are the values of its locator polynomials; and polynomial k is one for the syndromes t
-pub record ValuesIf (located : Bool) (s values : List ℕ) : Type 0 where
-  pub made : located ≡ true → LocatorValues s values
-
-pub record LocatedIf (located : Bool) (values : List ℕ) (k : ℕ) (t : List ℕ) : Type 0 where
-  pub made : located ≡ true → (s : List ℕ) × LocatorValues s values × (t ≡ lane_of s k)

@@ -1,12 +1,11 @@
 -- How a block is restored word by word, in a copy of it.
-use Rattle.std.specs.Prelude.{◌≡◌, Bool, true, false, cond, List, ◌⊎◌, ℕ, ◌+◌, ◌*◌, ◌/◌, ◌%◌, ◌≤◌, ◌<◌, eqb, length}
+use Rattle.std.specs.Prelude.{◌≡◌, Bool, true, false, cond, List, ◌⊎◌, ℕ, ◌+◌, ◌*◌, ◌/◌, ◌%◌, ◌≤◌, ◌<◌, eqb, length, Option, Some, None}
 use Rattle.std.proofs.Math.Option.{none, some}
 use Rattle.fields.specs.Lists.{tabulate}
 use Rattle.fields.specs.Elements.{powers_c, exponents_c}
 use Rattle.fields.specs.Places.{at, all_below, sum_to, apart}
-use Rattle.words.specs.declared.Correction.{Correction}
-use Rattle.words.specs.declared.Correction.TheVariants.{Corrected, Refused}
-use Rattle.words.specs.Answers.{changed_of, found}
+use Rattle.words.specs.Corrections.{Correction, Corrected, Refused}
+use Rattle.words.specs.Answers.{found}
 use Rattle.decoding.specs.Steps.ByTables.{root_values}
 use Rattle.decoding.specs.declared.error_values.Errors.{Errors}
 use Rattle.decoding.specs.Steps.Decoder.{Decoded, with_errors}
@@ -42,6 +41,15 @@ word_stored o w c = tabulate (length o) (λ i. cond (eqb (word_of i) w) (at c (b
 unfoldable pub word_corrected : List ℕ → ℕ → Correction × List ℕ
 word_corrected o w = found Refused (λ c. Corrected (apart (received_bytes o w) c)) (word_stored o w) o (bytes_restored o w)
 
+-- a count of changed bytes as an answer: none is the refusal of what has no code word near it; and the count alone
+abbrev pub answer_of : Option ℕ → Correction
+answer_of (Some n) = Corrected n
+answer_of None = Refused 5
+
+abbrev pub count_found : Option ℕ → ℕ
+count_found (Some n) = n
+count_found None = 0
+
 -- what the decoder found in a word of bytes
 pub record WordErrors (word : List ℕ) (e : Errors) : Type 0 where
   pub bytes : all_below 256 word ≡ true
@@ -51,12 +59,6 @@ pub record WordErrors (word : List ℕ) (e : Errors) : Type 0 where
 pub record Remains (reached : Bool) (t word : List ℕ) : Type 0 where
   pub values : reached ≡ true → t ≡ root_values powers_c exponents_c word
   pub bytes : reached ≡ true → all_below 256 word ≡ true
-
--- the answer for a word joins the progress: still reached only where it was corrected, and its changes counted
-pub record Counted (changed : ℕ) (c : Correction) (still : Bool) (sum : ℕ) : Type 0 where
-  pub found : still ≡ true → (n : ℕ) × (c ≡ Corrected n) × (sum ≡ changed + n)
-  pub lost : still ≡ false → (n : ℕ) × (c ≡ Refused n)
-  pub most : sum ≤ changed + changed_of c
 
 -- how many words of row r go by themselves: the first of the block
 unfoldable pub alone : ℕ → ℕ

@@ -1,112 +1,93 @@
 -- Eight bytes as a number, and a number as eight bytes. Assumes nothing.
 use mathlib.Core.Path.{◌≡◌, refl, sym, ap, ap₂, ◌∙◌}
 use mathlib.Core.List.{List}
+use borrow.Author.Rules.{rules}
+use borrow.Rule.Slice.PartMut.{put_mid}
+use Rattle.std.specs.Int.{from_be_bytes, from_le_bytes, to_be_bytes, to_le_bytes, swap_bytes}
+use Rattle.std.proofs.lemmas.List.{places}
 use Prim.Native.Nat.{ℕ, zero, suc, ◌+◌, ◌-◌, ◌*◌, ◌/◌, ◌%◌, ◌^◌, ◌≤◌, ◌<◌}
-use native.Mathlib.Nat.{add-zero}
 use native.Mathlib.Omega.{arith}
-use lib.Bits.{bit_and, bit_or, bit_xor, and_mask, or_shifted}
-use lib.Dec.{lit<}
-use lib.ListN.{get_or, set}
-use lib.Pow.{pow-add, shl_exact, shl_lt}
-use mir.Facts.{Fits-widen}
+use mathlib.Core.Bool.{cond}
+use lib.Bits.{bit_and, bit_xor}
+use lib.Dec.{eqb, lit<}
+use lib.ListN.{length, get_or, set, take, drop}
+use Rattle.std.proofs.Common.{get_or-take, get_or-drop}
 use mir.Syntax.{w8, w64}
 use mir.Val.{Fits}
 use Rattle.fields.specs.Elements.{xor}
 use Rattle.fields.specs.Lists.{tabulate}
-use Rattle.fields.specs.Places.{at}
-use Rattle.fields.proofs.Lists.{tabulate_at, tabulate_lt}
+use Rattle.fields.proofs.Lists.{tabulate_at, tabulate_is, tabulate_length}
+use Rattle.fields.specs.Steps.Buffers.{Placed}
 use Rattle.fields.proofs.Places.Filling.{Filled, filled_next}
 use Rattle.lanes.specs.Steps.Sliced.{lane_bit, turned}
 use Rattle.lanes.proofs.Sliced.{turned_lt, turned_twice}
 use Rattle.words.specs.Bits.{bit_of, number_of, bit_at}
 use Rattle.words.proofs.Bits.Bytes.{bit_at_lt, places_read, number_of_bits}
-use Rattle.words.proofs.Bits.Numbers.{bit_of_lt, bit_of_number, number_of_lt, number_of_same, number_parts}
+use Rattle.words.proofs.Bits.Numbers.{bit_of_lt, masked_bit, bit_of_number, number_of_same, number_parts}
 use Rattle.inner_words.specs.Steps.BitSliced.{place_at, byte_of64}
 use Rattle.inner_words.specs.Steps.InnerResidues.{swapped, loaded_at, difference_from}
 
 -- ---- eight bytes as a number
 
-pub byte_fits : {x : ℕ} → Fits w8 x → Fits w64 x
-byte_fits h = Fits-widen tt h
+no_bits : (bits : ℕ → ℕ) → number_of 0 bits ≡ 0
+unfolding number_of
+no_bits bits = refl
 
--- one byte more, below
-byte_below : (a w k : ℕ) → w < 256 → k + 8 ≤ 64 → bit_or (a * 2 ^ (k + 8)) (w * 2 ^ k % 2 ^ 64) ≡ (a * 256 + w) * 2 ^ k
-byte_below a w k h l =
-    let e : 8 + k ≡ k + 8 = omega arith in
-    ap (bit_or (a * 2 ^ (k + 8))) (shl_exact 8 k 64 h (omega arith)) ∙ or_shifted a (k + 8) (w * 2 ^ k) (rw e at (shl_lt 8 k h))
-    ∙ rw (pow-add 2 k 8) (omega arith)
+-- bits that are those of eight bytes, the first of them highest
+made : (bits byte : ℕ → ℕ) (xs : List ℕ) → ((m : ℕ) → m < 8 → number_of 8 (λ j. bits (8 * m + j)) ≡ byte m) → ((m : ℕ) → m < 8 → get_or xs m 0 ≡ byte m) →
+    from_be_bytes w64 xs ≡ number_of 64 bits
+made bits byte xs bytes same =
+    let next : (m : ℕ) → m < 8 → number_of (8 * m + 8) bits ≡ number_of (8 * m) bits * 256 + get_or xs m 0 =
+    λ m h. number_parts (8 * m) 8 bits ∙ ap (λ (y : ℕ). number_of (8 * m) bits * 256 + y) (bytes m h ∙ sym (same m h)) in
+    let first : number_of 0 bits ≡ 0 = no_bits bits in
+    let e0 : number_of 8 bits ≡ number_of 0 bits * 256 + get_or xs 0 0 = next 0 (lit< tt) in
+    let e1 : number_of 16 bits ≡ number_of 8 bits * 256 + get_or xs 1 0 = next 1 (lit< tt) in
+    let e2 : number_of 24 bits ≡ number_of 16 bits * 256 + get_or xs 2 0 = next 2 (lit< tt) in
+    let e3 : number_of 32 bits ≡ number_of 24 bits * 256 + get_or xs 3 0 = next 3 (lit< tt) in
+    let e4 : number_of 40 bits ≡ number_of 32 bits * 256 + get_or xs 4 0 = next 4 (lit< tt) in
+    let e5 : number_of 48 bits ≡ number_of 40 bits * 256 + get_or xs 5 0 = next 5 (lit< tt) in
+    let e6 : number_of 56 bits ≡ number_of 48 bits * 256 + get_or xs 6 0 = next 6 (lit< tt) in
+    let e7 : number_of 64 bits ≡ number_of 56 bits * 256 + get_or xs 7 0 = next 7 (lit< tt) in
+    omega arith
 
+-- place p of a list of bytes
 module _ (bytes : List ℕ) (p : ℕ) (small : (i : ℕ) → Fits w8 (get_or bytes i 0)) where
   abbrev bits : ℕ → ℕ
   bits k = bit_at bytes (64 * p + k)
 
-  abbrev byte : ℕ → ℕ
-  byte m = get_or bytes (8 * p + m) 0
-
-  byte_bits : (m : ℕ) → number_of 8 (λ j. bits (8 * m + j)) ≡ byte m
+  byte_bits : (m : ℕ) → number_of 8 (λ j. bits (8 * m + j)) ≡ get_or bytes (8 * p + m) 0
   byte_bits m =
       let i = 64 * p + 8 * m in
       let q : i / 8 ≡ 8 * p + m = omega arith in
       let r : 8 - (i % 8 + 8) ≡ 0 = omega arith in
       number_of_same 8 _ _ (λ j h. ap (bit_at bytes) (omega arith)) ∙ places_read bytes i 8 (omega arith) ∙ rw (q, r) (omega (arith, small (8 * p + m)))
 
-  -- the bytes before byte m, and byte m
-  next_byte : (m : ℕ) {x : ℕ} → m < 8 → x ≡ number_of (8 * m) bits * 2 ^ (64 - 8 * m) →
-      bit_or x (byte m * 2 ^ (56 - 8 * m) % 2 ^ 64) ≡ number_of (8 * m + 8) bits * 2 ^ (56 - 8 * m)
-  next_byte m h e =
-      let k = 56 - 8 * m in
-      let a = number_of (8 * m) bits in
-      let s : 64 - 8 * m ≡ k + 8 = omega arith in
-      ap (λ (y : ℕ). bit_or y (byte m * 2 ^ k % 2 ^ 64)) (e ∙ ap (λ (j : ℕ). a * 2 ^ j) s)
-      ∙ byte_below a (byte m) k (omega (arith, small (8 * p + m))) (omega arith)
-      ∙ ap (λ (y : ℕ). y * 2 ^ k) (sym (number_parts (8 * m) 8 bits ∙ ap (λ (y : ℕ). a * 256 + y) (byte_bits m)))
+  part_at : (m : ℕ) → m < 8 → get_or (take (8 * p + 8 - 8 * p) (drop (8 * p) bytes)) m 0 ≡ get_or bytes (8 * p + m) 0
+  part_at m h = let l : m < 8 * p + 8 - 8 * p = omega arith in rw (get_or-take, get_or-drop)
 
-  pub place_made : bit_or (bit_or (bit_or (bit_or (bit_or (bit_or (bit_or (get_or bytes (8 * p) 0 * 2 ^ 56 % 2 ^ 64) (byte 1 * 2 ^ 48 % 2 ^ 64))
-      (byte 2 * 2 ^ 40 % 2 ^ 64)) (byte 3 * 2 ^ 32 % 2 ^ 64)) (byte 4 * 2 ^ 24 % 2 ^ 64)) (byte 5 * 2 ^ 16 % 2 ^ 64)) (byte 6 * 2 ^ 8 % 2 ^ 64)) (byte 7)
-      ≡ place_at bytes p
+  pub place_made : (xs : List ℕ) → xs ≡ take (8 * p + 8 - 8 * p) (drop (8 * p) bytes) → from_be_bytes w64 xs ≡ place_at bytes p
   unfolding place_at
-  place_made =
-      let e : number_of 8 bits ≡ get_or bytes (8 * p) 0 =
-      number_of_same 8 _ _ (λ j h. ap bits (omega arith)) ∙ byte_bits 0 ∙ ap (λ (i : ℕ). get_or bytes i 0) (omega arith) in
-      let one : get_or bytes (8 * p) 0 * 2 ^ 56 % 2 ^ 64 ≡ number_of 8 bits * 2 ^ 56 = omega (arith, small (8 * p)) in
-      let three = next_byte 2 (lit< tt) (next_byte 1 (lit< tt) one) in
-      let seven = next_byte 6 (lit< tt) (next_byte 5 (lit< tt) (next_byte 4 (lit< tt) (next_byte 3 (lit< tt) three))) in
-      ap (λ (x : ℕ). bit_or x (byte 7)) seven ∙ or_shifted (number_of 56 bits) 8 (byte 7) (omega (arith, small (8 * p + 7)))
-      ∙ sym (number_parts 56 8 bits ∙ ap (λ (y : ℕ). number_of 56 bits * 256 + y) (byte_bits 7))
+  place_made xs e = made bits (λ m. get_or bytes (8 * p + m) 0) xs (λ m h. byte_bits m) (λ m h. rw e (part_at m h))
 
--- eight bytes, the first the lowest
-joined : (f : ℕ → ℕ) → ((m : ℕ) → f m < 256) →
-    bit_or (bit_or (bit_or (bit_or (bit_or (bit_or (bit_or (f 7 * 2 ^ 56 % 2 ^ 64) (f 6 * 2 ^ 48 % 2 ^ 64)) (f 5 * 2 ^ 40 % 2 ^ 64))
-    (f 4 * 2 ^ 32 % 2 ^ 64)) (f 3 * 2 ^ 24 % 2 ^ 64)) (f 2 * 2 ^ 16 % 2 ^ 64)) (f 1 * 2 ^ 8 % 2 ^ 64)) (f 0) ≡ number_of 64 (λ k. bit_of 8 (f (7 - k / 8)) (k % 8))
-unfolding tabulate place_at bit_at
-joined f small = place_made xs 0 (λ i. record { fits = tabulate_lt 256 8 _ (lit< tt) (λ m. small (7 - m)) i }) ∙ number_of_same 64 _ _ bit
-  where
-    xs : List ℕ
-    xs = tabulate 8 (λ m. f (7 - m))
+  pub load_made : (xs : List ℕ) → xs ≡ take (8 * p + 8 - 8 * p) (drop (8 * p) bytes) → from_le_bytes w64 xs ≡ loaded_at bytes p
+  unfolding loaded_at turned tabulate
+  load_made xs e =
+      let same : (m : ℕ) → m < 8 → get_or xs m 0 ≡ get_or bytes (8 * p + m) 0 = λ m h. rw e (part_at m h) in
+      let swap : from_le_bytes w64 xs ≡ from_be_bytes w64 (tabulate 8 (λ m. get_or xs (7 - m) 0)) = omega arith in
+      swap ∙ made (λ k. bit_at bytes (64 * p + (8 * (7 - k / 8) + k % 8))) (λ m. get_or xs (7 - m) 0) (tabulate 8 (λ m. get_or xs (7 - m) 0))
+      (λ m h. number_of_same 8 _ (λ j. bits (8 * (7 - m) + j)) (λ j l. let q : (8 * m + j) / 8 ≡ m = omega arith in let r : (8 * m + j) % 8 ≡ j = omega arith in rw (q, r))
+      ∙ byte_bits (7 - m) ∙ sym (same (7 - m) (omega arith)))
+      (λ m h. tabulate_at 8 (λ m. get_or xs (7 - m) 0) m 0 h)
 
-    bit : (k : ℕ) → k < 64 → bit_of 8 (at xs ((64 * 0 + k) / 8)) ((64 * 0 + k) % 8) ≡ bit_of 8 (f (7 - k / 8)) (k % 8)
-    bit k l =
-        let e : 64 * 0 + k ≡ k = omega arith in
-        rw e (ap (λ (x : ℕ). bit_of 8 x (k % 8)) (tabulate_at 8 (λ m. f (7 - m)) (k / 8) 0 (omega arith)))
+-- the bit of inner word k, tested
+one_or_none : (b : ℕ) → b < 2 → ◌≡◌ {A = ℕ} (cond (eqb b 1) 1 0) b
+one_or_none zero h = refl
+one_or_none (suc zero) h = refl
+one_or_none (suc (suc b)) h = absurd (omega arith)
 
--- byte m of place p
-abbrev byte_in : List ℕ → ℕ → ℕ → ℕ
-byte_in bytes p zero = get_or bytes (8 * p) 0
-byte_in bytes p (suc m) = get_or bytes (8 * p + suc m) 0
-
-byte_in_lem : (bytes : List ℕ) (p m : ℕ) → byte_in bytes p m ≡ get_or bytes (8 * p + m) 0
-byte_in_lem bytes p zero = ap (λ (i : ℕ). get_or bytes i 0) (sym (add-zero (8 * p)))
-byte_in_lem bytes p (suc m) = refl
-
-pub load_made : (bytes : List ℕ) (p : ℕ) → ((i : ℕ) → Fits w8 (get_or bytes i 0)) →
-    bit_or (bit_or (bit_or (bit_or (bit_or (bit_or (bit_or (get_or bytes (8 * p + 7) 0 * 2 ^ 56 % 2 ^ 64) (get_or bytes (8 * p + 6) 0 * 2 ^ 48 % 2 ^ 64)) (get_or bytes (8 * p + 5) 0 * 2 ^ 40 % 2 ^ 64))
-    (get_or bytes (8 * p + 4) 0 * 2 ^ 32 % 2 ^ 64)) (get_or bytes (8 * p + 3) 0 * 2 ^ 24 % 2 ^ 64)) (get_or bytes (8 * p + 2) 0 * 2 ^ 16 % 2 ^ 64)) (get_or bytes (8 * p + 1) 0 * 2 ^ 8 % 2 ^ 64)) (get_or bytes (8 * p) 0) ≡ loaded_at bytes p
-unfolding loaded_at turned bit_at
-load_made bytes p small =
-    joined (byte_in bytes p) (λ m. rw (byte_in_lem bytes p m) (omega (arith, small (8 * p + m))))
-    ∙ number_of_same 64 _ _ (λ k l. let q : (64 * p + (8 * (7 - k / 8) + k % 8)) / 8 ≡ 8 * p + (7 - k / 8) = omega arith in
-    let r : (64 * p + (8 * (7 - k / 8) + k % 8)) % 8 ≡ k % 8 = omega arith in
-    rw (q, r) (ap (λ (x : ℕ). bit_of 8 x (k % 8)) (byte_in_lem bytes p (7 - k / 8))))
+pub bit_has : (x k : ℕ) → k < 64 → ◌≡◌ {A = ℕ} (cond (eqb (bit_and (x / 2 ^ (63 - k)) 1) 1) 1 0) (bit_of 64 x k)
+bit_has x k h =
+    ap {B = ℕ} (λ (b : ℕ). cond (eqb b 1) 1 0) (masked_bit 64 x k (63 - k) (omega arith)) ∙ one_or_none (bit_of 64 x k) (bit_of_lt 64 x k)
 
 -- the bit of inner word k
 lane_bit_lem : (k x : ℕ) → lane_bit k x ≡ bit_of 64 x k
@@ -127,24 +108,70 @@ difference_next block frame out p q x y so_far l ex ey = filled_next so_far l (a
 
 -- ---- the bytes of a number
 
-pub byte_made : (x j : ℕ) → j < 8 → bit_and (x / 2 ^ (56 - 8 * j)) 255 ≡ byte_of64 x j
+byte_is : (x j : ℕ) → j < 8 → x / 2 ^ (56 - 8 * j) % 2 ^ 8 ≡ byte_of64 x j
 unfolding byte_of64
-byte_made x j h =
+byte_is x j h =
     let e : 56 - 8 * j ≡ 64 - (8 * j + 8) = omega arith in
-    and_mask (x / 2 ^ (56 - 8 * j)) 8 ∙ ap (λ (k : ℕ). x / 2 ^ k % 2 ^ 8) e ∙ sym (number_of_bits 64 x (8 * j) 8 (omega arith))
+    ap (λ (k : ℕ). x / 2 ^ k % 2 ^ 8) e ∙ sym (number_of_bits 64 x (8 * j) 8 (omega arith))
 
-byte_lt : (x j : ℕ) → byte_of64 x j < 256
-unfolding byte_of64
-byte_lt x j = number_of_lt _ (λ i. bit_of_lt 64 x (8 * j + i)) 8
+last_byte : (x : ℕ) → x % 256 ≡ byte_of64 x 7
+last_byte x = omega (arith, byte_is x 7 (lit< tt))
+
+pub bytes_made : (x : ℕ) → to_be_bytes w64 x ≡ tabulate 8 (byte_of64 x)
+bytes_made x = tabulate_is 8 (byte_of64 x) (to_be_bytes w64 x) 0 refl each
+  where
+    each : (j : ℕ) → j < 8 → get_or (to_be_bytes w64 x) j 0 ≡ byte_of64 x j
+    each zero h = byte_is x 0 h
+    each (suc zero) h = byte_is x 1 h
+    each (suc (suc zero)) h = byte_is x 2 h
+    each (suc (suc (suc zero))) h = byte_is x 3 h
+    each (suc (suc (suc (suc zero)))) h = byte_is x 4 h
+    each (suc (suc (suc (suc (suc zero))))) h = byte_is x 5 h
+    each (suc (suc (suc (suc (suc (suc zero)))))) h = byte_is x 6 h
+    each (suc (suc (suc (suc (suc (suc (suc zero))))))) h = last_byte x
+    each (suc (suc (suc (suc (suc (suc (suc (suc j)))))))) h = absurd (omega arith)
 
 pub byte_bit : (x j i : ℕ) → i < 8 → bit_of 8 (byte_of64 x j) i ≡ bit_of 64 x (8 * j + i)
 unfolding byte_of64
 byte_bit x j i h = bit_of_number (λ i. bit_of 64 x (8 * j + i)) (λ i. bit_of_lt 64 x (8 * j + i)) 8 i h
 
-pub swapped_made : (x : ℕ) {b7 b6 b5 b4 b3 b2 b1 b0 : ℕ} → b7 ≡ byte_of64 x 7 → b6 ≡ byte_of64 x 6 → b5 ≡ byte_of64 x 5 → b4 ≡ byte_of64 x 4 → b3 ≡ byte_of64 x 3 →
-    b2 ≡ byte_of64 x 2 → b1 ≡ byte_of64 x 1 → b0 ≡ byte_of64 x 0 →
-    bit_or (bit_or (bit_or (bit_or (bit_or (bit_or (bit_or (b7 * 2 ^ 56 % 2 ^ 64) (b6 * 2 ^ 48 % 2 ^ 64)) (b5 * 2 ^ 40 % 2 ^ 64))
-    (b4 * 2 ^ 32 % 2 ^ 64)) (b3 * 2 ^ 24 % 2 ^ 64)) (b2 * 2 ^ 16 % 2 ^ 64)) (b1 * 2 ^ 8 % 2 ^ 64)) b0 ≡ swapped x
+unfold_byte : (x m : ℕ) → number_of 8 (λ j. bit_of 64 x (8 * m + j)) ≡ byte_of64 x m
+unfolding byte_of64
+unfold_byte x m = refl
+
+-- the last byte first
+pub swapped_made : (x : ℕ) → swap_bytes w64 x ≡ swapped x
 unfolding swapped turned
-swapped_made x e7 e6 e5 e4 e3 e2 e1 e0 =
-    rw (e7, e6, e5, e4, e3, e2, e1, e0) (joined (byte_of64 x) (byte_lt x) ∙ number_of_same 64 _ _ (λ k l. byte_bit x (7 - k / 8) (k % 8) (omega arith)))
+swapped_made x =
+    made (λ k. bit_of 64 x (8 * (7 - k / 8) + k % 8)) (λ m. byte_of64 x (7 - m)) (to_le_bytes w64 x)
+    (λ m h. number_of_same 8 _ (λ j. bit_of 64 x (8 * (7 - m) + j)) (λ j l. let q : (8 * m + j) / 8 ≡ m = omega arith in let r : (8 * m + j) % 8 ≡ j = omega arith in rw (q, r)) ∙ unfold_byte x (7 - m))
+    each
+  where
+    each : (m : ℕ) → m < 8 → get_or (to_le_bytes w64 x) m 0 ≡ byte_of64 x (7 - m)
+    each zero h = last_byte x
+    each (suc zero) h = byte_is x 6 (lit< tt)
+    each (suc (suc zero)) h = byte_is x 5 (lit< tt)
+    each (suc (suc (suc zero))) h = byte_is x 4 (lit< tt)
+    each (suc (suc (suc (suc zero)))) h = byte_is x 3 (lit< tt)
+    each (suc (suc (suc (suc (suc zero))))) h = byte_is x 2 (lit< tt)
+    each (suc (suc (suc (suc (suc (suc zero)))))) h = byte_is x 1 (lit< tt)
+    each (suc (suc (suc (suc (suc (suc (suc zero))))))) h = byte_is x 0 (lit< tt)
+    each (suc (suc (suc (suc (suc (suc (suc (suc j)))))))) h = absurd (omega arith)
+
+-- ---- a part of a buffer written
+
+pub placed_mid : (i k : ℕ) (xs before : List ℕ) → length xs ≡ k → i + k ≤ length before → Placed i xs before (put_mid i k before xs)
+placed_mid i k xs before e room =
+    record {
+      long = search (rules, places);
+      inside = λ j h. search (rules, places);
+      below = λ j h. search (rules, places);
+      above = λ j h. search (rules, places);
+    }
+
+pub place_put : (before : List ℕ) (p x : ℕ) (xs : List ℕ) → p < 2040 → xs ≡ to_be_bytes w64 x → length before ≡ 16320 →
+    Placed (8 * p) (tabulate 8 (byte_of64 x)) before (put_mid (8 * p) (8 * p + 8 - 8 * p) before xs)
+place_put before p x xs h e long =
+    let k : 8 * p + 8 - 8 * p ≡ 8 = omega arith in
+    let q : xs ≡ tabulate 8 (byte_of64 x) = e ∙ bytes_made x in
+    rw (q, k) (placed_mid (8 * p) 8 (tabulate 8 (byte_of64 x)) before (tabulate_length 8 (byte_of64 x)) (omega arith))

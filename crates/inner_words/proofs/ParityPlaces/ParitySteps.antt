@@ -1,9 +1,10 @@
 -- What the functions compute that make parity places of residues. Assumes nothing.
 use mathlib.Core.Path.{◌≡◌, refl, ap, ap₂, ◌∙◌}
 use mathlib.Core.List.{List, [], ◌∷◌}
-use Prim.Native.Nat.{ℕ, suc, ◌+◌, ◌*◌, ◌/◌, ◌%◌, ◌≤◌, ◌<◌}
+use Prim.Native.Nat.{ℕ, suc, ◌+◌, ◌-◌, ◌*◌, ◌/◌, ◌%◌, ◌≤◌, ◌<◌}
 use native.Mathlib.Nat.{add-zero}
 use native.Mathlib.Omega.{arith}
+use borrow.Rule.Slice.PartMut.{put_mid}
 use lib.Bits.{bit_xor}
 use lib.ListN.{length, get_or, set, replicate, length-replicate}
 use mir.Syntax.{w8}
@@ -11,7 +12,6 @@ use mir.Val.{Fits}
 use Rattle.fields.specs.Elements.{xor, scale}
 use Rattle.fields.specs.Lists.{tabulate}
 use Rattle.fields.specs.Places.{at}
-use Rattle.fields.specs.Steps.Buffers.{Placed}
 use Rattle.fields.proofs.Lists.{tabulate_at, tabulate_length}
 use Rattle.fields.proofs.Xor.{xor_zero_l, xor_zero_r}
 use Rattle.fields.proofs.Places.Filling.{Filled, filled_start, filled_next, filled_end}
@@ -19,6 +19,7 @@ use Rattle.decoding.specs.Steps.Decoder.{xor_to}
 use Rattle.words.specs.Bits.{bit_of, number_of, bit_at}
 use Rattle.words.proofs.Bits.Bytes.{places_read}
 use Rattle.inner_words.specs.Steps.ParityMatrix.{parity_matrix, four_sum, four_sums, parity_sum, parity_sums}
+use Rattle.inner_words.proofs.Interleaving.EightBytes.{placed_mid}
 use Rattle.inner_words.proofs.Remainders.ResidueSteps.{filled_placed}
 
 -- ---- sums of four
@@ -41,13 +42,14 @@ module _ (xs : List ℕ) where
   pub sums_start : Filled 352 sum_at (16 * 0) (replicate 352 0)
   sums_start = filled_start (length-replicate {A = ℕ} 352 0)
 
-  pub sums_next : (g : ℕ) (ys before after : List ℕ) → Filled 352 sum_at (16 * g) before → g < 22 →
+  pub sums_next : (g : ℕ) (ys zs before : List ℕ) → Filled 352 sum_at (16 * g) before → g < 22 → zs ≡ ys →
       ys ≡ tabulate 16 (four_sum (get_or xs (4 * g) 0 ∷ get_or xs (4 * g + 1) 0 ∷ get_or xs (4 * g + 2) 0 ∷ get_or xs (4 * g + 3) 0 ∷ []) 0) →
-      Placed (16 * g) ys before after → Filled 352 sum_at (16 * (g + 1)) after
+      Filled 352 sum_at (16 * (g + 1)) (put_mid (16 * g) (16 * (g + 1) - 16 * g) before zs)
   unfolding sum_at
-  sums_next g ys before after f h ey p =
+  sums_next g ys zs before f h ez ey =
       let e : 16 * g + length ys ≡ 16 * (g + 1) = omega (arith, long) in
-      rw e at (filled_placed f p (omega (arith, long)) number)
+      let p = placed_mid (16 * g) (16 * (g + 1) - 16 * g) ys before (omega (arith, long)) (omega (arith, f.long)) in
+      rw ez (rw e at (filled_placed f p (omega (arith, long)) number))
     where
       long : length ys ≡ 16
       long = ap length ey ∙ tabulate_length 16 _

@@ -6,7 +6,7 @@ use native.Mathlib.Decide.{ℕ_discrete, dec_lt}
 use native.Mathlib.Nat.{not-suc-le-zero}
 use native.Mathlib.Omega.{arith}
 use lib.Bits.{bit_and, bit_xor}
-use lib.ListN.{length, set}
+use lib.ListN.{length}
 use Rattle.fields.specs.Lists.{tabulate}
 use Rattle.fields.specs.Elements.{xor, scale}
 use Rattle.fields.specs.Places.{at, differs, apart}
@@ -14,7 +14,6 @@ use Rattle.fields.specs.Steps.Buffers.{Placed}
 use Rattle.fields.proofs.Lists.{tabulate_at, tabulate_length, tabulate_same}
 use Rattle.fields.proofs.Xor.{xor_cancel, xor_zero_r}
 use Rattle.fields.proofs.Places.Counting.{sum_same}
-use Rattle.fields.proofs.Places.Placing.{Placing, placing_next, placing_end}
 use Rattle.fields.proofs.Places.Differences.{apart_tables}
 use Rattle.decoding.proofs.Decoding.Changes.{differs_sum}
 use Rattle.words.specs.Bits.{bit_of, bit_at}
@@ -28,15 +27,6 @@ use Rattle.inner_words.proofs.Interleaving.BitSliced.{place_bit, bit_product}
 use Rattle.inner_words.proofs.Passes.Counts.{bit_is}
 
 -- ---- one place of every inner word, written
-
-pub putting_byte : (x : ℕ) {i j v : ℕ} {before after : List ℕ} → Placing i (tabulate 8 (byte_of64 x)) j before after → j < 8 → i + 8 ≤ length before → v ≡ byte_of64 x j →
-    Placing i (tabulate 8 (byte_of64 x)) (j + 1) before (set after (i + j) v)
-putting_byte x {i} {j} s l room e =
-    let eight = tabulate_length 8 (byte_of64 x) in
-    placing_next s (omega (arith, eight)) (omega (arith, eight)) (e ∙ sym (tabulate_at 8 (byte_of64 x) j 0 l))
-
-pub putting_all : (x : ℕ) {i j : ℕ} {before after : List ℕ} → Placing i (tabulate 8 (byte_of64 x)) j before after → 8 ≤ j → Placed i (tabulate 8 (byte_of64 x)) before after
-putting_all x s l = placing_end s (omega (arith, tabulate_length 8 (byte_of64 x)))
 
 -- the bits of a place that is written, and of the others
 module _ (p x : ℕ) (before after : List ℕ) (s : Placed (8 * p) (tabulate 8 (byte_of64 x)) before after) where

@@ -1,18 +1,18 @@
 -- The inner pass: what an inner word is restored to, and all inner words of a block one after the other. Assumes nothing.
 use mathlib.Core.Path.{◌≡◌, refl, sym, ap, ap₂, ◌∙◌}
-use mathlib.Core.Bool.{Bool, true, false, cond}
-use mathlib.Core.List.{List}
+use mathlib.Core.Bool.{Bool, true, false, not, cond}
+use mathlib.Core.List.{List, ◌++◌}
 use mathlib.Core.Option.{Option, none, some, get_or, map}
-use Prim.Native.Nat.{ℕ, ◌+◌, ◌-◌, ◌*◌, ◌/◌, ◌%◌, ◌^◌, ◌≤◌, ◌<◌, zero-le}
+use Prim.Native.Nat.{ℕ, ◌+◌, ◌*◌, ◌/◌, ◌%◌, ◌^◌, ◌≤◌, ◌<◌, zero-le}
 use native.Mathlib.Decide.{ℕ_discrete}
 use native.Mathlib.Nat.{le_refl, not-suc-le-zero}
 use native.Mathlib.Numerals.{add-one}
 use native.Mathlib.Omega.{arith}
-use lib.Bits.{bit_and}
-use lib.ListN.{length}
+use lib.ListN.{length, drop}
 use lib.Pow.{pow_mono}
 use mir.Syntax.{w64}
-use mir.Val.{Fits}
+use mir.Val.{Fits, bool_byte}
+use Rattle.std.specs.Array.{IsFirstChunk}
 use Rattle.fields.specs.Places.{at}
 use Rattle.fields.proofs.Lists.{tabulate_same}
 use Rattle.fields.proofs.Places.Differences.{apart_self}
@@ -20,11 +20,12 @@ use Rattle.words.specs.Bits.{bit_of, number_of, bit_at}
 use Rattle.words.specs.InnerCode.{is_inner}
 use Rattle.words.specs.Nearest.{is_some, nearest}
 use Rattle.words.specs.InnerWords.{inner_word, inner_restored, inner_pass, is_lost}
-use Rattle.words.proofs.Bits.Numbers.{bit_of_lt, bit_of_zero, masked_bit, number_of_lt, number_of_same}
+use Rattle.words.proofs.Bits.Numbers.{bit_of_zero, number_of_lt, number_of_same}
 use Rattle.words.proofs.Codes.InnerWords.{inner_is}
 use Rattle.words.proofs.Codes.Proved.{codes}
 use Rattle.inner_words.specs.Steps.InnerResidues.{residues_of, WordResidues}
 use Rattle.inner_words.specs.Steps.Passes.{wrong_words, lost_words, WordRestored, WordNearer, OneWord, EachWord, InnerPassed}
+use Rattle.inner_words.proofs.Interleaving.LentBlock.{lent_whole, lent_back}
 use Rattle.inner_words.proofs.Interleaving.InterleavedBits.{bit_to_place, inner_word_length}
 use Rattle.inner_words.proofs.Remainders.ResidueCodes.{whole_residues, residues_kept}
 use Rattle.inner_words.proofs.Passes.WrongWords.{wrong_lt, wrong_other, wrong_not, wrong_no, wrong_bit}
@@ -90,35 +91,6 @@ pub word_stays : {P : List ℕ → List ℕ → Type 0} {block : List ℕ} {k bi
     P (inner_word (bit_at block) k) (inner_word (bit_at block) k) → OneWord P k block block bit
 word_stays told p = record { long = refl; told = told; word = p; others = λ j h n. refl }
 
--- the bit of inner word k among those that are wrong is set, or is not
-pub wrong_set : (k x : ℕ) → bit_and (x / 2 ^ (63 - k)) 1 ≡ 1 → k < 64 → bit_of 64 x k ≡ 1
-wrong_set k x e l = sym (masked_bit 64 x k (63 - k) (omega arith)) ∙ e
-
-wrong_unset : (k x : ℕ) → (bit_and (x / 2 ^ (63 - k)) 1 ≡ 1 → ⊥) → k < 64 → bit_of 64 x k ≡ 0
-wrong_unset k x n l = omega (arith, masked_bit 64 x k (63 - k) (omega arith), bit_of_lt 64 x k)
-
-module _ (block : List ℕ) (k x : ℕ) (told : bit_of 64 x k ≡ wrong_at block k) (l : k < 64) where
-  abbrev w : List ℕ
-  w = inner_word (bit_at block) k
-
-  pub wrong_residues : (residues : List ℕ) → (bit_of 64 x k ≡ 1 → WordResidues residues k block) → bit_and (x / 2 ^ (63 - k)) 1 ≡ 1 →
-      WordResidues residues k block
-  wrong_residues residues R e = R (wrong_set k x e l)
-
-  pub wrong_stays : bit_and (x / 2 ^ (63 - k)) 1 ≡ 1 → (after : List ℕ) (r : Bool) → (r ≡ false → after ≡ block) → r ≡ false → OneWord WordNearer k block after 1
-  wrong_stays e after r same f = rw (same f) (word_stays (sym (wrong_set k x e l) ∙ told) (nearer_self w))
-
-  -- a word that is not among those that are wrong is a code word
-  module _ (n : bit_and (x / 2 ^ (63 - k)) 1 ≡ 1 → ⊥) where
-    right : 0 ≡ wrong_at block k
-    right = sym (wrong_unset k x n l) ∙ told
-
-    pub right_nearer : OneWord WordNearer k block block 0
-    right_nearer = word_stays right (nearer_self w)
-
-    pub right_restored : OneWord WordRestored k block block 0
-    right_restored = word_stays right (record { is = sym (restored_code w (wrong_not (is_inner w) (sym right))) })
-
 -- an inner word that is restored to a code word has come nearer
 pub restored_nearer : (k : ℕ) (before after : List ℕ) (r : Bool) → (r ≡ true → OneWord WordRestored k before after 0) → r ≡ true →
     OneWord WordNearer k before after 0
@@ -135,6 +107,27 @@ restored_nearer k before after r corrected t =
       };
       others = o.others;
     }
+
+-- inner word k is among those that are wrong, or is not
+module _ (block : List ℕ) (k x : ℕ) (t : Bool) (among : ◌≡◌ {A = ℕ} (cond t 1 0) (bit_of 64 x k)) (told : bit_of 64 x k ≡ wrong_at block k) where
+  abbrev w : List ℕ
+  w = inner_word (bit_at block) k
+
+  wrong_set : t ≡ true → bit_of 64 x k ≡ 1
+  wrong_set e = sym among ∙ ap {B = ℕ} (λ (t : Bool). cond t 1 0) e
+
+  -- what a try leaves
+  pub tried_nearer : t ≡ true → (after : List ℕ) (r : Bool) → (r ≡ true → OneWord WordRestored k block after 0) → (r ≡ false → after ≡ block) →
+      OneWord WordNearer k block after (cond (not r) 1 0)
+  tried_nearer e after true corrected same = restored_nearer k block after true corrected refl
+  tried_nearer e after false corrected same = rw (same refl) (word_stays (sym (wrong_set e) ∙ told) (nearer_self w))
+
+  -- a word that is not among those that are wrong is a code word
+  right : t ≡ false → 0 ≡ wrong_at block k
+  right e = ap {B = ℕ} (λ (t : Bool). cond t 1 0) (sym e) ∙ among ∙ told
+
+  pub right_restored : t ≡ false → OneWord WordRestored k block block 0
+  right_restored e = word_stays (right e) (record { is = sym (restored_code w (wrong_not (is_inner w) (sym (right e)))) })
 
 -- ---- the inner words one after the other
 
@@ -196,6 +189,11 @@ module _ {P : List ℕ → List ℕ → Type 0} where
     pub going_end : 64 ≤ k → EachWord P before after
     going_end h = record { long = s.long; word = λ j l. s.done j (omega arith) }
 
+-- an answer as a number
+pub as_bit : (t : Bool) → ◌≡◌ {A = ℕ} (bool_byte t) (cond t 1 0)
+as_bit true = refl
+as_bit false = refl
+
 -- ---- one way after the other
 
 pub nearer_twice : (before mid after : List ℕ) → EachWord WordNearer before mid → EachWord WordNearer mid after → EachWord WordNearer before after
@@ -243,3 +241,10 @@ pass_restored before after x r told =
 pub nearer_restored : (before mid after : List ℕ) → EachWord WordNearer before mid → EachWord WordRestored mid after → EachWord WordRestored before after
 nearer_restored before mid after n r =
     record { long = r.long ∙ n.long; word = λ k l. record { is = (r.word k l).is ∙ (n.word k l).same } }
+
+-- over a block that is lent as an array
+pub pass_lent : (block array after : List ℕ) {x : ℕ} → IsFirstChunk block array 16320 → length block ≡ 16320 → EachWord WordRestored array after →
+    x ≡ wrong_words (bit_at after) → InnerPassed block (after ++ drop 16320 block) x
+pass_lent block array after {x} f long r told =
+    let e = lent_whole block array f long in
+    rw (lent_back block after long) (rw e at (pass_restored array after x r told))

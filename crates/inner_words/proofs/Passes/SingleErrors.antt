@@ -1,25 +1,26 @@
 -- An inner word with a single wrong place: its values are the odd powers of the place's locator. Assumes nothing.
-use mathlib.Core.Path.{◌≡◌, refl, sym, ap, ap₂, ◌∙◌}
+use mathlib.Core.Path.{◌≡◌, refl, sym, ap, ap₂, subst, ◌∙◌}
 use mathlib.Core.Bool.{Bool, true, false, not, cond}
 use mathlib.Core.List.{List, [], ◌∷◌}
-use Prim.Native.Nat.{ℕ, zero, suc, ◌+◌, ◌-◌, ◌*◌, ◌%◌, ◌≤◌, ◌<◌}
+use Prim.Native.Nat.{ℕ, zero, suc, ◌+◌, ◌-◌, ◌*◌, ◌%◌, ◌≤◌, ◌<◌, zero-le}
 use native.Mathlib.Decide.{ℕ_discrete}
-use native.Mathlib.Nat.{le_refl, mul-le-mul_right, not-suc-le-zero, one-mul, zero-mul}
-use native.Mathlib.Numerals.{add-one}
+use native.Mathlib.Nat.{le_refl, not-suc-le-zero, one-mul, zero-mul}
+use native.Mathlib.Numerals.{one-add}
 use native.Mathlib.Omega.{arith}
 use borrow.Author.Tests.{eq-eqb, eqb-true, ne_eqb, not-false}
 use lib.Dec.{eqb, lit<}
 use lib.ListN.{length, get_or}
-use mir.Syntax.{w64}
-use mir.Val.{Fits}
+use Rattle.std.specs.Bool.{MatchBool}
+use Rattle.std.specs.List.{AllWithin, HoldsAt, range_with_len}
+use Rattle.std.proofs.lemmas.List.FromFn.{get_or-range_with_len}
 use Rattle.fields.specs.Elements.{xor, powers_b}
 use Rattle.fields.specs.Steps.ByTables.{table_power}
-use Rattle.fields.specs.Places.{at, every, value, differs, apart}
+use Rattle.fields.specs.Places.{at, value, differs, apart}
 use Rattle.fields.proofs.ByTables.{table_power_lem}
 use Rattle.fields.proofs.Instances.{field_b}
 use Rattle.fields.proofs.Lists.{tabulate_is}
 use Rattle.fields.proofs.Xor.{xor_lt, xor_self, xor_zero_l, xor_zero_r}
-use Rattle.fields.proofs.Places.Tests.{every_at, every_false, below_all}
+use Rattle.fields.proofs.Places.Tests.{every_at, every_false, every_true, below_all}
 use Rattle.decoding.specs.Steps.Decoder.{xor_to, error_at, with_errors}
 use Rattle.decoding.proofs.Algebra.Tables.{powers_length}
 use Rattle.decoding.proofs.Decoding.Changes.{error_lt, weight_most, errors_length, errors_at, apart_errors}
@@ -39,9 +40,12 @@ use Rattle.inner_words.proofs.Passes.WordErrors.{odd_syndrome_word}
 
 -- ---- its values
 
-pub power_is : (es : List ℕ) (n : ℕ) → length es ≡ 2047 → get_or es (n % 2047) 0 ≡ table_power es n
+pub powers_are : (es : List ℕ) → es ≡ powers_b → length es ≡ 2047
+powers_are es e = rw (e, powers_length 11 2053 field_b)
+
+pub power_is : (es : List ℕ) (n : ℕ) → es ≡ powers_b → get_or es (n % 2047) 0 ≡ table_power powers_b n
 unfolding table_power
-power_is es n e = rw e
+power_is es n e = rw (e, powers_length 11 2053 field_b)
 
 -- a sum with a single term
 only_before : (m q : ℕ) (f : ℕ → ℕ) → m ≤ q → ((i : ℕ) → i < m → (i ≡ q → ⊥) → f i ≡ 0) → xor_to m f ≡ 0
@@ -83,44 +87,28 @@ one_value e i h =
 
 -- ---- all of them tested
 
--- the values at a, a^3, .. before a^(2j+1) are those of a single wrong place
-unfoldable pub single_up_to : List ℕ → List ℕ → ℕ → ℕ → ℕ → Bool
-single_up_to es residues k e j = every j (λ j. eqb (odd_syndrome es residues k j) (table_power es ((2 * j + 1) * e)))
-
 module _ (es residues : List ℕ) (k e : ℕ) where
-  pub single_first : odd_syndrome es residues k 0 ≡ table_power es e → single_up_to es residues k e 1 ≡ true
-  unfolding single_up_to every
-  single_first q = let n : (2 * 0 + 1) * e ≡ e = omega arith in rw n (eq-eqb _ _ q)
+  -- the value at a^(2j+1) is that of a single wrong place
+  abbrev pub Single : ℕ → Type 0
+  Single j = odd_syndrome es residues k j ≡ table_power es ((2 * j + 1) * e)
 
-  pub single_exponent : (j : ℕ) → j < 8 → e < 2040 → Fits w64 ((2 * j + 1) * e)
-  single_exponent j h l = record { fits = (let m : (2 * j + 1) * e ≤ 15 * e = mul-le-mul_right e (omega arith) in omega arith) }
+  after_first : (i : ℕ) → i < 7 → get_or (range_with_len 1 7) i 0 ≡ suc i
+  after_first i l = get_or-range_with_len 1 7 i 0 l ∙ one-add i
 
-  module _ (j v x : ℕ) (ev : v ≡ odd_syndrome es residues k j) (ex : x ≡ table_power es ((2 * j + 1) * e)) where
-    pub single_not : j < 8 → (v ≡ x → ⊥) → false ≡ is_single es residues k e
-    unfolding is_single
-    single_not h n = sym (every_false 8 _ j h (ne_eqb _ _ (λ q. n (ev ∙ q ∙ sym ex))))
-
-    pub single_next : v ≡ x → single_up_to es residues k e j ≡ true → single_up_to es residues k e (j + 1) ≡ true
-    unfolding single_up_to every
-    single_next q so_far = rw (add-one, so_far) (eq-eqb _ _ (sym ev ∙ q ∙ ex))
-
-  pub single_end : (j : ℕ) → single_up_to es residues k e j ≡ true → j ≤ 8 → 8 ≤ j → true ≡ is_single es residues k e
-  unfolding single_up_to is_single
-  single_end j so_far l h = let q : j ≡ 8 = omega arith in sym (rw q at so_far)
+  pub single_all : (r : Bool) → odd_syndrome es residues k 0 ≡ table_power es e →
+      MatchBool r (AllWithin Single (range_with_len 1 7) 0 7) ((i : ℕ) × (i < 7) × HoldsAt (λ j. Single j → ⊥) (range_with_len 1 7) i) → r ≡ is_single es residues k e
+  unfolding is_single
+  single_all true q all = sym (every_true 8 _ (λ j l. eq-eqb _ _ (here j l)))
+    where
+      here : (j : ℕ) → j < 8 → Single j
+      here zero l = let n : (2 * 0 + 1) * e ≡ e = omega arith in rw n q
+      here (suc i) l = subst Single (after_first i (omega arith)) (all i 0 zero-le (omega arith))
+  single_all false q (i, l, differs_there) = sym (every_false 8 _ (suc i) (omega arith) (ne_eqb _ _ (λ s. differs_there 0 (subst Single (sym (after_first i l)) s))))
 
 -- ---- the place inverted
 
-pub untrue : {A : Type 0} → false ≡ true → A
-untrue e = absurd (omega (arith, ap {B = ℕ} (λ (x : Bool). cond x 1 0) e))
-
-pub unfalse : {A : Type 0} → true ≡ false → A
-unfalse e = absurd (omega (arith, ap {B = ℕ} (λ (x : Bool). cond x 1 0) e))
-
 pub value_given : (es residues : List ℕ) (k e x p : ℕ) → x ≡ odd_syndrome es residues k 0 → p ≡ table_power es e → x ≡ p → odd_syndrome es residues k 0 ≡ table_power es e
 value_given es residues k e x p ex ep q = sym ex ∙ q ∙ ep
-
-pub powers_are : (es : List ℕ) → es ≡ powers_b → length es ≡ 2047
-powers_are es e = rw (e, powers_length 11 2053 field_b)
 
 one_differs : differs 1 0 ≡ 1
 unfolding differs

@@ -1,24 +1,25 @@
 -- Inner words that candidates invert in more than eight places, counted bit-sliced. Assumes nothing.
-use mathlib.Core.Path.{◌≡◌, sym, ap, ap₂, ◌∙◌}
+use mathlib.Core.Path.{◌≡◌, refl, sym, ap, ap₂, ◌∙◌}
 use mathlib.Core.Bool.{Bool, true, false, cond}
 use mathlib.Core.List.{List}
 use Prim.Native.Nat.{ℕ, zero, suc, ◌+◌, ◌^◌, ◌≤◌, ◌<◌, zero-le}
-use native.Mathlib.Decide.{dec_le, dec_lt}
+use native.Mathlib.Decide.{ℕ_discrete, dec_le, dec_lt}
 use native.Mathlib.Nat.{add-zero}
 use native.Mathlib.Numerals.{add-one}
 use native.Mathlib.Omega.{arith}
 use borrow.Author.Tests.{lt-ltb, le-ltb}
 use lib.Bits.{bit_and, bit_or, and_le_r, and_zero_r, or_zero_r, or_lt}
-use lib.Dec.{ltb, lit<}
-use lib.ListN.{get_or}
+use lib.Dec.{ltb, lit<, lit≤}
+use lib.ListN.{length, get_or, set, replicate, length-set}
+use lib.Seq.{get_or-set_same, get_or-set_other}
 use mir.Syntax.{w64}
 use mir.Val.{Fits}
 use Rattle.fields.specs.Elements.{scale}
 use Rattle.fields.specs.Places.{at, sum_to}
+use Rattle.fields.proofs.Places.Filling.{zeros_at}
 use Rattle.words.specs.Bits.{bit_of}
 use Rattle.words.proofs.Bits.Numbers.{bit_of_lt, bit_of_zero, number_of_same, number_of_bits_lem}
 use Rattle.words.proofs.Codes.Horner.{scale_one, scale_zero}
-use Rattle.inner_words.specs.declared.candidates.Above.{Above}
 use Rattle.inner_words.specs.Steps.Candidates.{above, Raised, flips_in, too_many}
 use Rattle.inner_words.proofs.Interleaving.BitSliced.{bit_or_lem, bit_product}
 
@@ -70,81 +71,86 @@ above_next j n (suc (suc b)) h = absurd (omega arith)
 
 -- ---- one place more
 
-pub raised_none : (s : Above) (x : ℕ) → x ≡ 0 → Raised s x s
-raised_none s x e =
+pub raised_none : (s : List ℕ) (x : ℕ) → x ≡ 0 → Raised s x s
+raised_none s x e = record { first = rw e (sym (or_zero_r (at s 0))); later = λ j h. rw (e, and_zero_r (at s j)) (sym (or_zero_r (at s (suc j)))) }
+
+-- the invariant: the numbers above j have what they get, the others what they had
+pub record Going (s : List ℕ) (x j : ℕ) (r : List ℕ) : Type 0 where
+  pub long : length r ≡ 9
+  pub done : (i : ℕ) → j ≤ i → i < 8 → at r (suc i) ≡ bit_or (at s (suc i)) (bit_and (at s i) x)
+  pub ahead : (i : ℕ) → i ≤ j → at r i ≡ at s i
+
+pub going_start : (s : List ℕ) (x : ℕ) → length s ≡ 9 → Going s x 8 s
+going_start s x long = record { long = long; done = λ i h l. absurd (omega arith); ahead = λ i h. refl }
+
+pub going_next : {s r : List ℕ} {x j m : ℕ} → Going s x j r → j ≡ m + 1 → j ≤ 8 → Going s x m (set r (m + 1) (bit_or (at r (m + 1)) (bit_and (at r m) x)))
+going_next {s} {r} {x} {j} {m} so_far ej h =
     record {
-      at0 = rw e (sym (or_zero_r s.r0));
-      at1 = kept s.r1 s.r0;
-      at2 = kept s.r2 s.r1;
-      at3 = kept s.r3 s.r2;
-      at4 = kept s.r4 s.r3;
-      at5 = kept s.r5 s.r4;
-      at6 = kept s.r6 s.r5;
-      at7 = kept s.r7 s.r6;
-      at8 = kept s.r8 s.r7;
+      long = length-set r (m + 1) _ ∙ so_far.long;
+      done = λ i l b. here i l b (ℕ_discrete i m);
+      ahead = λ i l. get_or-set_other r (m + 1) i _ 0 (λ e. omega arith) ∙ so_far.ahead i (omega arith);
     }
   where
-    kept : (b a : ℕ) → b ≡ bit_or b (bit_and a x)
-    kept b a = rw (e, and_zero_r a) (sym (or_zero_r b))
+    here : (i : ℕ) → m ≤ i → i < 8 → Dec (i ≡ m) → at (set r (m + 1) (bit_or (at r (m + 1)) (bit_and (at r m) x))) (suc i) ≡ bit_or (at s (suc i)) (bit_and (at s i) x)
+    here i l b (yes e) =
+        rw (e, add-one) (get_or-set_same r (suc m) _ 0 (omega (arith, so_far.long))
+        ∙ ap₂ (λ (a b : ℕ). bit_or a (bit_and b x)) (so_far.ahead (suc m) (omega arith)) (so_far.ahead m (omega arith)))
+    here i l b (no e) = get_or-set_other r (m + 1) (suc i) _ 0 (λ q. e (omega arith)) ∙ so_far.done i (omega arith) b
+
+pub going_end : {s r : List ℕ} {x j : ℕ} → Going s x j r → j ≤ 0 → Raised s x (set r 0 (bit_or (at r 0) x))
+going_end {s} {r} {x} {j} so_far h =
+    record {
+      first = get_or-set_same r 0 _ 0 (omega (arith, so_far.long)) ∙ ap (λ (a : ℕ). bit_or a x) (so_far.ahead 0 zero-le);
+      later = λ i l. get_or-set_other r 0 (suc i) _ 0 (λ e. omega arith) ∙ so_far.done i (omega arith) l;
+    }
 
 -- bit k of the numbers, where inner word k is to be inverted in n places
-pub record Has (n k : ℕ) (s : Above) : Type 0 where
-  pub has0 : bit_of 64 s.r0 k ≡ above 0 n
-  pub has1 : bit_of 64 s.r1 k ≡ above 1 n
-  pub has2 : bit_of 64 s.r2 k ≡ above 2 n
-  pub has3 : bit_of 64 s.r3 k ≡ above 3 n
-  pub has4 : bit_of 64 s.r4 k ≡ above 4 n
-  pub has5 : bit_of 64 s.r5 k ≡ above 5 n
-  pub has6 : bit_of 64 s.r6 k ≡ above 6 n
-  pub has7 : bit_of 64 s.r7 k ≡ above 7 n
-  pub has8 : bit_of 64 s.r8 k ≡ above 8 n
+pub record Has (n k : ℕ) (s : List ℕ) : Type 0 where
+  pub has : (j : ℕ) → j ≤ 8 → bit_of 64 (at s j) k ≡ above j n
 
-has_next : (n k x : ℕ) (s r : Above) → Has n k s → Raised s x r → Has (n + bit_of 64 x k) k r
-has_next n k x s r h g =
-    record {
-      has0 = ap (λ (y : ℕ). bit_of 64 y k) g.at0 ∙ bit_or_lem 64 k s.r0 x ∙ ap (λ (y : ℕ). bit_or y (bit_of 64 x k)) h.has0 ∙ above_zero n (bit_of 64 x k) (bit_of_lt 64 x k);
-      has1 = moved 0 s.r0 s.r1 r.r1 h.has0 h.has1 g.at1;
-      has2 = moved 1 s.r1 s.r2 r.r2 h.has1 h.has2 g.at2;
-      has3 = moved 2 s.r2 s.r3 r.r3 h.has2 h.has3 g.at3;
-      has4 = moved 3 s.r3 s.r4 r.r4 h.has3 h.has4 g.at4;
-      has5 = moved 4 s.r4 s.r5 r.r5 h.has4 h.has5 g.at5;
-      has6 = moved 5 s.r5 s.r6 r.r6 h.has5 h.has6 g.at6;
-      has7 = moved 6 s.r6 s.r7 r.r7 h.has6 h.has7 g.at7;
-      has8 = moved 7 s.r7 s.r8 r.r8 h.has7 h.has8 g.at8;
-    }
+has_next : (n k x : ℕ) (s r : List ℕ) → Has n k s → Raised s x r → Has (n + bit_of 64 x k) k r
+has_next n k x s r h g = record { has = go }
   where
-    moved : (j a b c : ℕ) → bit_of 64 a k ≡ above j n → bit_of 64 b k ≡ above (suc j) n → c ≡ bit_or b (bit_and a x) → bit_of 64 c k ≡ above (suc j) (n + bit_of 64 x k)
-    moved j a b c ea eb ec =
-        ap (λ (y : ℕ). bit_of 64 y k) ec ∙ bit_or_lem 64 k b (bit_and a x) ∙ ap₂ bit_or eb (bit_product 64 k a x ∙ ap (λ (y : ℕ). scale y (bit_of 64 x k)) ea)
+    go : (j : ℕ) → j ≤ 8 → bit_of 64 (at r j) k ≡ above j (n + bit_of 64 x k)
+    go zero l =
+        ap (λ (y : ℕ). bit_of 64 y k) g.first ∙ bit_or_lem 64 k (at s 0) x ∙ ap (λ (y : ℕ). bit_or y (bit_of 64 x k)) (h.has 0 l)
+        ∙ above_zero n (bit_of 64 x k) (bit_of_lt 64 x k)
+    go (suc j) l =
+        ap (λ (y : ℕ). bit_of 64 y k) (g.later j (omega arith)) ∙ bit_or_lem 64 k (at s (suc j)) (bit_and (at s j) x)
+        ∙ ap₂ bit_or (h.has (suc j) l) (bit_product 64 k (at s j) x ∙ ap (λ (y : ℕ). scale y (bit_of 64 x k)) (h.has j (omega arith)))
         ∙ above_next j n (bit_of 64 x k) (bit_of_lt 64 x k)
 
 -- ---- all places
 
 -- the invariant: the first p places are counted
-pub record Raising (flips : List ℕ) (p : ℕ) (s : Above) : Type 0 where
+pub record Raising (flips : List ℕ) (p : ℕ) (s : List ℕ) : Type 0 where
+  pub long : length s ≡ 9
   pub within : p ≤ 2040
   pub each : (k : ℕ) → Has (sum_to p (λ q. bit_of 64 (at flips q) k)) k s
-  pub top : s.r8 < 2 ^ 64
+  pub top : at s 8 < 2 ^ 64
 
-pub raising_start : {flips : List ℕ} → Raising flips 0 (record { r0 = 0; r1 = 0; r2 = 0; r3 = 0; r4 = 0; r5 = 0; r6 = 0; r7 = 0; r8 = 0 })
-unfolding sum_to above
+pub raising_start : {flips : List ℕ} → Raising flips 0 (replicate 9 0)
+unfolding sum_to
 raising_start = record {
+  long = refl;
   within = zero-le;
-  each = λ k. record { has0 = bit_of_zero 64 k; has1 = bit_of_zero 64 k; has2 = bit_of_zero 64 k; has3 = bit_of_zero 64 k; has4 = bit_of_zero 64 k; has5 = bit_of_zero 64 k; has6 = bit_of_zero 64 k; has7 = bit_of_zero 64 k; has8 = bit_of_zero 64 k };
+  each = λ k. record { has = λ j h. ap (λ (x : ℕ). bit_of 64 x k) (zeros_at 9 j) ∙ bit_of_zero 64 k ∙ sym (above_none j 0 zero-le) };
   top = lit< tt;
 }
 
-pub raising_next : {flips : List ℕ} {p : ℕ} {s r : Above} → Raising flips p s → p < 2040 → ((i : ℕ) → Fits w64 (get_or flips i 0)) → Raised s (at flips p) r → Raising flips (p + 1) r
+pub raising_next : {flips : List ℕ} {p : ℕ} {s r : List ℕ} → Raising flips p s → p < 2040 → ((i : ℕ) → Fits w64 (get_or flips i 0)) → length r ≡ length s →
+    Raised s (at flips p) r → Raising flips (p + 1) r
 unfolding sum_to
-raising_next {flips} {p} {s} {r} so_far h small g =
+raising_next {flips} {p} {s} {r} so_far h small long g =
     record {
+      long = long ∙ so_far.long;
       within = omega arith;
       each = λ k. rw add-one (has_next (sum_to p (λ q. bit_of 64 (at flips q) k)) k (at flips p) s r (so_far.each k) g);
-      top = rw g.at8 (or_lt 64 s.r8 (bit_and s.r7 (at flips p)) so_far.top (omega (arith, and_le_r s.r7 (at flips p), small p)));
+      top = rw (g.later 7 (lit< tt)) (or_lt 64 (at s 8) (bit_and (at s 7) (at flips p)) so_far.top (omega (arith, and_le_r (at s 7) (at flips p), small p)));
     }
 
-pub raising_end : {flips : List ℕ} {p : ℕ} {s : Above} → Raising flips p s → 2040 ≤ p → s.r8 ≡ too_many flips
+pub raising_end : {flips : List ℕ} {p : ℕ} {s : List ℕ} → Raising flips p s → 2040 ≤ p → at s 8 ≡ too_many flips
 unfolding too_many flips_in
 raising_end {flips} {p} {s} so_far h =
     let e : p ≡ 2040 = omega (arith, so_far.within) in
-    sym (number_of_bits_lem 64 s.r8 so_far.top) ∙ number_of_same 64 _ _ (λ k l. rw e at (so_far.each k).has8)
+    sym (number_of_bits_lem 64 (at s 8) so_far.top) ∙ number_of_same 64 _ _ (λ k l. rw e at (so_far.each k).has 8 (lit≤ tt))

@@ -3,17 +3,14 @@ use mathlib.Core.Path.{◌≡◌, refl, sym, ap, ap₂, ◌∙◌}
 use mathlib.Core.Bool.{Bool, true, false, not, cond}
 use mathlib.Core.List.{List}
 use mathlib.Core.Option.{some}
-use Prim.Native.Nat.{ℕ, zero, suc, ◌+◌, ◌-◌, ◌*◌, ◌/◌, ◌%◌, ◌^◌, ◌≤◌, ◌<◌, zero-le}
+use Prim.Native.Nat.{ℕ, zero, suc, ◌+◌, ◌-◌, ◌*◌, ◌/◌, ◌%◌, ◌≤◌, ◌<◌, zero-le}
 use native.Mathlib.Decide.{ℕ_discrete}
-use native.Mathlib.Nat.{mul-le-mul_right}
 use native.Mathlib.Numerals.{add-one}
 use native.Mathlib.Omega.{arith}
 use borrow.Author.Tests.{eq-eqb, ne_eqb, not-true, not-false}
-use lib.Bits.{bit_and, bit_xor}
+use lib.Bits.{bit_xor}
 use lib.Dec.{eqb}
 use lib.ListN.{length}
-use mir.Syntax.{w16, w64}
-use mir.Val.{Fits}
 use Rattle.fields.specs.Lists.{tabulate}
 use Rattle.fields.specs.Elements.{xor, powers_b}
 use Rattle.fields.specs.Steps.ByTables.{table_power}
@@ -31,7 +28,7 @@ use Rattle.words.specs.Nearest.{nearest}
 use Rattle.words.specs.Steps.InnerDecoding.{odd_syndromes, flips, ErrorsOf, InnerErrors, inverted, explains}
 use Rattle.words.specs.InnerWords.{inner_word, inner_restored}
 use Rattle.words.proofs.Bits.Bytes.{bit_at_lt, bits_at, bits_length, bytes_bit, bytes_length}
-use Rattle.words.proofs.Bits.Numbers.{bit_of_lt, masked_bit}
+use Rattle.words.proofs.Bits.Numbers.{bit_of_lt}
 use Rattle.words.proofs.Codes.Horner.{horner_same, value_of_more}
 use Rattle.words.proofs.Codes.LeastPolynomials.{times_power_sum}
 use Rattle.words.proofs.Codes.InnerRoots.{value_of_bits, remainder_bits}
@@ -43,24 +40,6 @@ use Rattle.inner_words.specs.Steps.Passes.{WordRestored, OneWord}
 use Rattle.inner_words.proofs.Interleaving.InterleavedBits.{inner_word_length}
 use Rattle.inner_words.proofs.Remainders.ResidueCodes.{residue_value, residue_lt}
 use Rattle.inner_words.proofs.Passes.InnerPass.{restored_none, restored_some, lost_wrong, word_stays, word_other}
-
--- ---- a term of a value
-
-module _ (x k n : ℕ) (es : List ℕ) (l : k < 64) where
-  abbrev bit_here : ℕ
-  bit_here = bit_and (x / 2 ^ (63 - k)) 1
-
-  here_is : bit_here ≡ bit_of 64 x k
-  here_is = masked_bit 64 x k (63 - k) (omega arith)
-
-  pub bit_fits : Fits w16 bit_here
-  bit_fits = record { fits = omega (arith, here_is, bit_of_lt 64 x k) }
-
-  pub term_fits : (y : ℕ) → Fits w16 y → Fits w16 (bit_here * y)
-  term_fits y h = record { fits = (let m : bit_here * y ≤ 1 * y = mul-le-mul_right y (omega (arith, here_is, bit_of_lt 64 x k)) in omega (arith, h)) }
-
-  pub term_is : (y : ℕ) → y ≡ table_power es n → bit_here * y ≡ bit_of 64 x k * table_power es n
-  term_is y e = ap₂ ◌*◌ here_is e
 
 -- ---- a value
 
@@ -74,15 +53,6 @@ unfolding xor_to
 adding_start = record { within = zero-le; value = refl }
 
 module _ {es residues : List ℕ} {k j i v : ℕ} (s : Adding es residues k j i v) where
-  exponent_most : j < 8 → i < 11 → (2 * j + 1) * i ≤ 150
-  exponent_most h l = let m : (2 * j + 1) * i ≤ 15 * i = mul-le-mul_right i (omega arith) in omega arith
-
-  pub exponent_fits : j < 8 → i < 11 → Fits w64 ((2 * j + 1) * i)
-  exponent_fits h l = record { fits = omega (arith, exponent_most h l) }
-
-  pub exponent_small : j < 8 → i < 11 → Fits w16 ((2 * j + 1) * i)
-  exponent_small h l = record { fits = omega (arith, exponent_most h l) }
-
   pub adding_next : {t : ℕ} → i < 11 → t ≡ bit_of 64 (at residues (11 * j + i)) k * table_power es ((2 * j + 1) * i) → Adding es residues k j (i + 1) (bit_xor v t)
   unfolding xor_to xor
   adding_next l e = record { within = omega arith; value = rw (add-one, e, s.value) }
@@ -169,12 +139,12 @@ module _ (places values : List ℕ) (k : ℕ) (k_lt : k < 64) where
       rw (ne_eqb (64 * at places n + k) i (λ e. q (omega arith)), inverted_outside n i q) (xor_zero_r 0)
 
 module _ (block residues odd es : List ℕ) (k : ℕ) (k_lt : k < 64) (long : length block ≡ 16320) (exp : es ≡ powers_b) (R : WordResidues residues k block)
-    (eo : odd ≡ tabulate 8 (odd_syndrome es residues k)) (places values : List ℕ) (count : ℕ) (left : List ℕ) (E : ErrorsOf odd places values count left)
+    (eo : odd ≡ tabulate 8 (odd_syndrome powers_b residues k)) (places values : List ℕ) (count : ℕ) (left : List ℕ) (E : ErrorsOf odd places values count left)
     (t : Bool) (et : t ≡ explains es places values count left) where
   found : InnerErrors (word_bytes block k) places values count left
   found =
       let e : odd ≡ odd_syndromes powers_b (remainder 88 divisor (bit_at (word_bytes block k)) 2040) =
-      eo ∙ ap (λ (es : List ℕ). tabulate 8 (odd_syndrome es residues k)) exp ∙ values_are block k residues R in
+      eo ∙ values_are block k residues R in
       record { found = rw e at E }
 
   -- without an explanation there is no code word within eight places

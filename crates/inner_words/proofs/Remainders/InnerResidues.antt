@@ -1,30 +1,27 @@
 -- The residues of inner words, bit-sliced: one place more is one step of Horner's rule for each of them. Assumes nothing.
 use mathlib.Core.Path.{◌≡◌, refl, sym, ap, ap₂, ◌∙◌}
-use mathlib.Core.Bool.{cond}
 use mathlib.Core.List.{List, ◌∷◌}
-use Prim.Native.Nat.{ℕ, zero, suc, ◌+◌, ◌-◌, ◌*◌, ◌/◌, ◌%◌, ◌^◌, ◌≤◌, ◌<◌}
-use native.Mathlib.Decide.{dec_lt}
-use native.Mathlib.Nat.{add-suc, add-zero, div-eq_of_lt}
+use Prim.Native.Nat.{ℕ, zero, suc, ◌+◌, ◌*◌, ◌/◌, ◌%◌, ◌^◌, ◌≤◌, ◌<◌}
+use native.Mathlib.Nat.{div-eq_of_lt}
 use native.Mathlib.Omega.{arith}
-use borrow.Author.Tests.{lt-ltb, le-ltb}
-use lib.Dec.{lit<, ltb}
-use lib.ListN.{length}
+use lib.Dec.{lit<}
+use lib.ListN.{length, replicate}
 use lib.Pow.{pow_mono, pow_pos}
 use Rattle.fields.specs.Elements.{xor, scale, doubled}
 use Rattle.fields.specs.Lists.{tabulate}
 use Rattle.fields.specs.Places.{at, horner}
 use Rattle.fields.proofs.Lists.{tabulate_at, tabulate_is, tabulate_length, tabulate_same}
+use Rattle.fields.proofs.Places.Filling.{zeros_at}
 use Rattle.fields.proofs.Xor.{xor_assoc, xor_bit, xor_high, xor_lt, xor_zero_l, xor_zero_r}
 use Rattle.lanes.specs.Steps.Sliced.{turned}
 use Rattle.lanes.proofs.Sliced.{turned_lt, turned_twice}
 use Rattle.words.specs.Bits.{bit_of, number_of, bit_at}
-use Rattle.words.specs.InnerCode.{factors, remainder}
+use Rattle.words.specs.InnerCode.{factors}
 use Rattle.words.proofs.Bits.Bytes.{bit_at_lt}
 use Rattle.words.proofs.Bits.Numbers.{bit_of_number, bit_of_zero, number_of_bits_lem, number_of_lt, number_of_same}
 use Rattle.words.proofs.Codes.Horner.{scale_one, scale_zero}
-use Rattle.words.proofs.Codes.InnerParity.{remainder_short}
 use Rattle.words.proofs.Codes.ShiftedBits.{bit_of_sum, twice_high}
-use Rattle.inner_words.specs.Steps.InnerResidues.{coefficient, bit_sliced, word_residue, swapped, loaded_at, residue_of, advanced, begun}
+use Rattle.inner_words.specs.Steps.InnerResidues.{coefficient, bit_sliced, word_residue, swapped, loaded_at, residue_of, advanced}
 
 -- ---- numbers of bits
 
@@ -79,27 +76,12 @@ module _ (p r b : ℕ) (b_lt : b < 2) where
       let none : b / 2 ^ suc i ≡ 0 = div-eq_of_lt (omega arith) in
       next_coefficient (suc i) ∙ rw (twice_high r i, none) (ap (xor _) (xor_zero_r _))
 
--- those of a number of five bits
-from_top : (x i : ℕ) → i < 5 → coefficient i x ≡ bit_of 5 x (4 - i)
-unfolding bit_of
-from_top x i h = let e : 5 - suc (4 - i) ≡ i = omega arith in rw e
-
-past : (x i : ℕ) → x < 2 ^ 5 → 5 ≤ i → coefficient i x ≡ 0
-past x i h l =
-    let k : 2 ^ 5 ≤ 2 ^ i = pow_mono l in
-    ap (λ (y : ℕ). y % 2) (div-eq_of_lt (omega arith))
-
 -- ---- residues, place by place
 
 scaled_lt : (t x : ℕ) → scale t (coefficient 10 x) < 2
 unfolding scale
 scaled_lt zero x = omega arith
 scaled_lt (suc t) x = omega arith
-
--- n places more, from place q on
-unfoldable pub advanced_by : ℕ → List ℕ → ℕ → ℕ → List ℕ → List ℕ
-advanced_by p bytes q zero s = s
-advanced_by p bytes q (suc n) s = advanced p (advanced_by p bytes q n s) (loaded_at bytes (q + n))
 
 module _ (j : ℕ) (bytes : List ℕ) where
   abbrev bit : ℕ → ℕ → ℕ
@@ -137,37 +119,21 @@ module _ (j : ℕ) (bytes : List ℕ) where
     residue_cell (suc i) l =
         moved (suc i) _ (λ k. coefficient i (r k)) (λ k. omega arith) (cell n i (omega arith)) (λ k. next_later p (r k) (bit k n) (bit_at_lt bytes _) i)
 
-    residue_next : advanced p (residue_of j bytes n) (loaded_at bytes n) ≡ residue_of j bytes (suc n)
+    pub residue_next : advanced p (residue_of j bytes n) (loaded_at bytes n) ≡ residue_of j bytes (suc n)
     unfolding advanced
     residue_next = tabulate_same 11 _ _ residue_cell ∙ whole
       where
         whole : tabulate 11 made ≡ residue_of j bytes (suc n)
         whole = sym (tabulate_is 11 made (residue_of j bytes (suc n)) 0 (long (suc n)) (cell (suc n)))
 
-  pub residue_more : (n m : ℕ) → advanced_by (at factors j) bytes n m (residue_of j bytes n) ≡ residue_of j bytes (n + m)
-  unfolding advanced_by
-  residue_more n zero = rw add-zero
-  residue_more n (suc m) = rw (add-suc, residue_more n m) (residue_next (n + m))
+  -- no place yet
+  none_cell : (i : ℕ) → i < 11 → at (replicate 11 0) i ≡ number_of 64 (λ k. coefficient i (word_residue j bytes 0 (turned k)))
+  unfolding word_residue horner
+  none_cell i l = zeros_at 11 i ∙ sym (number_of_same 64 _ (λ k. 0) (λ k m. ap (λ (x : ℕ). x % 2) (div-eq_of_lt (pow_pos i))) ∙ number_none 64)
 
-  -- the first five places: each residue is the number that they make
-  begun_cell : (i : ℕ) → i < 11 → cond (ltb i 5) (loaded_at bytes (4 - i)) 0 ≡ number_of 64 (λ k. coefficient i (word_residue j bytes 5 (turned k)))
-  unfolding loaded_at word_residue
-  begun_cell i l = go (dec_lt i 5)
-    where
-      short : (k : ℕ) → remainder 11 (at factors j) (bit k) 5 ≡ number_of 5 (bit k)
-      short k = remainder_short 11 (at factors j) (bit k) (λ p. bit_at_lt bytes _) 5 (omega arith)
-
-      go : Dec (i < 5) → cond (ltb i 5) (number_of 64 (λ k. bit k (4 - i))) 0 ≡ number_of 64 (λ k. coefficient i (remainder 11 (at factors j) (bit k) 5))
-      go (yes h) =
-          rw (lt-ltb i 5 h)
-          (number_of_same 64 _ _ (λ k m. sym (ap (coefficient i) (short k) ∙ from_top (number_of 5 (bit k)) i h ∙ bit_of_number (bit k) (λ p. bit_at_lt bytes _) 5 (4 - i) (omega arith))))
-      go (no h) =
-          rw (le-ltb i 5 (omega arith))
-          (sym (number_of_same 64 _ (λ k. 0) (λ k m. ap (coefficient i) (short k) ∙ past (number_of 5 (bit k)) i (number_of_lt (bit k) (λ p. bit_at_lt bytes _) 5) (omega arith)) ∙ number_none 64))
-
-  pub begun_residue : begun bytes ≡ residue_of j bytes 5
-  unfolding begun
-  begun_residue = tabulate_same 11 _ _ begun_cell ∙ sym (tabulate_is 11 _ (residue_of j bytes 5) 0 (long 5) (cell 5))
+  pub none_residue : replicate 11 0 ≡ residue_of j bytes 0
+  unfolding residue_of bit_sliced
+  none_residue = tabulate_is 11 _ (replicate 11 0) 0 refl none_cell
 
   -- turned round, they stand in the order of the inner words
   pub turned_cell : (n i : ℕ) → i < 11 → swapped (at (residue_of j bytes n) i) ≡ number_of 64 (λ k. coefficient i (word_residue j bytes n k))

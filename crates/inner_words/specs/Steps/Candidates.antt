@@ -1,11 +1,10 @@
 -- Candidates for all inner words at once: 2,040 numbers, one for each place, whose bit k, the highest of 64 first, is 1 where inner word k is to be inverted.
-use Rattle.std.specs.Prelude.{◌≡◌, cond, List, ℕ, ◌/◌, ◌%◌, ◌<◌, ltb, length}
+use Rattle.std.specs.Prelude.{◌≡◌, cond, List, ℕ, suc, ◌/◌, ◌%◌, ◌<◌, ltb, length}
 use Rattle.std.specs.Int.Bits.{bit_and, bit_or}
 use Rattle.fields.specs.Elements.{xor}
 use Rattle.fields.specs.Places.{at, sum_to}
 use Rattle.lanes.specs.Steps.Sliced.{or_to}
 use Rattle.words.specs.Bits.{bit_of, number_of, bit_at, bytes_of}
-use Rattle.inner_words.specs.declared.candidates.Above.{Above}
 use Rattle.inner_words.specs.Steps.InnerResidues.{residues_of, sum_at}
 
 -- the places of the candidates are inverted in the inner words that the mask has a 1 for
@@ -21,17 +20,10 @@ flips_in flips k = sum_to 2040 (λ p. bit_of 64 (at flips p) k)
 unfoldable pub above : ℕ → ℕ → ℕ
 above j n = cond (ltb j n) 1 0
 
--- one place more: number j + 1 gets the inner words of x that number j has
-pub record Raised (s : Above) (x : ℕ) (r : Above) : Type 0 where
-  pub at0 : r.r0 ≡ bit_or s.r0 x
-  pub at1 : r.r1 ≡ bit_or s.r1 (bit_and s.r0 x)
-  pub at2 : r.r2 ≡ bit_or s.r2 (bit_and s.r1 x)
-  pub at3 : r.r3 ≡ bit_or s.r3 (bit_and s.r2 x)
-  pub at4 : r.r4 ≡ bit_or s.r4 (bit_and s.r3 x)
-  pub at5 : r.r5 ≡ bit_or s.r5 (bit_and s.r4 x)
-  pub at6 : r.r6 ≡ bit_or s.r6 (bit_and s.r5 x)
-  pub at7 : r.r7 ≡ bit_or s.r7 (bit_and s.r6 x)
-  pub at8 : r.r8 ≡ bit_or s.r8 (bit_and s.r7 x)
+-- one place more: number 0 gets the inner words of x, number j + 1 those of them that number j has
+pub record Raised (s : List ℕ) (x : ℕ) (r : List ℕ) : Type 0 where
+  pub first : at r 0 ≡ bit_or (at s 0) x
+  pub later : (j : ℕ) → j < 8 → at r (suc j) ≡ bit_or (at s (suc j)) (bit_and (at s j) x)
 
 -- 1 where more than eight places of an inner word are to be inverted
 unfoldable pub too_many : List ℕ → ℕ
@@ -48,7 +40,3 @@ pub record AsBlock (flips block : List ℕ) : Type 0 where
 -- 1 where a residue of the inner word plus that of its places is not zero, or more than eight places are to be inverted
 unfoldable pub failing : List ℕ → List ℕ → ℕ
 failing residues flips = bit_or (or_to 88 (sum_at residues (residues_of (bytes_of 16320 (flip_bit flips)) 2040))) (too_many flips)
-
--- how many of 64 bits are 1
-unfoldable pub ones : ℕ → ℕ
-ones x = sum_to 64 (bit_of 64 x)

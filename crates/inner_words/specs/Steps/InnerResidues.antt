@@ -1,6 +1,6 @@
 -- The residues of the 64 inner words modulo the eight factors of the divisor, bit-sliced: bit k of a number, the highest of 64 first, belongs to inner
 -- word k.
-use Rattle.std.specs.Prelude.{◌≡◌, Bool, cond, List, ◌∷◌, ℕ, ◌+◌, ◌-◌, ◌*◌, ◌/◌, ◌%◌, ◌^◌, ◌<◌, eqb, ltb}
+use Rattle.std.specs.Prelude.{◌≡◌, Bool, List, ◌∷◌, ℕ, ◌+◌, ◌*◌, ◌/◌, ◌%◌, ◌^◌, ◌<◌, eqb}
 use Rattle.fields.specs.Lists.{tabulate}
 use Rattle.fields.specs.Elements.{xor, scale}
 use Rattle.fields.specs.Steps.ByTables.{table_power}
@@ -30,9 +30,6 @@ residues_of bytes n = tabulate 88 (λ c. number_of 64 (λ k. coefficient (c % 11
 -- eight bytes with the first the lowest: bit k is the one that is bit `turned k` if the first is the highest
 unfoldable pub swapped : ℕ → ℕ
 swapped x = number_of 64 (λ k. bit_of 64 x (turned k))
-
-unfoldable pub all_swapped : List ℕ → List ℕ
-all_swapped xs = tabulate 88 (λ c. swapped (at xs c))
 
 -- place p of every inner word in that order, and the residues modulo factor j
 unfoldable pub loaded_at : List ℕ → ℕ → ℕ
@@ -64,7 +61,3 @@ is_single es residues k e = every 8 (λ j. eqb (odd_syndrome es residues k j) (t
 -- one place x more: the coefficients move up a power, x comes in below, and where z^11 comes up the polynomial p is taken away
 unfoldable pub advanced : ℕ → List ℕ → ℕ → List ℕ
 advanced p s x = tabulate 11 (λ i. xor (scale (coefficient i p) (at s 10)) (at (x ∷ s) i))
-
--- the first five places
-unfoldable pub begun : List ℕ → List ℕ
-begun bytes = tabulate 11 (λ i. cond (ltb i 5) (loaded_at bytes (4 - i)) 0)

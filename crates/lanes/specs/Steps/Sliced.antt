@@ -5,7 +5,7 @@ use Rattle.lanes.specs.declared.Lanes.{Lanes}
 
 -- the numbers of a `Lanes`
 abbrev pub cells : Lanes → List ℕ
-cells s = s.r0 ∷ s.r1 ∷ s.r2 ∷ s.r3 ∷ s.r4 ∷ s.r5 ∷ s.r6 ∷ s.r7 ∷ s.r8 ∷ s.r9 ∷ s.r10 ∷ []
+cells s = s.0
 
 -- the bit of inner word k in a number
 unfoldable pub lane_bit : ℕ → ℕ → ℕ

@@ -1,12 +1,8 @@
-use borrow.Author.Rules.{rules}
-use Rattle.logging.proofs.Order.{before_count, before_data, before_number}
+use Rattle.std.proofs.Common.{◌∙◌}
+use Rattle.logging.proofs.Order.{before_ranked}
 use Rattle.logging.proofs.is_before.Goals as goal
 
-pub returns-then-of_j-of_k : goal.returns-then-of_j-of_k
-returns-then-of_j-of_k c = search (rules, before_count)
-
-pub returns-then-data_j-data_k : goal.returns-then-data_j-data_k
-returns-then-data_j-data_k c = search (rules, before_data)
-
 pub returns : goal.returns
-returns c = search (rules, before_number)
+returns c =
+    c.gt.ensures
+    ∙ before_ranked _ _ _ _ _ _ _ _ _ c.of.ensures.count c.of-2.ensures.count c.of.ensures.in_data c.of-2.ensures.in_data c.of.ensures.number c.of-2.ensures.number

@@ -22,14 +22,14 @@ use Rattle.decoding.specs.Steps.Decoder.{Tables, xor_to, error_at, Decoded, weig
 use Rattle.decoding.proofs.Steps.Symbols.{copied_same}
 use Rattle.decoding.proofs.Algebra.Tables.{powers_length}
 use Rattle.decoding.proofs.Decoding.Changes.{errors_length, errors_at}
-use Rattle.words.specs.declared.Correction.{Correction}
-use Rattle.words.specs.declared.Correction.TheVariants.{Corrected, Refused}
+use Rattle.words.specs.declared.Refusal.{Refusal}
+use Rattle.words.specs.Corrections.{number, Correction, Corrected, Refused}
 use Rattle.words.specs.Answers.{refusal, within, found, corrected, outer_corrected}
 use Rattle.words.specs.Steps.Division.{outer_remainder}
 use Rattle.words.specs.Steps.SixSymbols.{Packs, unpacked}
 use Rattle.words.proofs.Decoding.ReedSolomon.{tables_of, symbols_changed, symbols_found, symbols_lost}
 use Rattle.words.proofs.Steps.Joining.{root_values_made}
-use Rattle.words.proofs.Steps.Entries.{passed}
+use Rattle.words.proofs.Steps.Entries.{some_number, passed}
 
 -- v is added to the symbol at place i
 module _ (out : List ℕ) (i v : ℕ) where
@@ -79,11 +79,12 @@ module _ (w places values out : List ℕ) where
 pub tables_given : (es ls : List ℕ) → es ≡ powers_a → ls ≡ exponents_a → Tables es ls
 tables_given es ls exp log = rw (exp, log) (tables_of 10 1033 field_a)
 
-module _ (w o : List ℕ) (r : ℕ) (told : r ≡ refusal (within 17 1023 (length w)) (eqb (length o) (length w)) (all_below 1024 w)) where
-  pub correct_outer_refused : (r ≡ 0 → ⊥) → ◌≡◌ {A = Correction × List ℕ} (Refused r, o) (outer_corrected w o)
-  unfolding outer_corrected corrected
-  correct_outer_refused n = rw (← told, ne_eqb r 0 n)
+pub correct_outer_refused : (w o : List ℕ) (e : Refusal) → number e ≡ refusal (within 17 1023 (length w)) (eqb (length o) (length w)) (all_below 1024 w) →
+    ◌≡◌ {A = Correction × List ℕ} (Refused (number e), o) (outer_corrected w o)
+unfolding outer_corrected corrected
+correct_outer_refused w o e told = rw (← told, ne_eqb (number e) 0 (some_number e))
 
+module _ (w o : List ℕ) (r : ℕ) (told : r ≡ refusal (within 17 1023 (length w)) (eqb (length o) (length w)) (all_below 1024 w)) where
   pub correct_outer_fits : r ≡ 0 → length o ≡ length w
   correct_outer_fits none = eqb-true _ _ (passed _ _ _ (sym told ∙ none)).1
 
@@ -97,10 +98,10 @@ module _ (w o : List ℕ) (least : 17 ≤ length w) (most : length w ≤ 1023) (
     pub word_fits : length w ≤ length es
     word_fits = let l : length es ≡ 1023 = ap length exp ∙ powers_length 10 1033 field_a in omega arith
 
-    module _ (h m l : ℕ) (p : Packs h m l (outer_remainder w)) (t : List ℕ) (v : t ≡ root_values es ls (unpacked h m l)) (places values : List ℕ) (count : ℕ)
+    module _ (h m l : ℕ) (p : Packs h m l (outer_remainder w)) (t : List ℕ) (v : t ≡ root_values powers_a exponents_a (unpacked h m l)) (places values : List ℕ) (count : ℕ)
         (left : List ℕ) (D : Decoded es ls t (length w) places values count left) (b : Bool) where
       D' : Decoded powers_a exponents_a (root_values powers_a exponents_a w) (length w) places values count left
-      D' = rw (root_values_made w (omega arith) symbols h m l p es ls t exp log v, exp, log) at D
+      D' = rw (root_values_made w (omega arith) symbols h m l p powers_a exponents_a t refl refl v, exp, log) at D
 
       -- what is not below q, for any q above 0, is not all zero
       some_left : (q : ℕ) → 0 < q → all_below q left ≡ false → all_below 1 left ≡ false

@@ -18,10 +18,11 @@ use Rattle.words.specs.Bits.{bit_of, number_of, bit_at, bits_of, bytes_of}
 use Rattle.words.specs.ReedSolomon.{is_code_word}
 use Rattle.words.specs.OuterCode.{outer_value, is_outer, outer_parity}
 use Rattle.words.specs.InnerCode.{divisor, remainder, is_inner, inner_remainder, inner_parity}
-use Rattle.words.specs.Answers.{refusal, within, answered, first_of, outer_checked, outer_encoded, inner_checked, inner_encoded}
+use Rattle.words.specs.declared.Refusal.{Refusal}
+use Rattle.words.specs.declared.Refusal.TheVariants.{PayloadLength, BlockLength, BufferSize, NoCodeWord, Uncorrectable, WordLength, Symbol, RowLength}
+use Rattle.words.specs.Answers.{number, refusal, within, answered, first_of, outer_checked, outer_encoded, inner_encoded}
 use Rattle.words.specs.Steps.Division.{outer_remainder}
 use Rattle.words.specs.Steps.SixSymbols.{Packs, unpacked}
-use Rattle.words.specs.Steps.Limbs.{number, Represents}
 use Rattle.words.proofs.Bits.Numbers.{number_of_same}
 use Rattle.words.proofs.Bits.Bytes.{bits_at, bits_below, bits_length}
 use Rattle.words.proofs.Codes.Horner.{horner_same}
@@ -36,10 +37,16 @@ passed true true false e = absurd (omega arith)
 passed true false symbols e = absurd (omega arith)
 passed false fits symbols e = absurd (omega arith)
 
--- a number is the answer that a refusal leaves
-pub refused : (n : ℕ) (answer buffer : List ℕ) → (n ≡ 0 → ⊥) → ◌≡◌ {A = ℕ × List ℕ} (n, buffer) (answered n answer buffer)
-unfolding answered
-refused n answer buffer h = rw (ne_eqb n 0 h)
+-- no refusal has the number 0
+pub some_number : (refusal : Refusal) → number refusal ≡ 0 → ⊥
+some_number PayloadLength e = absurd (omega (arith, e))
+some_number BlockLength e = absurd (omega (arith, e))
+some_number BufferSize e = absurd (omega (arith, e))
+some_number NoCodeWord e = absurd (omega (arith, e))
+some_number Uncorrectable e = absurd (omega (arith, e))
+some_number WordLength e = absurd (omega (arith, e))
+some_number Symbol e = absurd (omega (arith, e))
+some_number RowLength e = absurd (omega (arith, e))
 
 -- ---- outer words
 
@@ -71,11 +78,11 @@ module _ (w : List ℕ) (fits : Bool) (r : ℕ) (told : r ≡ refusal (within 17
   pub word_symbols : all_below 1024 w ≡ true
   word_symbols = (passed _ _ _ (sym told ∙ none)).2
 
-module _ (w : List ℕ) (r : ℕ) (told : r ≡ refusal (within 17 1023 (length w)) true (all_below 1024 w)) where
-  pub outer_refused : (r ≡ 0 → ⊥) → r ≡ outer_checked w
-  unfolding outer_checked first_of
-  outer_refused n = rw (← told, ne_eqb r 0 n)
+pub outer_refused : (w : List ℕ) (e : Refusal) → number e ≡ refusal (within 17 1023 (length w)) true (all_below 1024 w) → number e ≡ outer_checked w
+unfolding outer_checked first_of
+outer_refused w e told = rw (← told, ne_eqb (number e) 0 (some_number e))
 
+module _ (w : List ℕ) (r : ℕ) (told : r ≡ refusal (within 17 1023 (length w)) true (all_below 1024 w)) where
   module _ (none : r ≡ 0) (es ls : List ℕ) (exp : es ≡ powers_a) (log : ls ≡ exponents_a) (h m l : ℕ) (p : Packs h m l (outer_remainder w)) (values : List ℕ)
       (v : values ≡ root_values es ls (unpacked h m l)) (b : Bool) (test : b ≡ all_below 1 values) where
     code_tested : b ≡ is_outer w
@@ -93,11 +100,12 @@ module _ (w : List ℕ) (r : ℕ) (told : r ≡ refusal (within 17 1023 (length 
     unfolding outer_checked first_of
     outer_no_code t = rw (← told, none, ← code_tested, t)
 
-module _ (d o : List ℕ) (r : ℕ) (told : r ≡ refusal (within 1 1007 (length d)) (eqb (length o) 16) (all_below 1024 d)) where
-  pub encode_outer_refused : (r ≡ 0 → ⊥) → ◌≡◌ {A = ℕ × List ℕ} (r, o) (outer_encoded d o)
-  unfolding outer_encoded
-  encode_outer_refused n = rw (← told) (refused r _ o n)
+pub encode_outer_refused : (d o : List ℕ) (e : Refusal) → number e ≡ refusal (within 1 1007 (length d)) (eqb (length o) 16) (all_below 1024 d) →
+    ◌≡◌ {A = ℕ × List ℕ} (number e, o) (outer_encoded d o)
+unfolding outer_encoded answered
+encode_outer_refused d o e told = rw (← told, ne_eqb (number e) 0 (some_number e))
 
+module _ (d o : List ℕ) (r : ℕ) (told : r ≡ refusal (within 1 1007 (length d)) (eqb (length o) 16) (all_below 1024 d)) where
   module _ (none : r ≡ 0) where
     pub outer_fits : length o ≡ 16
     outer_fits = eqb-true _ _ (passed _ _ _ (sym told ∙ none)).1
@@ -112,25 +120,11 @@ module _ (d o : List ℕ) (r : ℕ) (told : r ≡ refusal (within 1 1007 (length
 -- ---- inner words
 
 -- the bits of 255 bytes are a code word just where their remainder is zero
-inner_tested : (w : List ℕ) → length w ≡ 255 → is_inner (bits_of w) ≡ eqb (remainder 88 divisor (bit_at w) 2040) 0
+pub inner_tested : (w : List ℕ) → length w ≡ 255 → is_inner (bits_of w) ≡ eqb (remainder 88 divisor (bit_at w) 2040) 0
 unfolding is_inner
 inner_tested w e =
     let long : length (bits_of w) ≡ 2040 = bits_length w ∙ omega arith in
     rw (long, bits_below w, horner_same (doubled 88 divisor) (at (bits_of w)) (bit_at w) 2040 (λ i l. bits_at w i))
-
-module _ (w : List ℕ) where
-  pub inner_refused : (length w ≡ 255 → ⊥) → 6 ≡ inner_checked w
-  unfolding inner_checked first_of refusal
-  inner_refused n = rw (ne_eqb (length w) 255 n)
-
-  module _ (e : length w ≡ 255) (h l : ℕ) (r : Represents h l (remainder 88 divisor (bit_at w) 2040)) (b : Bool) (test : b ≡ eqb (number h l) 0) where
-    pub inner_accepted : b ≡ true → 0 ≡ inner_checked w
-    unfolding inner_checked first_of refusal
-    inner_accepted t = rw (eq-eqb (length w) 255 e, inner_tested w e, ← r.value, ← test, t)
-
-    pub inner_no_code : b ≡ false → 4 ≡ inner_checked w
-    unfolding inner_checked first_of refusal
-    inner_no_code t = rw (eq-eqb (length w) 255 e, inner_tested w e, ← r.value, ← test, t)
 
 -- the parity bits of data lent as bytes, in bytes
 parity_bytes_lem : (d : List ℕ) → bytes_of 11 (bit_of 88 (remainder 88 divisor (bit_at d) 2040)) ≡ bytes_of 11 (at (inner_parity (bits_of d)))
@@ -150,9 +144,9 @@ module _ (d o : List ℕ) where
     unfolding inner_encoded refusal answered
     encode_inner_space n = rw (eq-eqb (length d) 244 e, ne_eqb (length o) 11 n)
 
-    pub inner_encoded_lem : length o ≡ 11 → (h l : ℕ) (out : List ℕ) → Represents h l (remainder 88 divisor (bit_at d) 2040) → out ≡ bytes_of 11 (bit_of 88 (number h l)) →
+    pub inner_encoded_lem : length o ≡ 11 → (v : ℕ) (out : List ℕ) → v ≡ remainder 88 divisor (bit_at d) 2040 → out ≡ bytes_of 11 (bit_of 88 v) →
         ◌≡◌ {A = ℕ × List ℕ} (0, out) (inner_encoded d o)
     unfolding inner_encoded refusal answered
-    inner_encoded_lem f h l out r s =
-        let parity : out ≡ bytes_of 11 (at (inner_parity (bits_of d))) = s ∙ ap (λ (x : ℕ). bytes_of 11 (bit_of 88 x)) r.value ∙ parity_bytes_lem d in
+    inner_encoded_lem f v out r s =
+        let parity : out ≡ bytes_of 11 (at (inner_parity (bits_of d))) = s ∙ ap (λ (x : ℕ). bytes_of 11 (bit_of 88 x)) r ∙ parity_bytes_lem d in
         rw (eq-eqb (length d) 244 e, eq-eqb (length o) 11 f, parity)

@@ -3,22 +3,21 @@
 use mathlib.Core.Path.{◌≡◌, refl, sym, ap, ap₂, ◌∙◌}
 use mathlib.Core.List.{List}
 use Prim.Native.Nat.{ℕ, zero, suc, ◌+◌, ◌-◌, ◌*◌, ◌/◌, ◌%◌, ◌^◌, ◌≤◌, ◌<◌}
-use native.Mathlib.Decide.{ℕ_discrete}
-use native.Mathlib.Nat.{le-add_left, mod-lt, mul_assoc, not-suc-le-zero, pow-suc, zero-add}
+use native.Mathlib.Nat.{le-add_left, mod-lt, mul_assoc, pow-suc, zero-add}
 use native.Mathlib.Numerals.{add-one}
 use native.Mathlib.Omega.{arith}
-use lib.Dec.{lit<}
-use lib.ListN.{get_or, set, replicate, length-set}
+use lib.Bits.{bit_xor}
+use lib.ListN.{length, get_or}
 use lib.Pow.{split, pow_pos, shl_lt}
-use lib.Seq.{get_or-set_same, get_or-set_other}
-use Rattle.fields.specs.Elements.{xor, doubled}
+use Rattle.fields.specs.Elements.{xor, scale, doubled}
+use Rattle.fields.proofs.Lists.{tabulate_at, tabulate_length}
+use Rattle.fields.proofs.Places.Filling.{Filled, filled_end}
 use Rattle.fields.specs.Places.{horner}
-use Rattle.fields.proofs.Xor.{xor_zero_r, xor_assoc, xor_shifted}
+use Rattle.fields.proofs.Xor.{xor_comm, xor_zero_l, xor_zero_r, xor_assoc, xor_shifted}
 use Rattle.fields.proofs.Doubling.{doubled_sum, doubled_below, doubled_lt}
-use Rattle.words.specs.declared.bch.Polynomial.{Polynomial}
 use Rattle.words.specs.Bits.{bit_of, number_of, bit_at}
 use Rattle.words.specs.InnerCode.{divisor, remainder}
-use Rattle.words.specs.Steps.Limbs.{number, Represents, residue, zero_polynomial, Residues}
+use Rattle.words.specs.Steps.Residues.{residue, residues}
 use Rattle.words.proofs.Bits.Bytes.{bit_at_lt, number_of_bits}
 use Rattle.words.proofs.Bits.Numbers.{bit_of_lt, number_of_lt}
 use Rattle.words.proofs.Codes.Horner.{iter, horner_same, iter_sum, horner_parts}
@@ -86,62 +85,77 @@ module _ (k : ℕ) (small : k < 16) where
   residue_lt zero = omega arith
   residue_lt (suc i) = doubled_lt 88 divisor divisor_degree _ (residue_lt i)
 
-  pub residue_none : Represents (k * 2 ^ 36 % 2 ^ 64) 0 (residue_so_far k 0)
-  unfolding number iter
-  residue_none = record { value = omega arith; split = lit< tt }
+  pub residue_none : k * 2 ^ 84 % 2 ^ 128 ≡ residue_so_far k 0
+  unfolding iter
+  residue_none = omega arith
 
-  module _ (h l i : ℕ) (so_far : Represents h l (residue_so_far k i)) where
-    pub residue_room : h < 2 ^ 60
-    unfolding number
-    residue_room =
-        let v : h * 2 ^ 48 + l ≡ residue_so_far k i = so_far.value in
-        omega (arith, residue_lt i)
+  module _ (v i : ℕ) (so_far : v ≡ residue_so_far k i) where
+    pub residue_room : v < 2 ^ 100
+    residue_room = omega (arith, residue_lt i)
 
-    pub residue_next : (dh dl a b : ℕ) → Represents dh dl divisor → Represents a b (doubled 88 (number dh dl) (number h l)) → Represents a b (residue_so_far k (i + 1))
+    pub residue_next : (d a : ℕ) → d ≡ divisor → a ≡ doubled 88 d v → a ≡ residue_so_far k (i + 1)
     unfolding iter
-    residue_next dh dl a b d r =
-        record { value = r.value ∙ ap₂ (doubled 88) d.value so_far.value ∙ sym (ap (residue_so_far k) (add-one i)); split = r.split }
+    residue_next d a ed e = e ∙ ap₂ (doubled 88) ed so_far ∙ sym (ap (residue_so_far k) (add-one i))
 
-    pub residue_end : i ≤ 4 → 4 ≤ i → Represents h l (residue divisor k)
+    pub residue_end : i ≤ 4 → 4 ≤ i → v ≡ residue divisor k
     residue_end lo hi =
         let e : i ≡ 4 = omega arith in
         rw (residue_is divisor k small, ← e) so_far
 
 -- the table, entry by entry
-pub residues_none : (p : ℕ) (v : Polynomial) → Residues p 0 (replicate 16 v)
-residues_none p v = record { long = refl; entry = λ k h. absurd (not-suc-le-zero h) }
+pub residues_end : (p k : ℕ) (t : List ℕ) → Filled 16 (residue p) k t → 16 ≤ k → t ≡ residues p
+unfolding residues
+residues_end p k t so_far l = filled_end so_far l
 
-module _ (p k : ℕ) (t : List Polynomial) (so_far : Residues p k t) where
-  pub residues_next : k < 16 → (r : Polynomial) → Represents r.high r.low (residue p k) → Residues p (k + 1) (set t k r)
-  residues_next l r e = record { long = length-set t k r ∙ so_far.long; entry = λ i b. go i b (ℕ_discrete i k) }
-    where
-      go : (i : ℕ) → i < k + 1 → Dec (i ≡ k) → Represents (get_or (set t k r) i zero_polynomial).high (get_or (set t k r) i zero_polynomial).low (residue p i)
-      go i b (yes q) = rw (q, get_or-set_same t k r zero_polynomial (omega (arith, so_far.long))) e
-      go i b (no q) = rw (get_or-set_other t k i r zero_polynomial q) (so_far.entry i (omega arith))
-
-  pub residues_end : 16 ≤ k → Residues p 16 t
-  residues_end h = record { long = so_far.long; entry = λ i b. so_far.entry i (omega arith) }
-
-pub residues_split : (p : ℕ) (t : List Polynomial) → Residues p 16 t → (k x : ℕ) → k ≡ x % 16 → (get_or t k zero_polynomial).low < 2 ^ 48
-residues_split p t table k x e = (table.entry k (omega arith)).split
+pub residues_long : (p : ℕ) (t : List ℕ) → t ≡ residues p → length t ≡ 16
+unfolding residues
+residues_long p t e = rw e (tabulate_length 16 (residue p))
 
 -- the remainder of the first 4 i places
-module _ (bytes : List ℕ) (h l i : ℕ) where
-  pub remainder_none : Represents h l 0 → Represents h l (remainder 88 divisor (bit_at bytes) (4 * 0))
+module _ (bytes : List ℕ) (v i : ℕ) where
+  pub remainder_none : 0 ≡ remainder 88 divisor (bit_at bytes) (4 * 0)
   unfolding horner
-  remainder_none z = z
+  remainder_none = refl
 
-  module _ (so_far : Represents h l (remainder 88 divisor (bit_at bytes) (4 * i))) where
-    pub remainder_next : (t : List Polynomial) → Residues divisor 16 t → (k x a b c d : ℕ) → k ≡ number h l / 2 ^ 84 % 16 →
-        x ≡ number_of 4 (λ j. bit_at bytes (4 * i + j)) → Represents a b (16 * number h l % 2 ^ 88 + x) →
-        Represents c d (xor (number (get_or t k zero_polynomial).high (get_or t k zero_polynomial).low) (number a b)) →
-        Represents c d (remainder 88 divisor (bit_at bytes) (4 * (i + 1)))
-    remainder_next t table k x a b c d ek ex s r =
+  module _ (so_far : v ≡ remainder 88 divisor (bit_at bytes) (4 * i)) where
+    pub remainder_next : (t : List ℕ) → t ≡ residues divisor → (k x a : ℕ) → k ≡ v / 2 ^ 84 % 16 →
+        x ≡ number_of 4 (λ j. bit_at bytes (4 * i + j)) → a ≡ 16 * v % 2 ^ 88 + x →
+        bit_xor (get_or t k 0) a ≡ remainder 88 divisor (bit_at bytes) (4 * (i + 1))
+    unfolding residues xor
+    remainder_next t table k x a ek ex s =
         let e : 4 * i + 4 ≡ 4 * (i + 1) = omega arith in
-        let four = remainder_four (bit_at bytes) (bit_at_lt bytes) (4 * i) (number h l) (sym so_far.value) in
-        let above = (table.entry k (omega arith)).value ∙ ap (residue divisor) ek in
-        let below = s.value ∙ ap (λ (y : ℕ). 16 * number h l % 2 ^ 88 + y) ex in
-        record { value = r.value ∙ ap₂ xor above below ∙ sym (rw e at four); split = r.split }
+        let four = remainder_four (bit_at bytes) (bit_at_lt bytes) (4 * i) v (sym so_far) in
+        let above : get_or t k 0 ≡ residue divisor (v / 2 ^ 84 % 16) = rw table (tabulate_at 16 (residue divisor) k 0 (omega arith)) ∙ ap (residue divisor) ek in
+        let below = s ∙ ap (λ (y : ℕ). 16 * v % 2 ^ 88 + y) ex in
+        ap₂ bit_xor above below ∙ sym (rw e at four)
 
-    pub remainder_end : i ≤ 510 → 510 ≤ i → Represents h l (remainder 88 divisor (bit_at bytes) 2040)
+    pub remainder_end : i ≤ 510 → 510 ≤ i → v ≡ remainder 88 divisor (bit_at bytes) 2040
     remainder_end lo hi = let e : i ≡ 510 = omega arith in rw e at so_far
+
+-- byte k of eleven, the highest first
+pub byte_made : (x k : ℕ) → k < 11 → x / 2 ^ (88 - 8 * (k + 1)) % 256 ≡ number_of 8 (λ j. bit_of 88 x (8 * k + j))
+byte_made x k h =
+    let same : 88 - 8 * (k + 1) ≡ 88 - (8 * k + 8) = omega arith in
+    ap (λ (z : ℕ). x / 2 ^ z % 256) same ∙ sym (number_of_bits 88 x (8 * k) 8 (omega arith))
+
+-- doubling, by the term that comes up
+module _ (x d : ℕ) where
+  pub doubled_same : 2 * x / 2 ^ 88 % 2 ≡ 0 → 2 * x ≡ doubled 88 d x
+  unfolding doubled scale
+  doubled_same e = sym (ap (λ (t : ℕ). xor (scale t d) (2 * x)) e ∙ xor_zero_l (2 * x))
+
+  pub doubled_less : (2 * x / 2 ^ 88 % 2 ≡ 0 → ⊥) → bit_xor (2 * x) d ≡ doubled 88 d x
+  unfolding doubled scale xor
+  doubled_less n =
+      let e : 2 * x / 2 ^ 88 % 2 ≡ 1 = omega arith in
+      xor_comm (2 * x) d ∙ sym (ap (λ (t : ℕ). bit_xor (scale t d) (2 * x)) e)
+
+-- times a bit
+pub scaled_none : (b x : ℕ) → b ≡ 0 → 0 ≡ scale b x
+unfolding scale
+scaled_none b x e = rw e refl
+
+pub scaled_one : (b x : ℕ) → (b ≡ 0 → ⊥) → x ≡ scale b x
+unfolding scale
+scaled_one zero x n = absurd (n refl)
+scaled_one (suc b) x n = refl

@@ -11,7 +11,6 @@ use borrow.Author.Tests.{eq-eqb, ne_eqb, eqb-true, not-true, not-false}
 use lib.Bits.{bit_xor}
 use lib.Dec.{eqb}
 use lib.ListN.{length, get_or, set, replicate, length-set}
-use lib.Pow.{field, mod-mod-pow, shr-shr}
 use lib.Seq.{get_or-set_same, get_or-set_other}
 use mir.Syntax.{w16, w64}
 use mir.Val.{Fits}
@@ -30,33 +29,13 @@ use Rattle.decoding.proofs.Steps.Symbols.{copied_same}
 use Rattle.decoding.proofs.Algebra.Tables.{powers_length, tables_b}
 use Rattle.words.specs.Bits.{bit_of, bit_at, bits_of}
 use Rattle.words.specs.InnerCode.{divisor, remainder}
-use Rattle.words.specs.Steps.Limbs.{number, Represents}
 use Rattle.words.specs.Steps.InnerDecoding.{powers_value, odd_syndromes, plus_term, Syndromes, is_bit, is_binary, flips, ErrorsOf, InnerErrors, inverted, explains}
 use Rattle.words.proofs.Decoding.Inner.{flip_at}
 
--- coefficient k of 88, the highest first: where it is one of the 48 low ones, and where it is not
-module _ (h l k : ℕ) (split : l < 2 ^ 48) (bound : k < 88) where
-  pub coefficient_low : 88 - 1 - k < 48 → l / 2 ^ (88 - 1 - k) % 2 ≡ bit_of 88 (number h l) k
-  unfolding number bit_of
-  coefficient_low low =
-      let x = h * 2 ^ 48 + l in
-      let e = 88 - 1 - k in
-      let n = 47 - e in
-      let sum : n + 1 + e ≡ 48 = omega arith in
-      let u : x % 2 ^ 48 ≡ l = omega arith in
-      let part : x % 2 ^ (n + 1 + e) / 2 ^ e ≡ x / 2 ^ e % 2 ^ (n + 1) = field x (n + 1) e in
-      let same : e ≡ 88 - suc k = omega arith in
-      ap (λ (z : ℕ). z / 2 ^ e % 2) (sym u ∙ ap (λ (z : ℕ). x % 2 ^ z) (sym sum)) ∙ ap (λ (z : ℕ). z % 2) part
-      ∙ mod-mod-pow (x / 2 ^ e) n 1 ∙ ap (λ (z : ℕ). x / 2 ^ z % 2) same
-
-  pub coefficient_high : 48 ≤ 88 - 1 - k → h / 2 ^ (88 - 1 - k - 48) % 2 ≡ bit_of 88 (number h l) k
-  unfolding number bit_of
-  coefficient_high high =
-      let x = h * 2 ^ 48 + l in
-      let e = 88 - 1 - k - 48 in
-      let same : 48 + e ≡ 88 - suc k = omega arith in
-      let u : x / 2 ^ 48 ≡ h = omega arith in
-      ap (λ (z : ℕ). z / 2 ^ e % 2) (sym u) ∙ ap (λ (z : ℕ). z % 2) (shr-shr x 48 e ∙ ap (λ (z : ℕ). x / 2 ^ z) same)
+-- coefficient k of 88, the highest first
+pub coefficient_made : (x k : ℕ) → k < 88 → x / 2 ^ (88 - 1 - k) % 2 ≡ bit_of 88 x k
+unfolding bit_of
+coefficient_made x k h = let same : 88 - 1 - k ≡ 88 - suc k = omega arith in ap (λ (z : ℕ). x / 2 ^ z % 2) same
 
 -- exponents, and bits times powers, are numbers of 16 bits
 pub exponent_fits : (j i : ℕ) → j < 8 → i < 88 → (2 * j + 1) * i < 65536
@@ -181,9 +160,9 @@ module _ (es ls : List ℕ) (exp : es ≡ powers_b) (log : ls ≡ exponents_b) w
   errors_are odd t places values count left S D n =
       record { t = t; syndromes = rw (exp, log) at S; decoded = rw (exp, log) at D; left_long = n }
 
-  pub word_errors : (w : List ℕ) (h l : ℕ) (odd places values : List ℕ) (count : ℕ) (left : List ℕ) → Represents h l (remainder 88 divisor (bit_at w) 2040) →
-      odd ≡ odd_syndromes es (number h l) → ErrorsOf odd places values count left → InnerErrors w places values count left
-  word_errors w h l odd places values count left r e E = record { found = rw (e, exp, r.value) at E }
+pub word_errors : (w : List ℕ) (v : ℕ) (odd places values : List ℕ) (count : ℕ) (left : List ℕ) → v ≡ remainder 88 divisor (bit_at w) 2040 →
+    odd ≡ odd_syndromes powers_b v → ErrorsOf odd places values count left → InnerErrors w places values count left
+word_errors w v odd places values count left r e E = record { found = rw (e, r) at E }
 
 module _ (es places values : List ℕ) (count : ℕ) (left : List ℕ) (t : Bool) (tested : t ≡ all_below 1 left) where
   pub explains_rest : t ≡ true → (b : Bool) → b ≡ is_binary es places values count → b ≡ explains es places values count left

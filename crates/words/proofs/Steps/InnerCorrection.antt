@@ -15,8 +15,7 @@ use Rattle.decoding.specs.Steps.Decoder.{weight_between, with_errors}
 use Rattle.words.specs.Bits.{bit_at, bits_of, bytes_of}
 use Rattle.words.specs.InnerCode.{is_inner}
 use Rattle.words.specs.Nearest.{nearest}
-use Rattle.words.specs.declared.InnerCorrection.{InnerCorrection}
-use Rattle.words.specs.declared.InnerCorrection.TheVariants.{Corrected, Refused}
+use Rattle.words.specs.InnerCorrections.{InnerCorrection, Corrected, Refused}
 use Rattle.words.specs.Answers.{refusal, data_changed_of, parity_changed_of, found, corrected, inner_changes, inner_corrected}
 use Rattle.words.specs.Steps.InnerDecoding.{flips, InnerErrors, explains}
 use Rattle.words.proofs.Bits.Bytes.{bytes_again, bits_length}

@@ -1,7 +1,7 @@
 -- Division six symbols at a step: the table is stored, symbols are joined, and the register moves on. Assumes nothing.
 use mathlib.Core.Path.{◌≡◌, refl, sym, ap, ap₂, ◌∙◌}
 use mathlib.Core.Bool.{true}
-use mathlib.Core.List.{List}
+use mathlib.Core.List.{List, [], ◌∷◌}
 use Prim.Native.Nat.{ℕ, zero, suc, ◌+◌, ◌-◌, ◌*◌, ◌/◌, ◌%◌, ◌^◌, ◌≤◌, ◌<◌}
 use native.Mathlib.Decide.{ℕ_discrete, dec_lt}
 use native.Mathlib.Nat.{add-zero, mod-eq_of_lt, mod-lt, not-suc-le-zero, zero-add}
@@ -223,6 +223,23 @@ module _ (d : List ℕ) (h m l i : ℕ) where
     unfolding divided_up_to parity_of
     packs_end lo hi = let e : i ≡ length d = omega arith in rw e at so_far
 
+-- the register after the first n symbols, fewer than six, and k times six more
+module _ (d : List ℕ) (h m l n : ℕ) (rest : n ≡ length d % 6) where
+  pub packs_start : all_below 1024 d ≡ true → (x : ℕ) → x ≡ joined_from d 0 n → Packs h m l (six_parity x) → Packs h m l (divided_up_to d (n + 6 * 0))
+  packs_start small x ex p =
+      let e : n ≡ n + 6 * 0 = omega arith in
+      rw e at (packs_first d h m l n small x ex rest p)
+
+  module _ (k : ℕ) (so_far : Packs h m l (divided_up_to d (n + 6 * k))) where
+    pub packs_step : all_below 1024 d ≡ true → (x a b c : ℕ) → x ≡ joined_from d (n + 6 * k) 6 → a ≡ xor m (six (six_parity (xor h x)) 0) → b ≡ xor l (six (six_parity (xor h x)) 6) →
+        c ≡ six (six_parity (xor h x)) 12 → Packs a b c (divided_up_to d (n + 6 * (k + 1)))
+    packs_step small x a b c ex ea eb ec =
+        let e : n + 6 * k + 6 ≡ n + 6 * (k + 1) = omega arith in
+        rw e at (packs_next d h m l (n + 6 * k) so_far small x a b c ex ea eb ec)
+
+    pub packs_all : k ≤ length d / 6 → length d / 6 ≤ k → Packs h m l (outer_parity d)
+    packs_all lo hi = packs_end d h m l (n + 6 * k) so_far (omega arith) (omega arith)
+
 -- a symbol of six, and the numbers of a register
 pub symbol_masked : (x i : ℕ) → i < 6 → Bits.bit_and (x / 2 ^ (10 * (6 - 1 - i))) 1023 ≡ symbol_of x i
 unfolding symbol_of
@@ -233,29 +250,21 @@ symbol_masked x i h =
 pub symbol_fits : (x : ℕ) → Bits.bit_and x 1023 < 65536
 symbol_fits x = omega (arith, Bits.mask_lt x 10)
 
-module _ (h m l k : ℕ) where
-  pub number_first : k ≡ 0 → h ≡ packed_number h m l k
-  unfolding packed_number
-  number_first e = rw e
-
-  pub number_second : k ≡ 1 → m ≡ packed_number h m l k
-  unfolding packed_number
-  number_second e = rw e
-
-pub number_third : (h m l k : ℕ) → (k ≡ 0 → ⊥) → (k ≡ 1 → ⊥) → l ≡ packed_number h m l k
+number_at : (h m l k : ℕ) → k < 3 → get_or (h ∷ m ∷ l ∷ []) k 0 ≡ packed_number h m l k
 unfolding packed_number
-number_third h m l zero a b = absurd (a refl)
-number_third h m l (suc zero) a b = absurd (b refl)
-number_third h m l (suc (suc k)) a b = refl
+number_at h m l zero b = refl
+number_at h m l (suc zero) b = refl
+number_at h m l (suc (suc zero)) b = refl
+number_at h m l (suc (suc (suc k))) b = absurd (omega arith)
 
 -- cell i of a register
 unfoldable pub cell_of : ℕ → ℕ → ℕ → ℕ → ℕ
 cell_of h m l i = symbol_of (packed_number h m l (i / 6)) (i % 6)
 
 module _ (h m l i : ℕ) (cells : List ℕ) (so_far : Filled 16 (cell_of h m l) i cells) where
-  pub cells_next : (x v : ℕ) → i < 16 → x ≡ packed_number h m l (i / 6) → v ≡ symbol_of x (i % 6) → Filled 16 (cell_of h m l) (i + 1) (set cells i v)
+  pub cells_next : (v : ℕ) → i < 16 → v ≡ symbol_of (get_or (h ∷ m ∷ l ∷ []) (i / 6) 0) (i % 6) → Filled 16 (cell_of h m l) (i + 1) (set cells i v)
   unfolding cell_of
-  cells_next x v b ex ev = filled_next so_far b (rw ex at ev)
+  cells_next v b ev = filled_next so_far b (rw (number_at h m l (i / 6) (omega arith)) at ev)
 
   pub cells_end : 16 ≤ i → cells ≡ unpacked h m l
   unfolding cell_of unpacked

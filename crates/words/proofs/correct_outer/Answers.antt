@@ -3,8 +3,8 @@ use Rattle.words.proofs.Steps.Entries.{word_least, word_most, word_parity, word_
 use Rattle.words.proofs.Steps.Corrections.{correct_outer_refused, correct_outer_fits}
 use Rattle.words.proofs.correct_outer.Goals as goal
 
-pub returns-then-number-ne0 : goal.returns-then-number-ne0
-returns-then-number-ne0 c = search (rules, correct_outer_refused)
+pub returns-in_err-tested : goal.returns-in_err-tested
+returns-in_err-tested c = search (rules, correct_outer_refused)
 
 pub remainder-rest-requires : goal.remainder-rest-requires
 remainder-rest-requires c = search (rules, word_parity, word_symbols)

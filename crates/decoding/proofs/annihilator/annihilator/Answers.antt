@@ -4,6 +4,3 @@ use Rattle.decoding.proofs.annihilator.annihilator.Goals as goal
 
 pub annihilates-requires : goal.annihilates-requires
 annihilates-requires c = search (rules, reversed_elements)
-
-pub returns-then-annihilates : goal.returns-then-annihilates
-returns-then-annihilates c = search (rules, c.annihilates.ensures)

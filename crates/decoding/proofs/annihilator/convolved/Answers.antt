@@ -1,5 +1,5 @@
 use borrow.Author.Rules.{rules}
-use Rattle.decoding.proofs.Steps.BerlekampMassey.{convolved_none, convolved_next, convolved_end}
+use Rattle.decoding.proofs.Steps.BerlekampMassey.{convolved_none, convolved_next}
 use Rattle.decoding.proofs.annihilator.convolved.Goals as goal
 
 pub loop-i-init : goal.loop-i-init
@@ -7,6 +7,3 @@ loop-i-init c = search (rules, convolved_none)
 
 pub loop-i-preserved : goal.loop-i-preserved
 loop-i-preserved c = search (rules, convolved_next)
-
-pub returns : goal.returns
-returns c = search (rules, convolved_end)

@@ -1,5 +1,5 @@
 use borrow.Author.Rules.{rules}
-use Rattle.decoding.proofs.Steps.BerlekampMassey.{shifted_none, shifted_next, shifted_end}
+use Rattle.decoding.proofs.Steps.BerlekampMassey.{shifted_none, shifted_next}
 use Rattle.decoding.proofs.annihilator.plus_shifted.Goals as goal
 
 pub loop-k-init : goal.loop-k-init
@@ -7,6 +7,3 @@ loop-k-init c = search (rules, shifted_none)
 
 pub loop-k-preserved : goal.loop-k-preserved
 loop-k-preserved c = search (rules, shifted_next)
-
-pub returns : goal.returns
-returns c = search (rules, shifted_end)

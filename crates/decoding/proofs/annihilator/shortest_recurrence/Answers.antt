@@ -1,5 +1,5 @@
 use borrow.Author.Rules.{rules}
-use Rattle.decoding.proofs.Steps.BerlekampMassey.{berlekamp_massey_none, berlekamp_massey_next, berlekamp_massey_end}
+use Rattle.decoding.proofs.Steps.BerlekampMassey.{berlekamp_massey_none, berlekamp_massey_next}
 use Rattle.decoding.proofs.annihilator.shortest_recurrence.Goals as goal
 
 pub loop-n-init : goal.loop-n-init
@@ -7,6 +7,3 @@ loop-n-init c = search (rules, berlekamp_massey_none)
 
 pub loop-n-preserved : goal.loop-n-preserved
 loop-n-preserved c = search (rules, berlekamp_massey_next)
-
-pub returns : goal.returns
-returns c = search (rules, berlekamp_massey_end)

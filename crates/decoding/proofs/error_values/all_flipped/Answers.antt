@@ -1,5 +1,5 @@
 use borrow.Author.Rules.{rules}
-use Rattle.decoding.proofs.Steps.Flips.{flipped_none, flipped_place, flipped_next, flipped_end}
+use Rattle.decoding.proofs.Steps.Flips.{flipped_none, flipped_place, flipped_next}
 use Rattle.decoding.proofs.error_values.all_flipped.Goals as goal
 
 pub loop-k-init : goal.loop-k-init
@@ -10,6 +10,3 @@ flipped-e-requires c = search (rules, flipped_place)
 
 pub loop-k-preserved : goal.loop-k-preserved
 loop-k-preserved c = search (rules, flipped_next)
-
-pub returns : goal.returns
-returns c = search (rules, flipped_end)

@@ -1,10 +1,6 @@
 use borrow.Author.Rules.{rules}
-use Rattle.fields.proofs.Places.Filling.{filled_start}
 use Rattle.decoding.proofs.Steps.Errors.{filtered_next, filtered_end}
 use Rattle.decoding.proofs.error_values.filtered.Goals as goal
-
-pub loop-j-init : goal.loop-j-init
-loop-j-init c = search (rules, filled_start)
 
 pub loop-j-preserved : goal.loop-j-preserved
 loop-j-preserved c = search (rules, filtered_next)

@@ -1,9 +1,6 @@
 use borrow.Author.Rules.{rules}
-use Rattle.decoding.proofs.Steps.Flips.{powers_none, powers_next, powers_end}
+use Rattle.decoding.proofs.Steps.Flips.{powers_next, powers_end}
 use Rattle.decoding.proofs.error_values.less_powers.Goals as goal
-
-pub loop-j-init : goal.loop-j-init
-loop-j-init c = search (rules, powers_none)
 
 pub loop-j-preserved : goal.loop-j-preserved
 loop-j-preserved c = search (rules, powers_next)

@@ -1,9 +1,15 @@
 use borrow.Author.Rules.{rules}
-use Rattle.decoding.proofs.Steps.PowerTables.{block_none, block_some}
+use Rattle.decoding.proofs.Steps.PowerTables.{term_small, term_position, block_none, block_some, positions_next, positions_all}
 use Rattle.decoding.proofs.power_tables.block.Goals as goal
 
-pub returns-then-any-eq0 : goal.returns-then-any-eq0
-returns-then-any-eq0 c = block_none _ _ _ _ _ _ _ _ _ _ _ _ _ _ c.position-a.ensures.0 c.position-b.ensures.0 c.position-c.ensures.0 c.position-d.ensures.0 c.position-e.ensures.0 c.position-f.ensures.0 c.position-g.ensures.0 c.position-h.ensures.0 _ (search rules) c.any.ensures
+pub position-requires : goal.position-requires
+position-requires c = term_small c.args.terms.now c.loop-d.d c.args.i (search rules) c.requires.by_index.0 c.requires.by_index.1
+
+pub loop-d-preserved : goal.loop-d-preserved
+loop-d-preserved c = search (rules, positions_next, term_position)
+
+pub returns-then-any : goal.returns-then-any
+returns-then-any c = block_some _ _ _ _ _ _ _ (positions_all c.loop-d.invariant (search rules)) _ c.kept_of.ensures
 
 pub returns : goal.returns
-returns c = block_some _ _ _ _ _ _ _ _ _ _ _ _ _ _ c.position-a.ensures.0 c.position-b.ensures.0 c.position-c.ensures.0 c.position-d.ensures.0 c.position-e.ensures.0 c.position-f.ensures.0 c.position-g.ensures.0 c.position-h.ensures.0 _ c.kept_of.ensures
+returns c = block_none _ _ _ _ _ _ _ (positions_all c.loop-d.invariant (search rules)) _ (search rules) c.any.ensures

@@ -1,10 +1,7 @@
 use borrow.Author.Rules.{rules}
-use Rattle.fields.proofs.Places.Filling.{filled_start, filled_end}
+use Rattle.fields.proofs.Places.Filling.{filled_end}
 use Rattle.decoding.proofs.Steps.PowerTables.{sums_next}
 use Rattle.decoding.proofs.power_tables.block_sums.Goals as goal
-
-pub loop-l-init : goal.loop-l-init
-loop-l-init c = search (rules, filled_start)
 
 pub loop-l-preserved : goal.loop-l-preserved
 loop-l-preserved c = search (rules, sums_next)

@@ -1,9 +1,7 @@
-use Prim.Native.Nat.{◌-◌}
+use Prim.Native.Nat.{◌*◌}
+use Rattle.decoding.specs.Steps.PowerTables.{bases_of, starts_of}
 use Rattle.decoding.proofs.Steps.TableRoots.{Scanning}
 use Rattle.decoding.proofs.power_tables.scanned.Given as goal
 
-abbrev pub invariant-loop-i : goal.invariant-loop-i
-invariant-loop-i l = Scanning l.exp l.log l.n l.tables l.s.bases l.s.starts l.x l.i l.p
-
-abbrev pub decreases-loop-i : goal.decreases-loop-i
-decreases-loop-i l = l.n - l.i
+abbrev pub invariant-loop-k : goal.invariant-loop-k
+invariant-loop-k l = Scanning l.field.exp.now l.field.log.now l.n l.tables (bases_of l.terms) (starts_of l.terms) l.x (40 * l.k) l.p

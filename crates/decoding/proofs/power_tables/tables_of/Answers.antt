@@ -1,10 +1,6 @@
 use borrow.Author.Rules.{rules}
-use Rattle.fields.proofs.Places.Filling.{filled_start}
 use Rattle.decoding.proofs.Steps.PowerTables.{bases_next, starts_next, bases_end, starts_end}
 use Rattle.decoding.proofs.power_tables.tables_of.Goals as goal
-
-pub loop-d-init : goal.loop-d-init
-loop-d-init c = search (rules, filled_start)
 
 pub loop-d-preserved : goal.loop-d-preserved
 loop-d-preserved c = search (rules, bases_next, starts_next)

@@ -2,8 +2,8 @@ use borrow.Author.Rules.{rules}
 use Rattle.decoding.proofs.Decoding.LinearRoot.{coefficient_exponent, all_roots, constant_none, zero_none, front_none, before_none, root_here}
 use Rattle.decoding.proofs.root_search.linear_root.Goals as goal
 
-pub returns-then-d-eq0 : goal.returns-then-d-eq0
-returns-then-d-eq0 c = search (rules, all_roots)
+pub returns-then-i-n : goal.returns-then-i-n
+returns-then-i-n c = search (rules, all_roots)
 
 pub returns-then-c-eq0 : goal.returns-then-c-eq0
 returns-then-c-eq0 c = search (rules, constant_none)

@@ -1,21 +1,19 @@
+use mathlib.Core.Path.{refl}
 use borrow.Author.Rules.{rules}
-use Rattle.decoding.proofs.Steps.Search.{exponent_inside, moved_none, moved_inside, moved_next, moved_end, moved_sum}
+use Rattle.decoding.proofs.Steps.Search.{moved_none, term_inside, term_step_inside, term_moved, term_steps}
 use Rattle.decoding.proofs.root_search.next_value.Goals as goal
 
 pub loop-l-init : goal.loop-l-init
-loop-l-init c = search (rules, moved_none)
+loop-l-init c = (search (rules, moved_none), refl)
 
-pub offset_bounds-exp-e : goal.offset_bounds-exp-e
-offset_bounds-exp-e c = search (rules, moved_inside)
+pub offset_bounds-field-term : goal.offset_bounds-field-term
+offset_bounds-field-term c = search (rules, term_inside)
 
-pub bounds-exp-e : goal.bounds-exp-e
-bounds-exp-e c = search (rules, moved_inside)
+pub bounds-field-term : goal.bounds-field-term
+bounds-field-term c = search (rules, term_inside)
 
 pub less-requires : goal.less-requires
-less-requires c = search (rules, exponent_inside, moved_inside)
+less-requires c = (search (rules, term_inside), search (rules, term_step_inside))
 
 pub loop-l-preserved : goal.loop-l-preserved
-loop-l-preserved c = search (rules, moved_next)
-
-pub returns : goal.returns
-returns c = search (rules, moved_end, moved_sum)
+loop-l-preserved c = (search (rules, term_moved), search (rules, term_steps))

@@ -1,9 +1,8 @@
-use Prim.Native.Nat.{◌-◌}
-use Rattle.decoding.proofs.Steps.RootsFound.{Searching}
+use Rattle.decoding.proofs.Steps.RootsFound.{Standing, places_left}
 use Rattle.decoding.proofs.root_search.roots.Given as goal
 
-abbrev pub invariant-loop-i : goal.invariant-loop-i
-invariant-loop-i l = Searching l.exp l.log l.initial.q.coefficients l.n l.i l.p l.q.coefficients
+abbrev pub invariant-loop-next : goal.invariant-loop-next
+invariant-loop-next l = Standing l.field.exp.now l.field.log.now l.initial.quotient l.n l.next l.p l.quotient
 
-abbrev pub decreases-loop-i : goal.decreases-loop-i
-decreases-loop-i l = l.n - l.i
+abbrev pub decreases-loop-next : goal.decreases-loop-next
+decreases-loop-next l = places_left l.n l.next

@@ -1,5 +1,5 @@
 use borrow.Author.Rules.{rules}
-use Rattle.decoding.proofs.Steps.Search.{terms_none, terms_next, terms_end}
+use Rattle.decoding.proofs.Steps.Search.{terms_none, terms_next}
 use Rattle.decoding.proofs.root_search.terms_at.Goals as goal
 
 pub loop-d-init : goal.loop-d-init
@@ -9,6 +9,3 @@ pub loop-d-preserved : goal.loop-d-preserved
 loop-d-preserved c =
     terms_next _ _ _ _ _ _ _ c.loop-d.invariant _ _ _ _ c.loop-d-test.true
     c.product-value.ensures.by_tables c.power.ensures.by_table c.with_term-t.ensures c.product-power.ensures.by_tables
-
-pub returns : goal.returns
-returns c = search (rules, terms_end)

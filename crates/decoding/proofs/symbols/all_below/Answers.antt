@@ -1,15 +1,10 @@
 use borrow.Author.Rules.{rules}
-use Rattle.decoding.proofs.Steps.Symbols.{below_none, below_not, below_next, below_end}
+use Prim.Native.Nat.{◌<◌}
+use Rattle.std.specs.Prelude.{◌↔◌, IsTrue, EachIndex, slice_index}
+use Rattle.decoding.proofs.Steps.Symbols.{below_each}
 use Rattle.decoding.proofs.symbols.all_below.Goals as goal
 
-pub loop-i-init : goal.loop-i-init
-loop-i-init c = search (rules, below_none)
-
-pub returns-then-word-i : goal.returns-then-word-i
-returns-then-word-i c = search (rules, below_not)
-
-pub loop-i-preserved : goal.loop-i-preserved
-loop-i-preserved c = search (rules, below_next)
-
 pub returns : goal.returns
-returns c = search (rules, below_end)
+returns c =
+    let each : IsTrue c.all.result ↔ EachIndex c.args.word.now (λ k. slice_index c.args.word.now k < c.args.q) = search rules in
+    below_each c.args.q c.args.word.now c.all.result each

@@ -3,4 +3,4 @@ use Rattle.frames.proofs.Numbers.Groups.{symbol_inside}
 use Rattle.frames.proofs.bits.symbol_in.Goals as goal
 
 pub returns : goal.returns
-returns c = search (rules, symbol_inside)
+returns c = search (rules, symbol_inside, c.type_inv.bytes)

@@ -1,9 +1,15 @@
-use borrow.Author.Rules.{rules}
-use Rattle.frames.proofs.Numbers.Groups.{each_and_bytes, byte_room}
+use mathlib.Core.Path.{refl}
+use Prim.Native.Nat.{ℕ, ◌+◌, ◌*◌, ◌/◌, ◌%◌}
+use native.Mathlib.Omega.{arith}
+use lib.ListN.{length, length-take, length-drop, length-append}
+use Rattle.frames.proofs.Numbers.Slices.{rest_bit}
+use Rattle.frames.proofs.Numbers.Groups.{each_and_bytes}
 use Rattle.frames.proofs.bits.write_from_bit.Goals as goal
 
-pub write_from_byte-requires : goal.write_from_byte-requires
-write_from_byte-requires c = (search rules, search (rules, byte_room), search rules)
-
 pub returns : goal.returns
-returns c = search (rules, each_and_bytes)
+returns c =
+    each_and_bytes c.args.bytes.now _ c.args.out.now c.args.i (length c.args.out.now) (3 * (c.args.i % 8 / 2) % 4) ((c.args.i + 10 * (3 * (c.args.i % 8 / 2) % 4)) / 8) _ _ (omega arith) refl
+    (omega arith) refl refl (λ j. rest_bit c.args.bytes.now ((c.args.i + 10 * (3 * (c.args.i % 8 / 2) % 4)) / 8) _ j (omega arith) refl) c.write_each.ensures
+    (omega (arith, length-take {A = ℕ}, length-drop {A = ℕ})) c.write_from_byte.ensures
+    (omega (arith, length-append {A = ℕ}, length-take {A = ℕ}, length-drop {A = ℕ})) _
+    (omega (arith, length-append {A = ℕ}, length-take {A = ℕ}, length-drop {A = ℕ}))

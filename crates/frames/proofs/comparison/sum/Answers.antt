@@ -1,19 +1,11 @@
+use mathlib.Core.Path.{◌≡◌, ◌∙◌}
+use native.Mathlib.Omega.{arith}
 use borrow.Author.Rules.{rules}
-use mir.Facts.{Fits-widen}
-use Rattle.frames.proofs.Correction.ReportCounts.{summing_start, summing_fits, summing_next, summing_end, summing_most}
+use Rattle.std.specs.List.{sum}
+use Rattle.frames.proofs.Correction.ReportCounts.{total_sum, sum_most}
 use Rattle.frames.proofs.comparison.sum.Goals as goal
 
-pub loop-k-init : goal.loop-k-init
-loop-k-init c = search (rules, summing_start)
-
-pub overflow_cast-n : goal.overflow_cast-n
-overflow_cast-n c = Fits-widen tt (c.shared_slice_known-1.given _)
-
-pub overflow_add-n : goal.overflow_add-n
-overflow_add-n c = search (rules, summing_fits, c.shared_slice_known-1.given)
-
-pub loop-k-preserved : goal.loop-k-preserved
-loop-k-preserved c = search (rules, summing_next, c.shared_slice_known-1.given)
-
 pub returns : goal.returns
-returns c = search (rules, summing_end, summing_most)
+returns c =
+    let e : c.sum.result ≡ sum c.args.counts.now = search rules in
+    (e ∙ total_sum c.args.counts.now, omega (arith, sum_most c.args.counts.now (λ i. (c.type_inv.counts i).fits) c.requires))

@@ -1,11 +1,7 @@
-use Prim.Native.Nat.{◌-◌, ◌≤◌}
 use Rattle.fields.proofs.Places.Filling.{Filled}
 use Rattle.frames.specs.Steps.Symbols.{payload_byte}
 use Rattle.frames.proofs.OuterSymbols.Writing.{done_to}
 use Rattle.frames.proofs.outer_words.extract.Given as goal
 
 abbrev pub invariant-loop-w : goal.invariant-loop-w
-invariant-loop-w l = (l.w ≤ 16) × Filled 15296 (payload_byte l.outer) (done_to l.w) l.out
-
-abbrev pub decreases-loop-w : goal.decreases-loop-w
-decreases-loop-w l = 16 - l.w
+invariant-loop-w l = Filled 15296 (payload_byte l.outer) (done_to l.w) l.out

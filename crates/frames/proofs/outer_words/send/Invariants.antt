@@ -1,10 +1,6 @@
-use Prim.Native.Nat.{◌-◌}
 use Rattle.fields.proofs.Places.Filling.{Filled}
 use Rattle.frames.proofs.OuterSymbols.Writing.{sent_byte}
 use Rattle.frames.proofs.outer_words.send.Given as goal
 
 abbrev pub invariant-loop-k : goal.invariant-loop-k
 invariant-loop-k l = Filled 16320 (sent_byte l.outer) l.k l.out
-
-abbrev pub decreases-loop-k : goal.decreases-loop-k
-decreases-loop-k l = 15616 - l.k

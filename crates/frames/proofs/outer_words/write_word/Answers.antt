@@ -1,12 +1,22 @@
-use borrow.Author.Rules.{rules}
-use Rattle.frames.proofs.OuterSymbols.Words.{data_part_below, data_long, parity_room, word_placed}
+use Prim.Native.Nat.{ℕ}
+use native.Mathlib.Omega.{arith}
+use lib.ListN.{length-take, length-drop, length-append}
+use Rattle.frames.proofs.Frames.FrameBits.{data_in_is}
+use Rattle.frames.proofs.OuterSymbols.Words.{data_below, word_written}
 use Rattle.frames.proofs.outer_words.write_word.Goals as goal
 
-pub parity-cells-requires : goal.parity-cells-requires
-parity-cells-requires c = search (rules, data_part_below)
+pub write_from_bit-requires : goal.write_from_bit-requires
+write_from_bit-requires c =
+    let n = data_in_is c.args.w c.requires.0 in
+    (omega arith, omega (arith, length-take {A = ℕ}), omega arith, omega (arith, length-take {A = ℕ}))
 
-pub write-requires : goal.write-requires
-write-requires c = (search (rules, parity_room), search (rules, data_long))
+pub parity-parity-requires : goal.parity-parity-requires
+parity-parity-requires c =
+    data_below c.args.payload.now c.args.word.now c.args.w c.data_in-n.result _ c.data_in-n.ensures.0 c.requires.1 c.write_from_bit.ensures
+    (omega (arith, length-take {A = ℕ}))
 
 pub returns : goal.returns
-returns c = search (rules, word_placed)
+returns c =
+    word_written c.args.payload.now c.args.word.now c.args.w c.data_in-n.result _ c.data_in-n.ensures.0 c.requires.1 c.write_from_bit.ensures
+    (omega (arith, length-take {A = ℕ})) _ c.parity-parity.ensures c.copy_from_slice.ensures.after
+    (omega (arith, length-append {A = ℕ}, length-take {A = ℕ}, length-drop {A = ℕ}))

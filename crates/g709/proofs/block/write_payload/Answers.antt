@@ -1,15 +1,9 @@
-use Rattle.g709.proofs.RowSteps.{data_start, data_room, data_next, data_end}
-use borrow.Author.Rules.{rules}
+use native.Mathlib.Omega.{arith}
+use Rattle.g709.proofs.RowSteps.{data_next, data_end}
 use Rattle.g709.proofs.block.write_payload.Goals as goal
 
-pub loop-r-init : goal.loop-r-init
-loop-r-init c = search (rules, data_start)
-
-pub copy-requires : goal.copy-requires
-copy-requires c = search (rules, data_room)
-
 pub loop-r-preserved : goal.loop-r-preserved
-loop-r-preserved c = search (rules, data_next)
+loop-r-preserved c = data_next _ _ _ _ _ _ _ c.loop-r.invariant c.loop-r-test.true c.requires.1 (omega arith) (omega arith) c.copy.ensures.after
 
 pub returns : goal.returns
-returns c = search (rules, data_end)
+returns c = data_end _ _ _ _ c.loop-r.invariant c.loop-r-test.false

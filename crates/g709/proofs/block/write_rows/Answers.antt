@@ -1,15 +1,11 @@
-use Rattle.g709.proofs.RowSteps.{rows_start, rows_payload, rows_next, rows_end}
-use borrow.Author.Rules.{rules}
+use native.Mathlib.Omega.{arith}
+use Rattle.g709.proofs.RowSteps.{rows_next, rows_end}
 use Rattle.g709.proofs.block.write_rows.Goals as goal
 
-pub loop-r-init : goal.loop-r-init
-loop-r-init c = search (rules, rows_start)
-
-pub write_row-requires : goal.write_row-requires
-write_row-requires c = search (rules, rows_payload)
-
 pub loop-r-preserved : goal.loop-r-preserved
-loop-r-preserved c = search (rules, rows_next)
+loop-r-preserved c =
+    let part = rw c.unwrap-part.ensures at c.try_into.ensures.1 in
+    rows_next _ _ _ _ _ _ _ _ c.loop-r.invariant c.loop-r-test.true c.requires.1 (omega arith) (omega arith) part.same c.write_row.ensures
 
 pub returns : goal.returns
-returns c = search (rules, rows_end)
+returns c = rows_end _ _ _ _ c.loop-r.invariant c.loop-r-test.false

@@ -1,11 +1,5 @@
-use mathlib.Core.Path.{◌≡◌}
-use Prim.Native.Nat.{◌*◌, ◌-◌, ◌≤◌}
-use lib.ListN.{length}
 use Rattle.g709.proofs.RowSteps.{RowsTo}
 use Rattle.g709.proofs.block.write_rows.Given as goal
 
 abbrev pub invariant-loop-r : goal.invariant-loop-r
-invariant-loop-r l = (l.n ≤ 4) × (length l.payload ≡ 3824 * l.n) × RowsTo l.n l.payload l.r l.out
-
-abbrev pub decreases-loop-r : goal.decreases-loop-r
-decreases-loop-r l = l.n - l.r
+invariant-loop-r l = RowsTo l.n l.payload l.r l.out

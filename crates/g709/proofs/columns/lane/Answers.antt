@@ -1,13 +1,6 @@
-use Rattle.fields.proofs.Places.Filling.{filled_start, filled_next}
 use Rattle.g709.proofs.Correcting.{lane_end}
 use borrow.Author.Rules.{rules}
 use Rattle.g709.proofs.columns.lane.Goals as goal
-
-pub loop-i-init : goal.loop-i-init
-loop-i-init c = search (rules, filled_start)
-
-pub loop-i-preserved : goal.loop-i-preserved
-loop-i-preserved c = search (rules, filled_next)
 
 pub returns : goal.returns
 returns c = search (rules, lane_end)

@@ -11,8 +11,5 @@ add_values-requires c = record {
   byte_values = search (rules, byte_values);
 }
 
-pub weight-requires : goal.weight-requires
-weight-requires c = search (rules, few_errors)
-
 pub returns : goal.returns
 returns c = (search (rules, word_found), search (rules, few_changed))

@@ -1,9 +1,8 @@
-use Rattle.decoding.proofs.Steps.PowerTables.{keep_few, keep_here, keep_not}
-use borrow.Author.Rules.{rules}
+use Rattle.g709.proofs.Locating.{root_kept, root_not}
 use Rattle.g709.proofs.locators.keep_root.Goals as goal
 
 pub returns-then-v-eq0 : goal.returns-then-v-eq0
-returns-then-v-eq0 c = search (rules, keep_here, keep_few)
+returns-then-v-eq0 c = root_kept _ _ _ _ c.if-v-eq0.true c.keep.ensures c.requires.0
 
 pub returns : goal.returns
-returns c = search (rules, keep_not)
+returns c = root_not _ _ _ c.if-v-eq0.false c.requires.0

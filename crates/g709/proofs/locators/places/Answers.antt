@@ -1,4 +1,4 @@
-use Rattle.g709.proofs.Locating.{placing_start, placing_next, placing_end}
+use Rattle.g709.proofs.Locating.{placing_start, placing_next}
 use borrow.Author.Rules.{rules}
 use Rattle.g709.proofs.locators.places.Goals as goal
 
@@ -7,6 +7,3 @@ loop-i-init c = search (rules, placing_start)
 
 pub loop-i-preserved : goal.loop-i-preserved
 loop-i-preserved c = search (rules, placing_next)
-
-pub returns : goal.returns
-returns c = search (rules, placing_end)

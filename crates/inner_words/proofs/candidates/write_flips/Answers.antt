@@ -4,10 +4,10 @@ use Rattle.inner_words.proofs.Passes.TooMany.{raising_start, raising_next, raisi
 use Rattle.inner_words.proofs.candidates.write_flips.Goals as goal
 
 pub loop-p-init : goal.loop-p-init
-loop-p-init c = (search (rules, writing_start), search (rules, raising_start))
+loop-p-init c = record { block = search (rules, writing_start); many = search (rules, raising_start) }
 
 pub loop-p-preserved : goal.loop-p-preserved
-loop-p-preserved c = (search (rules, writing_next), search (rules, raising_next))
+loop-p-preserved c = record { block = search (rules, writing_next); many = search (rules, raising_next) }
 
 pub returns : goal.returns
 returns c = record {

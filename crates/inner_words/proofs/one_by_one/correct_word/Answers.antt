@@ -4,12 +4,12 @@ use Rattle.inner_words.proofs.one_by_one.correct_word.Goals as goal
 
 pub returns-then-not-explains : goal.returns-then-not-explains
 returns-then-not-explains c = record {
-  put = search (rules, not_explained);
+  put = search (rules, not_explained, c.field_b.ensures.exp);
   tables = search rules;
 }
 
 pub returns : goal.returns
 returns c = record {
-  put = search (rules, word_explained);
+  put = search (rules, word_explained, c.field_b.ensures.exp);
   tables = search rules;
 }

@@ -1,9 +1,6 @@
 use borrow.Author.Rules.{rules}
-use Rattle.inner_words.proofs.ParityPlaces.ParitySteps.{sums_start, sums_next, sums_end}
+use Rattle.inner_words.proofs.ParityPlaces.ParitySteps.{sums_next, sums_end}
 use Rattle.inner_words.proofs.parity.four_sums.Goals as goal
-
-pub loop-g-init : goal.loop-g-init
-loop-g-init c = search (rules, sums_start)
 
 pub loop-g-preserved : goal.loop-g-preserved
 loop-g-preserved c = search (rules, sums_next)

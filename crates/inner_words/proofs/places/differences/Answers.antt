@@ -1,10 +1,7 @@
 use borrow.Author.Rules.{rules}
-use Rattle.fields.proofs.Places.Filling.{filled_start, filled_end}
+use Rattle.fields.proofs.Places.Filling.{filled_end}
 use Rattle.inner_words.proofs.Interleaving.EightBytes.{difference_next}
 use Rattle.inner_words.proofs.places.differences.Goals as goal
-
-pub loop-q-init : goal.loop-q-init
-loop-q-init c = search (rules, filled_start)
 
 pub loop-q-preserved : goal.loop-q-preserved
 loop-q-preserved c = search (rules, difference_next)

@@ -1,13 +1,6 @@
-use borrow.Author.Rules.{rules}
-use Rattle.fields.proofs.Places.Placing.{placing_start}
-use Rattle.inner_words.proofs.Passes.FlippedPlaces.{putting_byte, putting_all}
+use Rattle.std.proofs.Common.{◌∙◌, arith}
+use Rattle.inner_words.proofs.Interleaving.EightBytes.{place_put}
 use Rattle.inner_words.proofs.places.put_place.Goals as goal
 
-pub loop-j-init : goal.loop-j-init
-loop-j-init c = search (rules, placing_start)
-
-pub loop-j-preserved : goal.loop-j-preserved
-loop-j-preserved c = (search rules, putting_byte _ c.loop-j.invariant.1 (search rules) (search rules) (search rules))
-
 pub returns : goal.returns
-returns c = search (rules, putting_all)
+returns c = place_put _ c.args.p c.args.x _ c.requires (c.copy_from_slice.ensures.after ∙ c.to_be_bytes.ensures) (omega arith)

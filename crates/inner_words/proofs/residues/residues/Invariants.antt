@@ -1,10 +1,7 @@
-use Prim.Native.Nat.{◌+◌, ◌-◌, ◌*◌}
+use Rattle.std.proofs.Common.{◌+◌, ◌*◌}
 use Rattle.fields.proofs.Places.Filling.{Filled}
-use Rattle.inner_words.proofs.Remainders.ResidueSteps.{residue_at}
+use Rattle.inner_words.proofs.Remainders.ResidueSteps.{residue_number}
 use Rattle.inner_words.proofs.residues.residues.Given as goal
 
-abbrev pub invariant-loop-j : goal.invariant-loop-j
-invariant-loop-j l = Filled 88 (residue_at l.bytes (5 + 11 * l.blocks)) (11 * l.j) l.out
-
-abbrev pub decreases-loop-j : goal.decreases-loop-j
-decreases-loop-j l = 8 - l.j
+abbrev pub invariant-loop-c : goal.invariant-loop-c
+invariant-loop-c l = Filled 88 (residue_number l.bytes (5 + 11 * l.blocks)) l.c l.number-items

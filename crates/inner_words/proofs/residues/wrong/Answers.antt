@@ -1,12 +1,9 @@
 use borrow.Author.Rules.{rules}
-use Rattle.lanes.proofs.Sliced.{some_none, some_next, some_end}
+use Rattle.lanes.proofs.Sliced.{some_none, some_next}
 use Rattle.inner_words.proofs.residues.wrong.Goals as goal
 
-pub loop-i-init : goal.loop-i-init
-loop-i-init c = search (rules, some_none)
+pub loop-residue-init : goal.loop-residue-init
+loop-residue-init c = search (rules, some_none)
 
-pub loop-i-preserved : goal.loop-i-preserved
-loop-i-preserved c = search (rules, some_next)
-
-pub returns : goal.returns
-returns c = search (rules, some_end)
+pub loop-residue-preserved : goal.loop-residue-preserved
+loop-residue-preserved c = search (rules, some_next)

@@ -1,5 +1,5 @@
 use borrow.Author.Rules.{rules}
-use Rattle.lanes.proofs.Sliced.{some_none, some_end}
+use Rattle.lanes.proofs.Sliced.{some_none}
 use Rattle.inner_words.proofs.Remainders.ResidueSteps.{sums_next}
 use Rattle.inner_words.proofs.residues.wrong_sums.Goals as goal
 
@@ -8,6 +8,3 @@ loop-i-init c = search (rules, some_none)
 
 pub loop-i-preserved : goal.loop-i-preserved
 loop-i-preserved c = search (rules, sums_next)
-
-pub returns : goal.returns
-returns c = search (rules, some_end)

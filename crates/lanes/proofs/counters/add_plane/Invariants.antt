@@ -1,10 +1,6 @@
-use Prim.Native.Nat.{◌-◌}
 use Rattle.fields.proofs.Places.Filling.{FilledOver}
 use Rattle.lanes.proofs.CarrySave.{added_at}
 use Rattle.lanes.proofs.counters.add_plane.Given as goal
 
 abbrev pub invariant-loop-k : goal.invariant-loop-k
 invariant-loop-k l = FilledOver 64 (added_at l.initial.counts l.x l.weight) l.initial.counts l.k l.counts
-
-abbrev pub decreases-loop-k : goal.decreases-loop-k
-decreases-loop-k l = 64 - l.k

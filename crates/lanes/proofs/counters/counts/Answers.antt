@@ -1,16 +1,12 @@
-use borrow.Author.Rules.{rules}
-use Rattle.fields.proofs.Places.Filling.{zeros_at}
-use Rattle.lanes.proofs.CarrySave.{all_counted_lem}
+use Rattle.std.proofs.Common.{arith}
+use Rattle.lanes.proofs.CarrySave.{carried_first, carried_end, all_counted_lem}
 use Rattle.lanes.proofs.counters.counts.Goals as goal
 
-pub count-a-requires : goal.count-a-requires
-count-a-requires c = search (rules, zeros_at)
-
-pub count-b-requires : goal.count-b-requires
-count-b-requires c = search (rules, zeros_at)
-
-pub count-c-requires : goal.count-c-requires
-count-c-requires c = (search rules, search rules, zeros_at 1)
-
 pub returns : goal.returns
-returns c = search (rules, all_counted_lem)
+returns c =
+    all_counted_lem c.args.low c.count.result.0 c.count-2.result.0 c.count-3.result.0 c.args.eights.now c.count.result.1 c.count-2.result.1 c.count-3.result.1
+    c.args.n c.requires
+    (carried_first c.args.eights.now c.args.n (omega arith) c.count.ensures)
+    (carried_end c.count-2.ensures (omega arith) (omega arith))
+    (carried_end c.count-3.ensures (omega arith) (omega arith))
+    c.numbers.result c.numbers.ensures

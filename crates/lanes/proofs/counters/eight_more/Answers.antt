@@ -7,11 +7,11 @@ returns c =
     eight_added (λ k.
     omega (
       arith,
-      c.full_adder-a.ensures k,
-      c.full_adder-b.ensures k,
-      c.full_adder-c.ensures k,
-      c.full_adder-d.ensures k,
-      c.full_adder-e.ensures k,
-      c.full_adder-f.ensures k,
-      c.full_adder-g.ensures k,
+      c.full_adder-ones.ensures k,
+      c.full_adder-ones-2.ensures k,
+      c.full_adder-ones-3.ensures k,
+      c.full_adder-ones-4.ensures k,
+      c.full_adder-twos.ensures k,
+      c.full_adder-twos-2.ensures k,
+      c.full_adder-fours.ensures k,
     ))

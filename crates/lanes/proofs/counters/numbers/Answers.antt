@@ -1,5 +1,5 @@
 use borrow.Author.Rules.{rules}
-use Rattle.lanes.proofs.CarrySave.{weighing_start, weighing_few, weighing_light, weighing_double, weighing_next, weighing_end}
+use Rattle.lanes.proofs.CarrySave.{weighing_start, weighing_few, weighing_light, weighing_next, weighing_end}
 use Rattle.lanes.proofs.counters.numbers.Goals as goal
 
 pub loop-i-init : goal.loop-i-init
@@ -7,9 +7,6 @@ loop-i-init c = search (rules, weighing_start)
 
 pub add_plane-requires : goal.add_plane-requires
 add_plane-requires c = search (rules, weighing_light, weighing_few)
-
-pub overflow_mul-weight : goal.overflow_mul-weight
-overflow_mul-weight c = search (rules, weighing_double)
 
 pub loop-i-preserved : goal.loop-i-preserved
 loop-i-preserved c = search (rules, weighing_next)

@@ -1,5 +1,5 @@
 use borrow.Author.Rules.{rules}
-use Rattle.words.proofs.Steps.LimbProducts.{factors_none, factors_room, factors_next, factors_end}
+use Rattle.words.proofs.Steps.Products.{factors_none, factors_room, factors_next, factors_end}
 use Rattle.words.proofs.bch.divisor.Goals as goal
 
 pub loop-i-init : goal.loop-i-init

@@ -1,9 +1,9 @@
 use borrow.Author.Rules.{rules}
-use Rattle.words.proofs.Steps.Limbs.{doubled_below, doubled_above}
+use Rattle.words.proofs.Steps.FourPlaces.{doubled_same, doubled_less}
 use Rattle.words.proofs.bch.doubled.Goals as goal
 
 pub returns-then-t-eq0 : goal.returns-then-t-eq0
-returns-then-t-eq0 c = search (rules, doubled_below)
+returns-then-t-eq0 c = search (rules, doubled_same)
 
-pub returns : goal.returns
-returns c = search (rules, doubled_above)
+pub returns-else-t-eq0 : goal.returns-else-t-eq0
+returns-else-t-eq0 c = search (rules, doubled_less)

@@ -1,11 +1,7 @@
-use Prim.Native.Nat.{◌+◌, ◌-◌, ◌*◌}
+use Prim.Native.Nat.{◌+◌, ◌*◌}
 use Rattle.fields.proofs.Places.Filling.{Filled}
-use Rattle.words.specs.Steps.Limbs.{number}
 use Rattle.words.specs.Bits.{number_of, bit_of}
 use Rattle.words.proofs.bch.store.Given as goal
 
 abbrev pub invariant-loop-k : goal.invariant-loop-k
-invariant-loop-k l = Filled 11 (λ i. number_of 8 (λ j. bit_of 88 (number l.v.high l.v.low) (8 * i + j))) l.k l.out
-
-abbrev pub decreases-loop-k : goal.decreases-loop-k
-decreases-loop-k l = 11 - l.k
+invariant-loop-k l = Filled 11 (λ i. number_of 8 (λ j. bit_of 88 l.v (8 * i + j))) l.k l.out

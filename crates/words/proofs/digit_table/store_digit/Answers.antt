@@ -1,4 +1,4 @@
-use Rattle.words.proofs.Steps.Joining.{digit_start, unit_entry, unit_within, digit_end}
+use Rattle.words.proofs.Steps.Joining.{digit_start, unit_entry, unit_within}
 use borrow.Author.Rules.{rules}
 use Rattle.words.proofs.digit_table.store_digit.Goals as goal
 
@@ -10,6 +10,3 @@ bounds-units-r c = search (rules, unit_within)
 
 pub store_bit-requires : goal.store_bit-requires
 store_bit-requires c = search (rules, unit_entry)
-
-pub returns : goal.returns
-returns c = search (rules, digit_end)

@@ -3,14 +3,14 @@ use Rattle.fields.proofs.Places.Tests.{below_lt}
 use Rattle.words.proofs.Steps.Loops.{divided_none, divided_below, divided_next, divided_end}
 use Rattle.words.proofs.division.divide.Goals as goal
 
-pub loop-i-init : goal.loop-i-init
-loop-i-init c = search (rules, divided_none)
+pub loop-symbol-init : goal.loop-symbol-init
+loop-symbol-init c = search (rules, divided_none)
 
 pub next-register-requires : goal.next-register-requires
 next-register-requires c = search (rules, divided_below, below_lt)
 
-pub loop-i-preserved : goal.loop-i-preserved
-loop-i-preserved c = search (rules, divided_next)
+pub loop-symbol-preserved : goal.loop-symbol-preserved
+loop-symbol-preserved c = search (rules, divided_next)
 
 pub returns : goal.returns
 returns c = search (rules, divided_end)

@@ -1,15 +1,15 @@
-use Rattle.words.proofs.Steps.Joining.{packs_first, register_high, packs_next, packs_end}
+use Rattle.words.proofs.Steps.Joining.{packs_start, register_high, packs_step, packs_all}
 use borrow.Author.Rules.{rules}
 use Rattle.words.proofs.packed.divide.Goals as goal
 
-pub loop-i-init : goal.loop-i-init
-loop-i-init c = search (rules, packs_first)
+pub loop-k-init : goal.loop-k-init
+loop-k-init c = search (rules, packs_start)
 
 pub next-p-requires : goal.next-p-requires
 next-p-requires c = search (rules, register_high)
 
-pub loop-i-preserved : goal.loop-i-preserved
-loop-i-preserved c = search (rules, packs_next)
+pub loop-k-preserved : goal.loop-k-preserved
+loop-k-preserved c = search (rules, packs_step)
 
 pub returns : goal.returns
-returns c = search (rules, packs_end)
+returns c = search (rules, packs_all)

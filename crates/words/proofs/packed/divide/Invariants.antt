@@ -1,12 +1,9 @@
-use Prim.Native.Nat.{◌-◌, ◌%◌, ◌≤◌}
+use Prim.Native.Nat.{◌+◌, ◌*◌, ◌%◌}
 use lib.ListN.{length}
 use mathlib.Core.Path.{◌≡◌}
 use Rattle.words.specs.Steps.SixSymbols.{Packs}
 use Rattle.words.proofs.Steps.Loops.{divided_up_to}
 use Rattle.words.proofs.packed.divide.Given as goal
 
-abbrev pub invariant-loop-i : goal.invariant-loop-i
-invariant-loop-i l = (l.i ≤ length l.«data») × ((length l.«data» - l.i) % 6 ≡ 0) × Packs l.p.high l.p.middle l.p.low (divided_up_to l.«data» l.i)
-
-abbrev pub decreases-loop-i : goal.decreases-loop-i
-decreases-loop-i l = length l.«data» - l.i
+abbrev pub invariant-loop-k : goal.invariant-loop-k
+invariant-loop-k l = (l.first ≡ length l.«data» % 6) × Packs l.p.high l.p.middle l.p.low (divided_up_to l.«data» (l.first + 6 * l.k))

@@ -1,10 +1,6 @@
-use Rattle.fields.proofs.Places.Filling.{filled_start}
 use Rattle.words.proofs.Steps.Joining.{cells_next, cells_end}
 use borrow.Author.Rules.{rules}
 use Rattle.words.proofs.packed.unpacked.Goals as goal
-
-pub loop-i-init : goal.loop-i-init
-loop-i-init c = search (rules, filled_start)
 
 pub loop-i-preserved : goal.loop-i-preserved
 loop-i-preserved c = search (rules, cells_next)

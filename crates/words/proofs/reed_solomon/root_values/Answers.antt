@@ -1,10 +1,6 @@
 use borrow.Author.Rules.{rules}
-use Rattle.fields.proofs.Places.Filling.{filled_start}
 use Rattle.words.proofs.Steps.Loops.{root_next, roots_end}
 use Rattle.words.proofs.reed_solomon.root_values.Goals as goal
-
-pub loop-j-init : goal.loop-j-init
-loop-j-init c = search (rules, filled_start)
 
 pub loop-j-preserved : goal.loop-j-preserved
 loop-j-preserved c = search (rules, root_next)

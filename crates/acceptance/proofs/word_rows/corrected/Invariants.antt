@@ -1,8 +1,0 @@
-use Rattle.std.proofs.Common.{◌-◌, ◌≤◌}
-use Rattle.acceptance.proofs.word_rows.corrected.Given as goal
-
-abbrev pub invariant-loop-count : goal.invariant-loop-count
-invariant-loop-count g l = l.count ≤ 10
-
-abbrev pub decreases-loop-count : goal.decreases-loop-count
-decreases-loop-count g l = 10 - l.count

@@ -1,9 +1,0 @@
-use mathlib.Core.Path.{refl}
-use Rattle.fields.specs.Elements.{xor, scale, doubled}
-use Rattle.fields.proofs.Instances.{field_c}
-use Rattle.fields.proofs.TableTests.{exponents_are}
-use Rattle.fields.proofs.log_c.Goals as goal
-
-pub returns : goal.returns
-unfolding doubled scale xor
-returns c = exponents_are _ _ field_c _ refl refl tt

@@ -1,7 +1,0 @@
-use Rattle.fields.specs.Elements.{xor}
-use borrow.Author.Rules.{rules}
-use Rattle.g709.proofs.columns.plus.Goals as goal
-
-pub returns : goal.returns
-unfolding xor
-returns c = search rules

@@ -24,11 +24,15 @@ pub fn symbol(word: &[u16], i: usize) -> u16
     word.get(i).copied().unwrap_or(0)
 }
 
-// Writes the word, if the buffer is as long.
+// Writes the word, if the buffer is as long. A loop: `copy_from_slice` of one slice to another calls memmove, and the archives need nothing of the C library but memcpy
+// and memset.
 pub fn copy<T: Copy>(word: &[T], out: &mut [T])
     ensures { out.new ≡ copied word.now out.old }
 {
-    if out.len() == word.len() {
-        out.copy_from_slice(word);
+    if out.len() != word.len() {
+        return;
+    }
+    for i in 0..word.len() {
+        out[i] = word[i];
     }
 }

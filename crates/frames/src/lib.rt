@@ -144,7 +144,9 @@ fn refused(refusal: Refusal) -> Report
 }
 
 // The outer pass over a block after the inner pass: the block becomes the frame of the restored outer words, unless some outer word has none. A block that is a
-// frame already is that frame; `inner` is true only if its inner words are code words.
+// frame already is that frame; `inner` is true only if its inner words are code words. Not inlined: its arrays are then not
+// on the stack together with those of the inner pass.
+#[inline(never)]
 fn outer_pass(frame: &mut [u8; Frame::BYTES], inner: bool) -> Option<()>
     requires { inner ≡ true → inner_codes (bit_at frame.old) ≡ true }
     ensures { provided (is_some result) frame.new ≡ outer_frame (bit_at frame.old) }

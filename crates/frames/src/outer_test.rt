@@ -42,7 +42,7 @@ fn first_symbols(table: &DigitTable, block: &[u8; Frame::BYTES], w: usize, n: us
     requires { (w < 16) × (n < 6) }
     ensures { Packs result.high result.middle result.low (divided_to (bit_at block.now) w n) }
 {
-    packed::six_parity(table, data_symbols(block, w, 0, n))
+    packed::six_parity(&table.entries, data_symbols(block, w, 0, n))
 }
 
 // The register after six data symbols more, from symbol i on.
@@ -51,7 +51,7 @@ fn six_more(table: &DigitTable, block: &[u8; Frame::BYTES], w: usize, i: usize, 
     requires packs { Packs p.high p.middle p.low (divided_to (bit_at block.now) w i) }
     ensures { Packs result.high result.middle result.low (divided_to (bit_at block.now) w (i + 6)) }
 {
-    p.next(table, data_symbols(block, w, i, packed::SYMBOLS))
+    p.next(&table.entries, data_symbols(block, w, i, packed::SYMBOLS))
 }
 
 // The parity of the data symbols of outer word w: the register after all of them.

@@ -1,6 +1,6 @@
 -- The syndromes of sixteen words side by side, by Horner's rule a column at a step. Assumes nothing.
 use mathlib.Core.Path.{◌≡◌, refl, sym, ap, ap₂, ◌∙◌}
-use mathlib.Core.Bool.{true}
+use mathlib.Core.Bool.{Bool, true}
 use mathlib.Core.List.{List, [], ◌∷◌}
 use Prim.Native.Nat.{ℕ, zero, suc, ◌+◌, ◌*◌, ◌≤◌, ◌<◌}
 use native.Mathlib.Decide.{dec_lt}
@@ -18,6 +18,7 @@ use Rattle.fields.proofs.Places.Tests.{every_at}
 use Rattle.decoding.specs.Steps.ByTables.{root_value, root_values}
 use Rattle.words.proofs.Codes.Horner.{horner_same}
 use Rattle.words.proofs.Codes.ReedSolomon.{root_is}
+use Rattle.g709.specs.Steps.Registers.{agree}
 use Rattle.g709.specs.Steps.Restoring.{lane_of}
 use Rattle.g709.specs.Steps.ColumnSyndromes.{value_stored, values_stored, SyndromesTo}
 use Rattle.g709.proofs.Overlays.{over_length, over_in, over_front, over_behind, OverTo, over_next, over_end}
@@ -107,7 +108,18 @@ syndromes_next rest s o i S long e = record { made = made' }
 pub syndromes_end : (rest s : List ℕ) (i : ℕ) → SyndromesTo rest i s → i ≤ 16 → 16 ≤ i → SyndromesTo rest 16 s
 syndromes_end rest s i S l h = let e : i ≡ 16 = omega arith in rw e at S
 
--- columns of zeros
+-- columns of zeros: those that agree with zeros, and equal ones
+agreed : (a b : List ℕ) (from n : ℕ) → agree a b from n ≡ true → (i : ℕ) → i < n → at a i ≡ at b (from + i)
+unfolding agree
+agreed a b from n h i l = eqb-true (at a i) (at b (from + i)) (every_at n (λ i. eqb (at a i) (at b (from + i))) h i l)
+
+pub agreeing_none : (rest s : List ℕ) (b : Bool) → s ≡ tabulate 272 (λ i. 0) → b ≡ agree rest s 0 272 → b ≡ true → SyndromesTo rest 16 s
+agreeing_none rest s b e test z =
+    record { made = λ j k hj hk. zeros_at s e (16 * j + k) (omega arith) ∙ sym (none j (λ t. at rest (16 * t + k)) 16 (λ t h. zero' (16 * t + k) (omega arith))) }
+  where
+    zero' : (m : ℕ) → m < 272 → at rest m ≡ 0
+    zero' m h = agreed rest s 0 272 (sym test ∙ z) m h ∙ zeros_at s e (0 + m) (omega arith)
+
 pub syndromes_none : (rest s : List ℕ) → s ≡ tabulate 272 (λ i. 0) → rest ≡ s → SyndromesTo rest 16 s
 syndromes_none rest s e same =
     record { made = λ j k hj hk. zeros_at s e (16 * j + k) (omega arith) ∙ sym (none j (λ t. at rest (16 * t + k)) 16 (λ t h. ap (λ (l : List ℕ). at l (16 * t + k)) same ∙ zeros_at s e (16 * t + k) (omega arith))) }

@@ -94,13 +94,13 @@ row_stored p o R x y k long room er ex ey ek =
         let f : 3824 + (i - 3824) ≡ i = omega arith in
         ap (at (x ++ drop 3824 o)) e ∙ get_or-append-add x (drop 3824 o) (i - 3824) 0 ∙ get_or-drop 3824 o (i - 3824) 0 ∙ ap (at o) f)
 
--- the parity among the registers, and its room in the row
-pub parity_long : (d : ℕ → ℕ) (R : List ℕ) → R ≡ registers d 239 → 256 ≡ length (take 256 R)
-parity_long d R e = let l : length R ≡ 272 = ap length e ∙ registers_length d 239 in sym (length-take-le 256 R (omega arith))
+-- the parity among the registers, as any front of them, and its room in the row
+pub parity_long : (n : ℕ) (d : ℕ → ℕ) (R : List ℕ) → n ≤ 272 → R ≡ registers d 239 → n ≡ length (take n R)
+parity_long n d R h e = let l : length R ≡ 272 = ap length e ∙ registers_length d 239 in sym (length-take-le n R (omega arith))
 
 pub parity_room : (d : ℕ → ℕ) (R x o : List ℕ) → R ≡ registers d 239 → length x ≡ length (take 3824 o) → length o ≡ 4080 → length (take 256 (drop 3824 (x ++ drop 3824 o))) ≡ length (take 256 R)
 parity_room d R x o e long room =
-    part_length 256 3824 (x ++ drop 3824 o) (omega (arith, length-append x (drop 3824 o), long, length-take-le 3824 o (omega arith), length-drop 3824 o)) ∙ parity_long d R e
+    part_length 256 3824 (x ++ drop 3824 o) (omega (arith, length-append x (drop 3824 o), long, length-take-le 3824 o (omega arith), length-drop 3824 o)) ∙ parity_long 256 d R (omega arith) e
 
 written_length : (p o : List ℕ) (r : ℕ) → length (row_written p r o) ≡ length o
 unfolding row_written
@@ -240,6 +240,10 @@ part_agrees b part r k t n e et =
     ∙ every_same 256 _ (λ i. eqb (at (registers (λ i. at part (0 + i)) 239) i) (at b (4080 * r + 3824 + i)))
     (λ i l. ap (eqb (at (registers (λ i. at part (0 + i)) 239) i)) (same (3824 + i) (omega arith) ∙ ap (at b) (omega arith)))
     ∙ ap (λ (a : List ℕ). every 256 (λ i. eqb (at a i) (at b (4080 * r + 3824 + i)))) s
+
+pub row_agrees_lem : (b r : List ℕ) (k : ℕ) (t : Bool) → r ≡ row_divided b (4080 * k) 239 → t ≡ agree r b (4080 * k + 3824) 256 → t ≡ row_agrees b k
+unfolding row_agrees
+row_agrees_lem b r k t e h = h ∙ ap (λ (r : List ℕ). agree r b (4080 * k + 3824) 256) e
 
 -- a block is written just where all rows agree
 payload_place_lem : (r j : ℕ) → j < 3824 → 4080 * ((3824 * r + j) / 3824) + (3824 * r + j) % 3824 ≡ 4080 * r + j

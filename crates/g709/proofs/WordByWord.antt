@@ -1,6 +1,6 @@
 -- A block is restored word by word in its copy. Assumes nothing.
 use mathlib.Core.Path.{◌≡◌, refl, sym, ap, ap₂, ◌∙◌}
-use mathlib.Core.Bool.{Bool, true, false, cond}
+use mathlib.Core.Bool.{Bool, true, false, not, cond}
 use mathlib.Core.List.{List, []}
 use mathlib.Core.Logic.{◌⊎◌, inl, inr}
 use mathlib.Core.Option.{Option, none, some}
@@ -8,7 +8,7 @@ use Prim.Native.Nat.{ℕ, suc, ◌+◌, ◌*◌, ◌/◌, ◌%◌, ◌≤◌, �
 use native.Mathlib.Decide.{ℕ_discrete}
 use native.Mathlib.Nat.{zero-add}
 use native.Mathlib.Omega.{arith}
-use borrow.Author.Tests.{eq-eqb, ne_eqb}
+use borrow.Author.Tests.{eq-eqb, ne_eqb, not-true}
 use lib.Dec.{eqb, lit<}
 use lib.ListN.{length, take, drop, get_or}
 use lib.Seq.{ext_get_or}
@@ -33,12 +33,12 @@ use Rattle.words.proofs.Codes.Options.{every_some, every_missing}
 use Rattle.words.proofs.Codes.ReedSolomon.{root_is, is_code_lem}
 use Rattle.g709.specs.Rows.{is_byte_word, block_of_words, received_bytes, bytes_restored, restored_block}
 use Rattle.g709.specs.Answers.{block_corrected, without_changes}
-use Rattle.g709.specs.Steps.Registers.{row_remainders}
+use Rattle.g709.specs.Steps.Registers.{over, row_remainders}
 use Rattle.g709.specs.Steps.ColumnSyndromes.{SyndromesTo, RowSyndromes}
 use Rattle.g709.specs.Steps.Restoring.{word_of, byte_place, lane_of, word_stored, word_corrected, answer_of, count_found, WordErrors, alone, Remains, WordDone, RestoredTo, Restoring}
 use Rattle.g709.proofs.ByteCode.{byte_nearest}
 use Rattle.g709.proofs.Rows.{received_length, place_back, block_length, block_at, words_in_lem, apart_words}
-use Rattle.g709.proofs.Overlays.{part_at}
+use Rattle.g709.proofs.Overlays.{over_length, over_in, part_at}
 use Rattle.g709.proofs.Folds.{part_remainders}
 use Rattle.g709.proofs.Remainders.{word_remainder, lane_below}
 use Rattle.g709.proofs.ColumnSyndromes.{lane_syndromes}
@@ -72,6 +72,11 @@ module _ (o : List ℕ) (w : ℕ) where
       go : (i : ℕ) → Dec (word_of i ≡ w) → at o i ≡ cond (eqb (word_of i) w) (at (tabulate 255 (λ s. at o (4080 * (w / 16) + 16 * s + w % 16))) (byte_place i)) (at o i)
       go i (yes e) = rw (eq-eqb (word_of i) w e) (ap (at o) (there i e) ∙ sym (tabulate_at 255 _ (byte_place i) 0 (place_lt i)))
       go i (no n) = rw (ne_eqb (word_of i) w n)
+
+  pub word_skipped : (reached : Bool) (changed : ℕ) → not reached ≡ true → WordDone o w reached changed o false 0
+  word_skipped reached changed n =
+      let f : reached ≡ false = not-true reached n in
+      record { long = refl; found = λ t. absurd (one_not_other t refl); lost = λ e. inl f }
 
   module _ (lane : List ℕ) (R : Remains true lane (received_bytes o w)) where
     -- syndromes of zeros: the word is a code word
@@ -289,11 +294,45 @@ restoring_start b o e =
       lost = λ f. absurd (one_not_other refl f);
     }
 
+-- the same where the copy goes on behind the block
+pub restoring_start_in_front : (b held o : List ℕ) (n : ℕ) → length b ≡ 4080 * n → n ≤ 4 → length held ≡ 16320 → o ≡ over held 0 (4080 * n) (λ i. at b (0 + i)) → Restoring b 0 o true 0
+restoring_start_in_front b held o n long most room e =
+    record {
+      room = omega (arith, ap length e ∙ over_length held 0 (4080 * n) (λ i. at b (0 + i)));
+      few = omega arith;
+      so_far = λ t. record {
+        words = λ v. [];
+        restored = λ v l. absurd (omega arith);
+        done = λ i l h. absurd (omega arith);
+        rest = λ i l h. same i (omega arith);
+        count = none_counted (λ v. apart (received_bytes b v) []);
+      };
+      lost = λ f. absurd (one_not_other refl f);
+    }
+  where
+    zero_plus : (i : ℕ) → 0 + i ≡ i
+    zero_plus i = omega arith
+
+    same : (i : ℕ) → i < 4080 * n → at o i ≡ at b i
+    same i l =
+        ap (λ (o : List ℕ). at o i) e ∙ ap (at (over held 0 (4080 * n) (λ i. at b (0 + i)))) (sym (zero_plus i))
+        ∙ over_in held 0 (4080 * n) (λ i. at b (0 + i)) i l (omega arith) ∙ ap (at b) (zero_plus i)
+
 -- the steps of a row
 at_word : (b o : List ℕ) (w v : ℕ) (reached : Bool) (changed : ℕ) → w ≡ v → Restoring b w o reached changed → Restoring b v o reached changed
 at_word b o w v reached changed e S = rw e at S
 
 module _ (b o : List ℕ) (r : ℕ) (reached : Bool) (changed : ℕ) where
+  -- a word before the row had none
+  pub row_skipped : not reached ≡ true → Restoring b (16 * r) o reached changed → Restoring b (16 * r + 16) o reached changed
+  row_skipped n S =
+      record {
+        room = S.room;
+        few = omega (arith, S.few);
+        so_far = λ t. absurd (one_not_other t (not-true reached n));
+        lost = λ f. let l = S.lost f in (l.0, omega (arith, l.1), l.2);
+      }
+
   pub row_step : (k : ℕ) (next : List ℕ) (still : Bool) (sum : ℕ) → k < 16 → 4080 * r + 4080 ≤ length b → Restoring b (16 * r + k) o reached changed →
       WordDone o (16 * r + k) reached changed next still sum → sum ≤ changed + 8 → Restoring b (16 * r + (k + 1)) next still sum
   row_step k next still sum hk room S D most =
@@ -365,6 +404,22 @@ module _ (n : ℕ) (b : List ℕ) (long : length b ≡ 4080 * n) (o : List ℕ) 
   restored_answer buffer room full refusal =
       rw (eq-eqb (length b) (4080 * n) long, eq-eqb (length buffer) (4080 * n) room, all_there, ← count_is, ← is_block_lem o full (λ i l. refl))
 
+  -- where the answer is the front of the copy
+  front_answered : (buffer out : List ℕ) → length buffer ≡ 4080 * n → out ≡ over buffer 0 (4080 * n) (λ i. at o (0 + i)) → (refusal : ℕ) →
+      ◌≡◌ {A = Correction × List ℕ} (Corrected changed, out) (block_corrected n refusal b buffer)
+  unfolding block_corrected corrected restored_block found
+  front_answered buffer out room e refusal =
+      rw (
+        eq-eqb (length b) (4080 * n) long,
+        eq-eqb (length buffer) (4080 * n) room,
+        all_there,
+        ← count_is,
+        is_block_lem out (ap length e ∙ over_length buffer 0 (4080 * n) (λ i. at o (0 + i)) ∙ room) (λ i l.
+            let z : 0 + i ≡ i = omega arith in
+            ap (λ (o : List ℕ). at o i) e ∙ ap (at (over buffer 0 (4080 * n) (λ i. at o (0 + i)))) (sym z)
+            ∙ over_in buffer 0 (4080 * n) (λ i. at o (0 + i)) i l (omega arith) ∙ ap (at o) z),
+      )
+
 lost_answer : (n : ℕ) (b o : List ℕ) (changed : ℕ) → length b ≡ 4080 * n → Restoring b (16 * n) o false changed → (buffer : List ℕ) → length buffer ≡ 4080 * n → (refusal : ℕ) →
     ◌≡◌ {A = Correction × List ℕ} (Refused 5, buffer) (block_corrected n refusal b buffer)
 unfolding block_corrected corrected restored_block found
@@ -390,6 +445,13 @@ module _ (n refusal : ℕ) (b buffer held : List ℕ) (c : Answer ℕ) (long : l
 
   pub answer_lost : c ≡ None → ◌≡◌ {A = Correction × List ℕ} (Refused 5, buffer) (block_corrected n refusal b buffer)
   answer_lost f = let S' : Restoring b (16 * n) held false 0 = rw f at S in lost_answer n b held 0 long S' buffer room refusal
+
+-- the same where the answer is the front of the copy
+module _ (n refusal : ℕ) (b buffer held : List ℕ) (reached : Bool) (changed : ℕ) (long : length b ≡ 4080 * n) (room : length buffer ≡ 4080 * n)
+    (S : Restoring b (16 * n) held reached changed) where
+  pub front_restored : reached ≡ true → (out : List ℕ) → out ≡ over buffer 0 (4080 * n) (λ i. at held (0 + i)) →
+      ◌≡◌ {A = Correction × List ℕ} (Corrected changed, out) (block_corrected n refusal b buffer)
+  front_restored t out e = front_answered n b long held changed (rw t at S) buffer out room e refusal
 
 -- ---- for the C host
 

@@ -99,22 +99,21 @@ fn taps(q: &[u8; SPACE], i: usize) -> u8
     sum
 }
 
-// The columns that are left: 65 of the payload and sixteen of zeros, with the quotient's multiple added.
-fn fold(payload: &[u8; DATA]) -> [u8; LEFT]
-    ensures { (q : List ℕ) × QuotientTo (at payload.now) 2784 q × Folded (at payload.now) q result }
+// Writes the columns that are left: 65 of the payload and sixteen of zeros, with the quotient's multiple added. Into the caller's array: as an answer they would stand on
+// the stack twice.
+fn fold(payload: &[u8; DATA], columns: &mut [u8; LEFT])
+    ensures { (q : List ℕ) × QuotientTo (at payload.now) 2784 q × Folded (at payload.now) q columns.new }
 {
     let mut q = [0; SPACE];
     for i in 0..QUOTIENT {
         q[LEFT + i] = payload[i] ^ taps(&q, i);
     }
-    let mut columns = [0; LEFT];
     for i in 0..LEFT - PARITY {
         columns[i] = payload[QUOTIENT + i] ^ taps(&q, QUOTIENT + i);
     }
     for i in LEFT - PARITY..LEFT {
         columns[i] = taps(&q, QUOTIENT + i);
     }
-    columns
 }
 
 // Adds sixteen columns to the registers.
@@ -131,7 +130,8 @@ fn add(r: &mut [u8; CELLS], columns: &[u8])
 pub(crate) fn divide(payload: &[u8; DATA]) -> [u8; CELLS]
     ensures { result ≡ registers (at payload.now) 239 }
 {
-    let columns = fold(payload);
+    let mut columns = [0; LEFT];
+    fold(payload, &mut columns);
     let mut r = steps(&columns);
     add(&mut r, &columns[LEFT - PARITY..]);
     r

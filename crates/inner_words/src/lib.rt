@@ -86,7 +86,8 @@ pub fn blank() -> [u8; Interleaved::BYTES]
 }
 
 // The inner pass over a copy of the received block: each inner word becomes the code word within eight places; where there is none it is left as received.
-// The answer is the words that are left: bit k, the highest first, is 1 where word k is no code word and was left as received.
+// The answer is the words that are left: bit k, the highest first, is 1 where word k is no code word and was left as received. Not inlined: its arrays leave the stack with it.
+#[inline(never)]
 pub fn correct(block: &mut [u8]) -> u64
     requires { length block.old ≡ 16320 }
     ensures { InnerPassed block.old block.new result }

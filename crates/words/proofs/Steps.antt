@@ -6,6 +6,7 @@ pub mod Shifting
 pub mod Products
 pub mod FourPlaces
 pub mod Inner
+pub mod Refusals
 pub mod Entries
 pub mod Corrections
 pub mod InnerCorrection

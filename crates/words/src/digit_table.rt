@@ -203,7 +203,7 @@ const UNITS: [u64; TABLE_DIGITS * DIGIT_BITS] = [
 ];
 
 // The table, made once and lent from word to word: each entry is the parity that it stands for.
-#[derive(Drop)]
+#[derive(Clone, Copy)]
 pub struct DigitTable {
     pub entries: [u64; ENTRIES],
     pub ghost made: { entries ≡ digit_parities },

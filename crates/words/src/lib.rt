@@ -125,7 +125,7 @@ pub fn check_outer(word: &[u16]) -> Result<(), Refusal>
 {
     reed_solomon::tested(word, Outer::SHORTEST, Outer::LONGEST, true)?;
     let table = digit_table::table();
-    let rest = packed::remainder(&table, word);
+    let rest = packed::remainder(&table.entries, word);
     let values = packed::root_values(rest);
     if !symbols::all_below(&values, 1) {
         return Err(Refusal::NoCodeWord);
@@ -152,7 +152,7 @@ pub fn correct_outer(word: &[u16], out: &mut [u16]) -> Result<u16, Refusal>
     let fits = out.len() == word.len();
     reed_solomon::tested(word, Outer::SHORTEST, Outer::LONGEST, fits)?;
     let table = digit_table::table();
-    let rest = packed::remainder(&table, word);
+    let rest = packed::remainder(&table.entries, word);
     corrector::correct_from(rest, word, out)
 }
 

@@ -8,9 +8,9 @@ ghost use Rattle.fields.specs.Places.{at, all_below};
 ghost use Rattle.decoding.specs.Steps.ByTables.{root_values};
 ghost use Rattle.words.specs.OuterCode.{outer_parity};
 ghost use Rattle.words.specs.Steps.Division.{outer_remainder};
-ghost use Rattle.words.specs.Steps.SixSymbols.{joined_from, symbol_of, six, Packs, unpacked, six_parity};
+ghost use Rattle.words.specs.Steps.SixSymbols.{joined_from, symbol_of, six, Packs, unpacked, six_parity, digit_parities};
 
-use crate::digit_table::{DIGIT_BITS, DIGIT_VALUES, DIGITS, DigitTable, PART, plus};
+use crate::digit_table::{DIGIT_BITS, DIGIT_VALUES, DIGITS, PART, plus};
 use crate::{Outer, reed_solomon};
 
 // So many symbols are taken at a step.
@@ -59,14 +59,14 @@ impl Packed {
     }
 
     // The entries for digit n of the table added.
-    fn with_digit(self, table: &DigitTable, n: usize) -> Self
-        requires { n < 640 }
-        ensures { (result.high ≡ xor self.high (at table.now.entries n)) × (result.middle ≡ xor self.middle (at table.now.entries (n + 640))) × (result.low ≡ xor self.low (at table.now.entries (n + 1280))) }
+    fn with_digit(self, table: &[u64], n: usize) -> Self
+        requires { (length table.now ≡ 1920) × (n < 640) }
+        ensures { (result.high ≡ xor self.high (at table.now n)) × (result.middle ≡ xor self.middle (at table.now (n + 640))) × (result.low ≡ xor self.low (at table.now (n + 1280))) }
     {
         Packed {
-            high: plus(self.high, table.entries[n]),
-            middle: plus(self.middle, table.entries[n + PART]),
-            low: plus(self.low, table.entries[n + 2 * PART]),
+            high: plus(self.high, table[n]),
+            middle: plus(self.middle, table[n + PART]),
+            low: plus(self.low, table[n + 2 * PART]),
         }
     }
 
@@ -78,8 +78,8 @@ impl Packed {
     }
 
     // The register after six symbols more.
-    pub fn next(self, table: &DigitTable, x: u64) -> Self
-        requires { (self.high < 2 ^ 60) × (x < 2 ^ 60) }
+    pub fn next(self, table: &[u64], x: u64) -> Self
+        requires { (table.now ≡ digit_parities) × (self.high < 2 ^ 60) × (x < 2 ^ 60) }
         ensures { (result.high ≡ xor self.middle (six (six_parity (xor self.high x)) 0)) × (result.middle ≡ xor self.low (six (six_parity (xor self.high x)) 6)) × (result.low ≡ six (six_parity (xor self.high x)) 12) }
     {
         let p = six_parity(table, plus(self.high, x));
@@ -100,8 +100,8 @@ fn digit(x: u64, d: usize) -> usize
 }
 
 // The parity of six symbols, as they stand in x.
-pub fn six_parity(table: &DigitTable, x: u64) -> Packed
-    requires { x < 2 ^ 60 }
+pub fn six_parity(table: &[u64], x: u64) -> Packed
+    requires { (table.now ≡ digit_parities) × (x < 2 ^ 60) }
     ensures { Packs result.high result.middle result.low (six_parity x) }
 {
     let mut p = Packed::empty();
@@ -113,8 +113,8 @@ pub fn six_parity(table: &DigitTable, x: u64) -> Packed
 
 // The register after all symbols of data: the parity symbols. The first symbols, so many that sixes remain, stand in a number with zeros before them: zeros
 // leave the register empty.
-fn divide(table: &DigitTable, data: &[u16]) -> Packed
-    requires { all_below 1024 «data».now ≡ true }
+fn divide(table: &[u64], data: &[u16]) -> Packed
+    requires { (table.now ≡ digit_parities) × (all_below 1024 «data».now ≡ true) }
     ensures { Packs result.high result.middle result.low (outer_parity «data».now) }
 {
     let first = data.len() % SYMBOLS;
@@ -146,16 +146,16 @@ fn unpacked(p: Packed) -> [u16; Outer::PARITY]
 }
 
 // The parity symbols of data.
-pub fn parity(table: &DigitTable, data: &[u16]) -> [u16; Outer::PARITY]
-    requires { all_below 1024 «data».now ≡ true }
+pub fn parity(table: &[u64], data: &[u16]) -> [u16; Outer::PARITY]
+    requires { (table.now ≡ digit_parities) × (all_below 1024 «data».now ≡ true) }
     ensures { result ≡ outer_parity «data».now }
 {
     unpacked(divide(table, data))
 }
 
 // The remainder of a word after division by the generator: the parity of all but the last sixteen symbols, and these, added. It is zero for a code word.
-pub fn remainder(table: &DigitTable, word: &[u16]) -> Packed
-    requires { (16 ≤ length word.now) × (all_below 1024 word.now ≡ true) }
+pub fn remainder(table: &[u64], word: &[u16]) -> Packed
+    requires { (table.now ≡ digit_parities) × (16 ≤ length word.now) × (all_below 1024 word.now ≡ true) }
     ensures { Packs result.high result.middle result.low (outer_remainder word.now) }
 {
     let from = word.len() - Outer::PARITY;

@@ -2,7 +2,7 @@
 use mathlib.Core.Path.{◌≡◌, refl, sym, ap, ◌∙◌}
 use mathlib.Core.List.{List}
 use Prim.Native.Nat.{ℕ, zero, suc, ◌+◌, ◌-◌, ◌*◌, ◌%◌, ◌≤◌, ◌<◌}
-use native.Mathlib.Nat.{mod-add-mod, mod-eq_of_lt, mod-lt, mul-one, mul-suc}
+use native.Mathlib.Nat.{mod-add-mod, mod-eq_of_lt, mod-eq-sub-mod, mod-lt, mul-one, mul-suc}
 use native.Mathlib.Numerals.{add-one}
 use native.Mathlib.Omega.{arith}
 use lib.ListN.{length, get_or, set, replicate}
@@ -15,7 +15,14 @@ use Rattle.decoding.specs.declared.error_values.Errors.{Errors}
 use Rattle.decoding.specs.declared.root_search.Places.{Places}
 use Rattle.decoding.specs.Steps.ErrorValues.{less_powers, flipped, flipped_to}
 
--- a sum modulo n
+-- a sum modulo n: below n it stays, else n is taken away; `wrapped` does either
+module _ (n e d : ℕ) where
+  pub plus_low : e + d < n → e + d ≡ (e + d) % n
+  plus_low h = sym (mod-eq_of_lt h)
+
+  pub plus_high : e < n → d < n → n ≤ e + d → e + d - n ≡ (e + d) % n
+  plus_high he hd h = sym (mod-eq-sub-mod h ∙ mod-eq_of_lt (omega arith))
+
 pub plus_is : (n e d r : ℕ) → e < n → d < n → r ≡ wrapped n (e + d) → r ≡ (e + d) % n
 plus_is n e d r he hd er = er ∙ wrapped_modulo n (e + d) (omega arith)
 

@@ -297,6 +297,10 @@ module _ (es before started tables : List ℕ) (d : ℕ) (exp : es ≡ powers_b)
 
 -- ---- where the terms' values stand
 
+pub reciprocal_lt : (d : ℕ) → at reciprocals d < 2047
+unfolding reciprocals all_below every
+reciprocal_lt d = below_at 2047 reciprocals (lit< tt) refl d
+
 -- 2,048 q + r is 2,047 q + (q + r): modulo 2,047 the two parts of a number add up to it
 module _ (x : ℕ) (small : x < 4194303) where
   pub folded_fits : Fits w64 (x / 2 ^ 11 + bit_and x 2047)
@@ -322,6 +326,10 @@ module _ (c d : ℕ) where
     pub start_zero : c ≡ 0 → 0 ≡ table_start ls c d n
     unfolding table_start
     start_zero z = rw (eq-eqb c 0 z)
+
+    pub start_table : (c ≡ 0 → ⊥) → (l e r p : ℕ) → l ≡ at ls c → e ≡ 2047 - l → r ≡ at reciprocals d → p ≡ e * r → (p + (2047 + 1 - n)) % 2047 ≡ table_start ls c d n
+    unfolding table_start
+    start_table z l e r p el ee er ep = rw (ne_eqb c 0 z, ep, ee, er, el)
 
     pub start_folded : (c ≡ 0 → ⊥) → (l e s : ℕ) → l ≡ at ls c → e ≡ 2047 - l → s ≡ (e * at reciprocals d + (2047 + 1 - n)) % 2047 → s ≡ table_start ls c d n
     unfolding table_start

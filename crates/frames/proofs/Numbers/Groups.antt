@@ -14,7 +14,7 @@ use mir.Val.{Fits}
 use Rattle.std.specs.Int.{from_be_bytes, to_be_bytes}
 use Rattle.fields.specs.Lists.{tabulate}
 use Rattle.fields.specs.Places.{at}
-use Rattle.fields.proofs.Lists.{tabulate_append, tabulate_length, tabulate_same}
+use Rattle.fields.proofs.Lists.{tabulate_append, tabulate_at, tabulate_length, tabulate_same}
 use Rattle.fields.proofs.Places.Filling.{Filled, filled_next, filled_end}
 use Rattle.words.specs.Bits.{bit_of, number_of, bit_at}
 use Rattle.words.proofs.Bits.Numbers.{bit_of_lt, bit_of_number, number_of_same, number_parts}
@@ -169,6 +169,10 @@ four_joined symbols e₀ e₁ e₂ e₃ = rw (e₀, e₁, e₂, e₃) (four_made
 pub parts_length : (n m : ℕ) (b : ℕ → ℕ) (i : ℕ) → length (parts_of n m b i) ≡ m
 unfolding parts_of
 parts_length n m b i = tabulate_length m _
+
+pub parts_at : (n m : ℕ) (b : ℕ → ℕ) (i s : ℕ) → s < m → at (parts_of n m b i) s ≡ number_at n b (i + n * s)
+unfolding parts_of
+parts_at n m b i s l = tabulate_at m _ s 0 l
 
 pub parts_same : (n m : ℕ) (b c : ℕ → ℕ) (i k : ℕ) → ((j : ℕ) → j < n * m → b (i + j) ≡ c (k + j)) → parts_of n m b i ≡ parts_of n m c k
 unfolding parts_of number_at

@@ -14,7 +14,7 @@ use lib.Seq.{get_or-take, get_or-drop, length-take-le}
 use Rattle.fields.specs.Lists.{tabulate}
 use Rattle.fields.specs.Places.{at, all_below}
 use Rattle.fields.specs.Steps.Buffers.{Placed}
-use Rattle.fields.proofs.Lists.{tabulate_at, tabulate_is, tabulate_lt, tabulate_same}
+use Rattle.fields.proofs.Lists.{tabulate_at, tabulate_is, tabulate_length, tabulate_lt, tabulate_same}
 use Rattle.fields.proofs.Places.Tests.{below_all}
 use Rattle.std.proofs.lemmas.List.{take_at}
 use Rattle.words.specs.Bits.{bit_of, bit_at, bytes_of}
@@ -111,12 +111,20 @@ code_tested w u long below x y z p t test = test ∙ outer_zero u (omega arith) 
 
 -- ---- the words of a block, stored
 
+pub word_length : (outer : List ℕ) (w : ℕ) → length (word_in outer w) ≡ data_in w + 16
+unfolding word_in
+word_length outer w = tabulate_length (data_in w + 16) _
+
 module _ (b : ℕ → ℕ) (w : ℕ) {before outer : List ℕ} (p : Placed (781 * w) (part_from (received_symbol b) (781 * w) 781) before outer) where
   pub received_word_lem : word_in outer w ≡ received_word b w
   unfolding word_in received_word
   received_word_lem =
       let f = received_symbol b in
       tabulate_same (data_in w + 16) _ _ (λ s l. p.inside s (omega (arith, part_length f (781 * w) 781, data_in_le w)) ∙ part_at f (781 * w) 781 s (omega (arith, data_in_le w)))
+
+  pub word_before : (v : ℕ) → v < w → word_in outer v ≡ word_in before v
+  unfolding word_in
+  word_before v l = tabulate_same (data_in v + 16) _ _ (λ s h. p.below (781 * v + s) (omega (arith, data_in_le v)))
 
 pub received_below : (bytes : List ℕ) (w : ℕ) → all_below 1024 (received_word (bit_at bytes) w) ≡ true
 unfolding received_word

@@ -12,7 +12,7 @@ use Rattle.fields.specs.Elements.{scale}
 use Rattle.fields.specs.Places.{at, every}
 use Rattle.fields.proofs.Lists.{tabulate_at, tabulate_lt}
 use Rattle.lanes.specs.Steps.Sliced.{or_to}
-use Rattle.words.specs.Bits.{bit_of, bit_at}
+use Rattle.words.specs.Bits.{bit_of, number_of, bit_at}
 use Rattle.words.specs.InnerCode.{inner_remainder, inner_parity}
 use Rattle.words.specs.InnerWords.{inner_data}
 use Rattle.words.proofs.Bits.Numbers.{bit_of_lt, bit_of_zero, bit_of_number}
@@ -58,6 +58,11 @@ pub or_to_lt : (n m : ℕ) (f : ℕ → ℕ) → ((i : ℕ) → i < m → f i < 
 unfolding or_to
 or_to_lt n zero f h = pow_pos n
 or_to_lt n (suc m) f h = or_lt n (or_to m f) (f m) (or_to_lt n m f (λ i l. h i (omega arith))) (h m (le_refl (suc m)))
+
+-- all ones: what a bit is in one place it is in each
+pub all_ones : 2 ^ 64 - 1 ≡ number_of 64 (λ i. 1)
+unfolding number_of
+all_ones = refl
 
 module _ (bytes : List ℕ) where
   pub place_bit : (p k : ℕ) → k < 64 → bit_of 64 (place_at bytes p) k ≡ bit_at bytes (64 * p + k)

@@ -20,7 +20,7 @@ use Rattle.words.specs.OuterCode.{outer_value, is_outer, outer_parity}
 use Rattle.words.specs.InnerCode.{divisor, remainder, is_inner, inner_remainder, inner_parity}
 use Rattle.words.specs.declared.Refusal.{Refusal}
 use Rattle.words.specs.declared.Refusal.TheVariants.{PayloadLength, BlockLength, BufferSize, NoCodeWord, Uncorrectable, WordLength, Symbol, RowLength}
-use Rattle.words.specs.Answers.{number, refusal, within, answered, first_of, outer_checked, outer_encoded, inner_encoded}
+use Rattle.words.specs.Answers.{number, refusal, within, answered, first_of, outer_checked, outer_encoded, inner_checked, inner_encoded}
 use Rattle.words.specs.Steps.Division.{outer_remainder}
 use Rattle.words.specs.Steps.SixSymbols.{Packs, unpacked}
 use Rattle.words.proofs.Bits.Numbers.{number_of_same}
@@ -47,6 +47,11 @@ some_number Uncorrectable e = absurd (omega (arith, e))
 some_number WordLength e = absurd (omega (arith, e))
 some_number Symbol e = absurd (omega (arith, e))
 some_number RowLength e = absurd (omega (arith, e))
+
+-- a number is the answer that a refusal leaves
+pub refused : (n : ℕ) (answer buffer : List ℕ) → (n ≡ 0 → ⊥) → ◌≡◌ {A = ℕ × List ℕ} (n, buffer) (answered n answer buffer)
+unfolding answered
+refused n answer buffer h = rw (ne_eqb n 0 h)
 
 -- ---- outer words
 
@@ -125,6 +130,10 @@ unfolding is_inner
 inner_tested w e =
     let long : length (bits_of w) ≡ 2040 = bits_length w ∙ omega arith in
     rw (long, bits_below w, horner_same (doubled 88 divisor) (at (bits_of w)) (bit_at w) 2040 (λ i l. bits_at w i))
+
+pub inner_refused : (w : List ℕ) → (length w ≡ 255 → ⊥) → 6 ≡ inner_checked w
+unfolding inner_checked first_of refusal
+inner_refused w n = rw (ne_eqb (length w) 255 n)
 
 -- the parity bits of data lent as bytes, in bytes
 parity_bytes_lem : (d : List ℕ) → bytes_of 11 (bit_of 88 (remainder 88 divisor (bit_at d) 2040)) ≡ bytes_of 11 (at (inner_parity (bits_of d)))

@@ -1,5 +1,6 @@
 use Prim.Native.Nat.{ℕ}
 use native.Mathlib.Omega.{arith}
+use borrow.Author.Rules.{rules}
 use lib.ListN.{length-take, length-drop, length-append}
 use Rattle.frames.proofs.Frames.FrameBits.{data_in_is}
 use Rattle.frames.proofs.OuterSymbols.Words.{data_below, word_written}
@@ -11,9 +12,11 @@ write_from_bit-requires c =
     (omega arith, omega (arith, length-take {A = ℕ}), omega arith, omega (arith, length-take {A = ℕ}))
 
 pub parity-parity-requires : goal.parity-parity-requires
-parity-parity-requires c =
-    data_below c.args.payload.now c.args.word.now c.args.w c.data_in-n.result _ c.data_in-n.ensures.0 c.requires.1 c.write_from_bit.ensures
-    (omega (arith, length-take {A = ℕ}))
+parity-parity-requires c = (
+  search rules,
+  data_below c.args.payload.now c.args.word.now c.args.w c.data_in-n.result _ c.data_in-n.ensures.0 c.requires.1 c.write_from_bit.ensures
+      (omega (arith, length-take {A = ℕ})),
+)
 
 pub returns : goal.returns
 returns c =

@@ -1,13 +1,14 @@
 use mathlib.Core.Path.{ap, ◌∙◌}
 use mathlib.Core.List.{List}
 use Prim.Native.Nat.{ℕ}
+use native.Mathlib.Omega.{arith}
 use Rattle.std.proofs.lemmas.List.{get_or-take}
 use Rattle.fields.specs.Places.{at}
 use Rattle.g709.proofs.RowSteps.{compared, parity_long}
 use Rattle.g709.proofs.block.row_agrees.Goals as goal
 
 pub slice_bounds-eq-end : goal.slice_bounds-eq-end
-slice_bounds-eq-end c = parity_long _ _ c.divide-registers.ensures
+slice_bounds-eq-end c = parity_long _ _ _ (omega arith) c.divide-registers.ensures
 
 pub returns : goal.returns
 returns c =

@@ -5,7 +5,7 @@ use Rattle.g709.proofs.RowSteps.{parity_long, parity_room, row_stored}
 use Rattle.g709.proofs.block.write_row.Goals as goal
 
 pub slice_bounds-parity-end : goal.slice_bounds-parity-end
-slice_bounds-parity-end c = parity_long _ _ c.divide-registers.ensures
+slice_bounds-parity-end c = parity_long _ _ _ (omega arith) c.divide-registers.ensures
 
 pub slice_bounds-copy-end-3 : goal.slice_bounds-copy-end-3
 slice_bounds-copy-end-3 c = sym (length-take-le 3824 c.args.row.now (omega (arith, c.requires)))

@@ -1,4 +1,4 @@
-use Rattle.words.proofs.Steps.Joining.{parity_none, parity_next}
+use Rattle.words.proofs.Steps.Joining.{parities_long, parity_none, parity_next}
 use borrow.Author.Rules.{rules}
 use Rattle.words.proofs.packed.six_parity.Goals as goal
 
@@ -7,3 +7,6 @@ loop-d-init c = search (rules, parity_none)
 
 pub loop-d-preserved : goal.loop-d-preserved
 loop-d-preserved c = search (rules, parity_next)
+
+pub with_digit-p-requires : goal.with_digit-p-requires
+with_digit-p-requires c = search (rules, parities_long)
